@@ -119,14 +119,14 @@ def read_body(file, version, shape, count, alone):
 
 
 def answers(text, file, each):
-    """The line for each certificate of a file, as they come."""
+    """The line for each certificate of a file, as they come. The rows are those of the first one's shape."""
     known, members = None, []
     while head := read_head(file, each):
         version, shape, scale, count = head
         soft, word, split = read_body(file, version, shape, count, not each)
-        if shape != known:
+        if known is None:
             known, members = shape, members_of(rows_of(text, *shape), *shape)
-        shares = shares_of(members, word, version, split)
+        shares = shares_of(members, word, version, split) if shape == known else None
         yield "no shape" if shares is None else checked(members, scale, soft, word, shares)
         if not each:
             return

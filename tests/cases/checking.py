@@ -1,5 +1,5 @@
 """`check`."""
-from cases.common import HEAD, NO, STORED_CERTIFICATE, STORED_MOVED, WRONG_CERTIFICATE, WRONG_MOVED, Case, fault
+from cases.common import FAULT, HEAD, NO, STORED_CERTIFICATE, STORED_MOVED, WRONG_CERTIFICATE, WRONG_MOVED, Case, fault
 
 
 def with_byte(at, byte):
@@ -114,7 +114,52 @@ def answered(certificate, said):
     return checked(certificate, NO if said.startswith("no") else 0, said)
 
 
+# Certificates one after another: all are accepted, or the second one is not.
+ACCEPTED, THREE = STORED_MOVED + WRONG_CERTIFICATE + WRONG_MOVED, "sole cost -45\nyes cost 0\nyes cost 0\n"
+ODD = WRONG_MOVED[:53] + b"\x80" + WRONG_MOVED[54:]
+# Files of several certificates, the exit, the lines, and the text of the fault after them.
+SEVERAL = [
+    (b"", 0, "", ""),
+    (STORED_MOVED, 0, "sole cost -45\n", ""),
+    (ODD, NO, "no check 0\n", ""),
+    (ACCEPTED, 0, THREE, ""),
+    # the exit is that of all lines, wherever one says no
+    (ODD + ACCEPTED, NO, "no check 0\n" + THREE, ""),
+    (ACCEPTED + ODD, NO, THREE + "no check 0\n", ""),
+    (STORED_MOVED + ODD + WRONG_MOVED, NO, "sole cost -45\nno check 0\nyes cost 0\n", ""),
+    (ACCEPTED + b"S2M", FAULT, THREE, "cut"),
+    (ACCEPTED[:-1], FAULT, "sole cost -45\nyes cost 0\n", "cut"),
+    (ODD + WRONG_MOVED[:5], FAULT, "no check 0\n", "cut"),
+    (ACCEPTED + b"\n", FAULT, THREE, "magic"),
+    (ACCEPTED + bytes(1), FAULT, THREE, "magic"),
+    (ACCEPTED + WRONG_MOVED[:11] + bytes(2) + WRONG_MOVED[13:], FAULT, THREE, "range"),
+    (ACCEPTED + WRONG_MOVED[:5] + bytes(8), FAULT, THREE, "shape"),
+    # no code has so many bits, and no certificate so many shares: no more than the header is read
+    (ACCEPTED + WRONG_MOVED[:5] + 8 * b"\xff" + STORED_MOVED, FAULT, THREE, "shape"),
+    (ACCEPTED + HEAD[:13] + 4 * b"\xff" + STORED_MOVED, FAULT, THREE, "range"),
+    # the rows are those of the first certificate's shape
+    (STORED_MOVED + pair(1, 7) + WRONG_MOVED, NO, "sole cost -45\nno shape\nyes cost 0\n", ""),
+]
+
+
+def each_checked(certificates, code, lines, text):
+    errors = f"s2: certificate: {text}\n" if text else ""
+    return Case("check --each toy out", code, lines, errors, reads={"out": certificates})
+
+
 CASES = [
+    *(each_checked(*several) for several in SEVERAL),
+    *(each_checked(ACCEPTED[:size], FAULT, "sole cost -45\n" if size > 128 else "", "cut") for size in range(1, 376, 5) if size != 128),
+    *(Case("check --each toy out", code, line, reads={"out": certificate}) for certificate, code, line in ANSWERS),
+    Case("check --each pair out", 0, "sole cost -2\nyes cost -2\n", reads={"out": pair(1, 7) + pair(1, 6)}),
+    Case("check --each toy -", 0, THREE, given=ACCEPTED),
+    fault("check --each pair out", "rows: too many rows", reads={"pair": b"0\n1\n", "out": pair(1, 7) + pair(1, 6)}),
+    # without a certificate the rows are not parsed; they are read first
+    Case("check --each letter out", reads={"letter": b"x", "out": b""}),
+    fault("check --each /dev/zero out", "file too long", reads={"out": ACCEPTED}),
+    fault("check --each . out", "cannot read", reads={"out": ACCEPTED}),
+    fault("check --each toy .", "cannot read"),
+    fault("check --each toy out", "cannot write", reads={"out": ACCEPTED}, to="/dev/full"),
     *(checked(*answer) for answer in ANSWERS),
     *(checked(pair(place, amount), code, line, "pair") for place, amount, code, line in PAIRS),
     *(refused(pair(1, amount), "range", "pair") for amount in (0, 1 << 31)),

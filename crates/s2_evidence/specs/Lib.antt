@@ -4,3 +4,6 @@ pub mod Lines
 pub mod Judging
 pub mod Certifying
 pub mod Checking
+pub mod Pieces
+pub mod Each
+pub mod CheckingEach

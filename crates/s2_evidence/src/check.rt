@@ -36,7 +36,7 @@ fn examined(matrix: &Matrix, view: &CertView<'_>) -> Printed
 }
 
 /// Checks a certificate.
-fn answered(matrix: &Matrix, certificate: &Certificate) -> Printed
+pub(crate) fn answered(matrix: &Matrix, certificate: &Certificate) -> Printed
     ensures { IsAnswered (matrix.now, certificate.now) result.exit result.text }
 {
     match certificate.view(matrix) {
@@ -49,7 +49,7 @@ fn answered(matrix: &Matrix, certificate: &Certificate) -> Printed
 }
 
 /// The certificate of a file in memory.
-fn certificate_of(alloc: Global, bytes: &[u8]) -> Result<Certificate, Fault<'static>>
+pub(crate) fn certificate_of(alloc: Global, bytes: &[u8]) -> Result<Certificate, Fault<'static>>
     ensures says { Follows (λ c. c) result (certificate_said (file_of_bytes bytes.now)) }
     ensures read { result ≢ Err Fault.Read }
     ensures write { result ≢ Err Fault.Write }

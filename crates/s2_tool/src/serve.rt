@@ -12,7 +12,7 @@ use crate::rows::rows_command;
 use clap::Error;
 use clap::error::ErrorKind;
 use s2_console::{Console, Exit, Fault};
-use s2_evidence::{check_command, judge_command, self_command};
+use s2_evidence::{check_command, check_each_command, judge_command, self_command};
 use s2_files::Disk;
 use s2_join::join_command;
 use s2_mode::{CountedWrite, Counting, FaultText, Mode, Shape};
@@ -208,6 +208,9 @@ fn serve_check<'a, R: Disk + AllocGlobal, O: CountedWrite, E: CountedWrite>(
     ensures { OnErr result (CanCount console.new.errors_failed) }
 {
     let (mut rows, mut certificate) = open_inputs(rt, words.rows, words.certificate)?;
+    if words.each {
+        return Ok(check_each_command(rt.alloc(), &mut rows, &mut certificate, console));
+    }
     Ok(check_command(rt.alloc(), &mut rows, &mut certificate, console))
 }
 
