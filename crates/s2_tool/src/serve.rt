@@ -21,8 +21,8 @@ use s2_progress::{Pace, Terminal};
 use s2_scan::scan_command;
 use s2_table::table_command;
 use s2_words::{
-    CheckWords, JoinWords, JudgeWords, ModesWords, NoiseWords, Request, RowsWords, ScanWords, ShapeWords,
-    TableWords, read_words,
+    CheckWords, CodeWords, JoinWords, JudgeWords, ModesWords, NoiseWords, Request, RowsWords,
+    ScanWords, ShapeWords, TableWords, read_words,
 };
 use std::alloc::{AllocError, Global};
 use std::env;
@@ -135,6 +135,14 @@ fn shape_of(words: ShapeWords) -> Result<Shape, Fault<'static>> {
     Shape::new(group, groups, q).ok_or(Fault::refused(FaultText::of("no such shape")))
 }
 
+/// The shape of the code that `judge` is asked for.
+fn shape_by(code: CodeWords) -> Result<Shape, Fault<'static>> {
+    match code {
+        CodeWords::Shape(words) => shape_of(words),
+        CodeWords::Mode { modcod, short } => Ok(mode_of(modcod, short, false)?.shape()),
+    }
+}
+
 /// The mode of a MODCOD and two flags.
 pub(crate) fn mode_of(modcod: u8, short: bool, pilots: bool) -> Result<Mode, Fault<'static>> {
     Mode::of(modcod, short, pilots).ok_or(Fault::refused(FaultText::of("no such mode")))
@@ -193,7 +201,7 @@ fn serve_judge<'a, R: Disk + AllocGlobal, O: CountedWrite, E: CountedWrite>(
     requires { CanNote console.old }
     ensures { OnErr result (CanCount console.new.errors_failed) }
 {
-    let shape = shape_of(words.shape)?;
+    let shape = shape_by(words.code)?;
     let mut files = open_judge(rt, words)?;
     Ok(judge_command(rt.alloc(), shape, words.tuning, &mut files, console))
 }
