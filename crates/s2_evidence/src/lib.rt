@@ -22,6 +22,7 @@ mod check;
 mod check_each;
 mod decision;
 mod files;
+mod hard;
 mod judge;
 mod lines;
 mod next;
