@@ -21,10 +21,10 @@ bit_soft line [] v h = cc
 bit_soft line (b ∷ c ∷ bytes) v h = cc
 bit_soft line (b ∷ []) v h =
     elim (cases_Bool (b == 48)) [
-      inl none ↦ (let h' = rw none at h in let same : pos 1 ≡ v = cc in subst IsSoft same one_soft)
-    | inr other ↦ (let h' = rw other at h in elim (cases_Bool (b == 49)) [
-        inl one ↦ (let h'' = rw one at h' in let same : neg_ℤ (pos 1) ≡ v = cc in subst IsSoft same minus_soft)
-      | inr neither ↦ (let h'' = rw neither at h' in cc)
+      | inl none ↦ (let h' = rw none at h in let same : pos 1 ≡ v = cc in subst IsSoft same one_soft)
+      | inr other ↦ (let h' = rw other at h in elim (cases_Bool (b == 49)) [
+        | inl one ↦ (let h'' = rw one at h' in let same : neg_ℤ (pos 1) ≡ v = cc in subst IsSoft same minus_soft)
+        | inr neither ↦ (let h'' = rw neither at h' in cc)
       ])
     ]
 
