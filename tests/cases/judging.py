@@ -31,6 +31,18 @@ BAD_VALUES = [
     (b"-512 " + 19 * b"0 ", "out of range in line 1"),
     (b"x " + 18 * b"0 ", "not a number in line 1"),
 ]
+# Hard decisions under the toy code: the stored codeword, that of the zeros, and the fault of other files.
+BITS = b"1 0 0 0 0 0 0 0 1 1 1 1 0 0 0 0 1 1 1 1"
+BITS_CERTIFICATE = STORED_MOVED[:13] + b"".join((b"\0\x01", b"\xff\xff")[bit == b"1"] for bit in BITS.split()) + STORED_MOVED[53:]
+HARD = [(BITS, -9), (20 * b"0 ", 0), (b"# all\n" + BITS.replace(b" ", b"\r\n\t"), -9)]
+BAD_BITS = [
+    (19 * b"0 ", "too few"),
+    (21 * b"1 ", "too many"),
+    *((b"0 1\n" + token + b"\n" + 17 * b"0 ", "out of range in line 2") for token in (b"2", b"-1", b"00", b"01", b"10", b"x", b"-", b"0x", b"511")),
+    # the first fault in reading order
+    (b"0 2\n" + 30 * b"0 ", "out of range in line 1"),
+    (b"x\n2", "out of range in line 1"),
+]
 BAD_ROWS = [
     (b"", "too few rows"),
     (b"# 0 4 8\n\n# 0 1 2\n", "too few rows"),
@@ -171,6 +183,9 @@ CASES = [
     ),
     *(fault("", f"values: {text}", given=values) for values, text in BAD_VALUES),
     *(fault(f"judge {TOY} toy values", f"values: {text}", reads={"values": values}) for values, text in BAD_VALUES),
+    *(Case(f"judge {TOY} --hard toy values", out=f"sole cost {cost}\n", reads={"values": values}) for values, cost in HARD),
+    *(fault(f"judge {TOY} --hard toy values", f"values: {text}", reads={"values": values}) for values, text in BAD_BITS),
+    Case(f"judge {TOY} --hard --cert out toy values", out="sole cost -9\n", reads={"values": BITS}, writes={"out": BITS_CERTIFICATE}),
     *(fault(f"judge {TOY} rows odd", f"rows: {text}", reads={"rows": rows}) for rows, text in BAD_ROWS),
     fault("judge --group 1 --groups 1 --q 30 rows odd", "rows: row too long in line 1", reads={"rows": LONG_ROW}),
     *(Case(f"judge {shape} {rows} values", code, line, reads={"values": values}) for shape, rows, values, code, line in VERDICTS),

@@ -1,4 +1,6 @@
 pub mod CertifyLemmas
+pub mod BitTokens
+pub mod HardLemmas
 pub mod InputLemmas
 pub mod JudgeLemmas
 pub mod OwnLemmas

@@ -24,7 +24,7 @@ in_front : (v : ℤ) (vs : List ℤ) → IsSoft v → All IsSoft vs → All IsSo
 in_front v vs h hs zero d within = h
 in_front v vs h hs (suc k) d within = hs k d (omega arith)
 
-joined : (a : Result ℤ ValueFault) (b : Result (List ℤ) ValueFault) (vs : List ℤ) → ((v : ℤ) → a ≡ Ok v → IsSoft v) → ((ws : List ℤ) → b ≡ Ok ws → All IsSoft ws) → ok_cons a b ≡ Ok vs → All IsSoft vs
+pub joined : (a : Result ℤ ValueFault) (b : Result (List ℤ) ValueFault) (vs : List ℤ) → ((v : ℤ) → a ≡ Ok v → IsSoft v) → ((ws : List ℤ) → b ≡ Ok ws → All IsSoft ws) → ok_cons a b ≡ Ok vs → All IsSoft vs
 joined (Err e) b vs p q h = cc
 joined (Ok v) (Err e) vs p q h = cc
 joined (Ok v) (Ok ws) vs p q h = let same : v ∷ ws ≡ vs = cc in subst (All IsSoft) same (in_front v ws (p v refl) (q ws refl))

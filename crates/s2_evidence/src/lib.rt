@@ -1,11 +1,11 @@
 //! The commands `judge` and `check`, over any readers and writers.
 //!
-//! [`judge_command`] reads a row file and a value file, and prints the verdict on the bits that a receiver decides. It
-//! writes their certificate, if there is a file for it. [`check_command`] reads a row file and a certificate, and
-//! prints the checker's result. [`check_each_command`] does so for each certificate of a file, one after another. The
-//! exit is that of the verdict or of the result. If a file is refused, a reader or a writer fails, or memory runs out,
-//! one line on the errors reports it. Only failed calls are counted. The certificate's file is begun after the input
-//! was accepted, if there is memory to judge it; otherwise it is unchanged.
+//! [`judge_command`] reads a row file and a value file, which has soft values or hard decisions, and prints the verdict
+//! on the bits that a receiver decides. It writes their certificate, if there is a file for it. [`check_command`] reads
+//! a row file and a certificate, and prints the checker's result. [`check_each_command`] does so for each certificate
+//! of a file, one after another. The exit is that of the verdict or of the result. If a file is refused, a reader or a
+//! writer fails, or memory runs out, one line on the errors reports it. Only failed calls are counted. The
+//! certificate's file is begun after the input was accepted, if there is memory to judge it; otherwise it is unchanged.
 //!
 //! [`self_command`] judges its input under the toy rows, and prints most likely also if the bits are sole. The files of
 //! `judge` are one value ([`JudgeFiles`]). [`read_matrix`] reads rows for other commands too.
@@ -14,7 +14,7 @@
 //!
 //! ```text
 //! let mut files = JudgeFiles { rows, soft, certificate: Some(Destination::new(file)) };
-//! let exit = judge_command(alloc, shape, Tuning::new(50, 0)?, &mut files, &mut console);
+//! let exit = judge_command(alloc, shape, false, Tuning::new(50, 0)?, &mut files, &mut console);
 //! ```
 #![tactic(auto)]
 
@@ -22,6 +22,7 @@ mod check;
 mod check_each;
 mod decision;
 mod files;
+mod hard;
 mod judge;
 mod lines;
 mod next;

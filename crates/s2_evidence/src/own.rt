@@ -57,7 +57,7 @@ fn own_read<R: CountedRead, S: CountedRead>(
     ensures no_read { result ≢ Err Fault.Read → R.count rows.new + S.count soft.new ≡ R.count rows.old + S.count soft.old }
     ensures write { result ≢ Err Fault.Write }
 {
-    let judged = read_judged(alloc, rows, soft, shape)?;
+    let judged = read_judged(alloc, rows, soft, shape, false)?;
     judge_own(alloc, &judged)
 }
 

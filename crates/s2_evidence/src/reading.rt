@@ -6,13 +6,14 @@ ghost use Rattle.s2_mode.specs.Shape.{code_bits};
 ghost use Rattle.s2_rows.specs.RowFiles as row_files;
 ghost use Rattle.s2_matrix.specs.Code.{code_of};
 ghost use Rattle.s2_console.specs.Exits.{Follows};
-ghost use Rattle.s2_rows.specs.Values as values;
-ghost use Rattle.s2_evidence.specs.Inputs.{taken, fault_of_file, rows_said, rows_in, values_said, values_in, inputs, max_bytes};
+ghost use Rattle.s2_evidence.specs.Hard.{text_by};
+ghost use Rattle.s2_evidence.specs.Inputs.{taken, fault_of_file, rows_said, rows_in, values_said, values_by, inputs_by, max_bytes};
 
+use crate::hard::read_text;
 use s2_console::Fault;
 use s2_matrix::Matrix;
 use s2_mode::{CountedRead, FileFault, Shape, read_into};
-use s2_rows::{RowFault, Rows, ValueFault, read_rows, read_values};
+use s2_rows::{RowFault, Rows, ValueFault, read_rows};
 use std::alloc::Global;
 
 /// The most bytes of a file that is read into memory.
@@ -114,14 +115,19 @@ pub fn read_matrix<R: CountedRead>(
 }
 
 /// The values of a value file in memory, one for each bit of a codeword.
-fn values_of(alloc: Global, text: &[u8], shape: Shape) -> Result<Vec<i16>, Fault<'static>>
-    ensures says { Follows (λ v. v.items) result (values_said (values.values_of_text text.now (code_bits shape))) }
+fn values_of(
+    alloc: Global,
+    text: &[u8],
+    shape: Shape,
+    hard: bool,
+) -> Result<Vec<i16>, Fault<'static>>
+    ensures says { Follows (λ v. v.items) result (values_said (text_by hard text.now (code_bits shape))) }
     ensures long { IfOk result (λ v. length v.items ≡ code_bits shape) }
     ensures range { IfOk result (λ v. All IsSoft v.items) }
     ensures read { result ≢ Err Fault.Read }
     ensures write { result ≢ Err Fault.Write }
 {
-    match read_values(alloc, text, shape.n()) {
+    match read_text(alloc, text, shape.n(), hard) {
         Ok(values) => Ok(values),
         Err(ValueFault::NoMemory) => Err(Fault::NoMemory),
         Err(fault) => Err(Fault::about("values: ", fault.text())),
@@ -133,9 +139,10 @@ fn read_value_file<R: CountedRead>(
     alloc: Global,
     reader: &mut R,
     shape: Shape,
+    hard: bool,
 ) -> Result<Vec<i16>, Fault<'static>>
     requires { CanCount (R.count reader.old) }
-    ensures values { IfSome (R.remaining reader.old) (λ xs. Follows (λ v. v.items) result (values_in shape xs)) }
+    ensures values { IfSome (R.remaining reader.old) (λ xs. Follows (λ v. v.items) result (values_by hard shape xs)) }
     ensures long { IfOk result (λ v. length v.items ≡ code_bits shape) }
     ensures range { IfOk result (λ v. All IsSoft v.items) }
     ensures read { result ≡ Err Fault.Read → R.count reader.new ≡ R.count reader.old + 1 }
@@ -143,7 +150,7 @@ fn read_value_file<R: CountedRead>(
     ensures write { result ≢ Err Fault.Write }
 {
     let text = read_bytes(alloc, reader)?;
-    values_of(alloc, &text, shape)
+    values_of(alloc, &text, shape, hard)
 }
 
 /// The input of a judge: the matrix of rows, and a soft value for each of its bits.
@@ -164,10 +171,11 @@ pub(crate) fn read_judged<R: CountedRead, S: CountedRead>(
     rows: &mut R,
     soft: &mut S,
     shape: Shape,
+    hard: bool,
 ) -> Result<Judged, Fault<'static>>
     requires rows { CanCount (R.count rows.old) }
     requires soft { CanCount (S.count soft.old) }
-    ensures says { IfSome (R.remaining rows.old) (λ xs. IfSome (S.remaining soft.old) (λ ys. Follows (λ j. (j.matrix, j.soft.items)) result (inputs shape xs ys))) }
+    ensures says { IfSome (R.remaining rows.old) (λ xs. IfSome (S.remaining soft.old) (λ ys. Follows (λ j. (j.matrix, j.soft.items)) result (inputs_by hard shape xs ys))) }
     ensures long { IfOk result (λ j. length j.soft.items ≡ (code_of j.matrix).bits) }
     ensures range { IfOk result (λ j. All IsSoft j.soft.items) }
     ensures read { result ≡ Err Fault.Read → R.count rows.new + S.count soft.new ≡ R.count rows.old + S.count soft.old + 1 }
@@ -175,6 +183,6 @@ pub(crate) fn read_judged<R: CountedRead, S: CountedRead>(
     ensures write { result ≢ Err Fault.Write }
 {
     let matrix = read_matrix(alloc, rows, shape)?;
-    let soft = read_value_file(alloc, soft, shape)?;
+    let soft = read_value_file(alloc, soft, shape, hard)?;
     Ok(Judged { matrix, soft })
 }
