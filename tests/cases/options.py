@@ -49,7 +49,6 @@ def by_default(option, default, other, usual, changed):
 
 
 ROWS_NOTE = "these rows are not the standard's for QPSK 1/4, short"
-HARD_NOTE = "these look like hard decisions: use --hard"
 TOO_FEW = "rows: too few rows"
 
 
@@ -81,13 +80,11 @@ def judge_effects():
     zero, many = ended("sole cost 0\n"), {"reads": {"values": 16_200 * b"10 "}}
     yield Effect("--modcod", "judge {} --short made values", each("--modcod", (1, "qpsk1/4", 2), (zero, zero, refused(OTHER_SHORT[0]))), many)
     yield Effect("--short", "judge --modcod 1 {} made values", {"": refused(TOO_FEW), "--short": zero}, many)
-    two = {"reads": {"values": STORED + b"\n" + STORED}}
-    yield Effect("--each", f"judge {TOY} {{}} toy values", {"": refused("values: too many"), "--each": ended(2 * "sole cost -45\n")}, two)
     # the bits of the stored word
-    hard = {"reads": {"values": re.sub(rb"-5|7", lambda it: b"%d" % (it[0] == b"-5"), STORED)}, "noted": True}
-    as_soft, likely = ended("most-likely cost 0\n", errors=noted(HARD_NOTE)), ended("most-likely cost 0\n")
+    hard = {"reads": {"values": re.sub(rb"-5|7", lambda it: b"%d" % (it[0] == b"-5"), STORED)}}
+    as_soft = ended("most-likely cost 0\n")
     yield Effect("--hard", f"judge {TOY} {{}} toy values", {"": as_soft, "--hard": ended("sole cost -9\n")}, hard)
-    yield Effect("--quiet", f"judge {TOY} {{}} toy values", {"": as_soft, "--quiet": likely}, hard)
+    yield Effect("--quiet", f"judge {TOY} {{}} toy stored", dict.fromkeys(("", "--quiet"), sole))
     yield Effect("--cert", f"judge {TOY} {{}} toy stored", {"": sole, "--cert out": ended("sole cost -45\n", out=STORED_MOVED)})
     (shape, rows), passes, values, line, *_ = LEFT[0]
     ends, soft = (ended(line.replace("sole", "most-likely")), ended(line)), {"reads": {"rows": rows, "values": values}}
@@ -301,7 +298,7 @@ def unshown(name, text, found):
 
 
 # Options without a visible effect: these commands write no notes, and a receiver accepts any roll-off.
-SAME = {("modes", "--quiet"), ("rows", "--quiet"), ("check", "--quiet"), ("join", "--quiet"), ("audit", "--quiet"), ("audit", "--ro"), ("demod", "--ro")}
+SAME = {("modes", "--quiet"), ("rows", "--quiet"), ("judge", "--quiet"), ("check", "--quiet"), ("join", "--quiet"), ("audit", "--quiet"), ("audit", "--ro"), ("demod", "--ro")}
 
 
 def has_difference(effect):

@@ -120,7 +120,7 @@ RATIOS = ["-10.01", "40.01", "-11", "41", "655.36", "6.205", "6.", ".5", "6.2.1"
 # The options of demod and run that name a file for records, and what each file takes.
 RECORDS = {
     "--certificates": "for the certificates of all frames that are sole or most likely, as `check --each` reads them",
-    "--values": "for the soft values of each frame, a line each, as `judge --each` reads them",
+    "--values": "for the soft values of each frame, a line each, as `judge` reads one",
     "--codewords": "for the decided bits of each frame, eight to a byte, the first one highest",
     "--bbframes": "for the BBFRAMEs, as `join` reads them: zeros for a frame that is lost, and before one that follows a gap",
 }
@@ -142,7 +142,7 @@ MISUSES = [
     ("judge --modcod 1 --q 3 toy stored", "error: the argument '--modcod <M>' cannot be used with '--q <Q>'"),
     ("judge --modcod 1 --groups 2 toy stored", "error: the argument '--modcod <M>' cannot be used with '--groups <N>'"),
     ("judge --modcod 18 toy stored", beyond(18, "modcod <M>", 1, 17)),
-    (f"judge {TOY} --each=2 toy stored", "error: unexpected value '2' for '--each' found; no more were expected"),
+    (f"judge {TOY} --each toy stored", "error: unexpected argument '--each' found"),
     ("check --hard toy certificate", "error: unexpected argument '--hard' found"),
     (f"judge {TOY} toy", LACKS),
     ("judge --group 361 --groups 2 --q 3 toy stored", beyond(361, "group <G>", 1, 360)),
@@ -285,7 +285,6 @@ WORDS = [
     ("judge", "--group <G>", "Bits of a group, 1 to 360"),
     ("judge", "--modcod <M>", "as qpsk3/4 or 8PSK2/3: `s2 modes` lists them"),
     ("judge", "--short", "Frames of 16200 bits, and not of 64800"),
-    ("judge", "--each", "Values of any number of frames, one after the other: a line of the report for each"),
     ("judge", "--hard", "in the place of soft values: 0 is the value 1, and 1 is -1"),
     ("run", "--seed <S>", "Seed of the generator, any number of 64 bits"),
     ("run", "--seeds <A..B>", "A run for each seed from A to B, both included, and a line of sums at the end"),

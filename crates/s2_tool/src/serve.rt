@@ -203,7 +203,7 @@ fn serve_judge<'a, R: Disk + AllocGlobal, O: CountedWrite, E: CountedWrite>(
 {
     let shape = shape_by(words.code)?;
     let mut files = open_judge(rt, words)?;
-    Ok(judge_command(rt.alloc(), shape, words.tuning, &mut files, console))
+    Ok(judge_command(rt.alloc(), shape, words.hard, words.tuning, &mut files, console))
 }
 
 /// `check`.

@@ -169,9 +169,7 @@ fn judge_of<'a>(m: &ArgMatches<'a>) -> Option<Request<'a>> {
     let (passes, factor) = (m.get_one::<u32>("passes")?, m.get_one::<u32>("factor")?);
     Some(Request::Judge(JudgeWords {
         code: code_of(m)?,
-        each: m.get_flag("each"),
         hard: m.get_flag("hard"),
-        quiet: m.get_flag("quiet"),
         tuning: judging_by(passes, factor, m.get_flag("uncertified"))?,
         certificate: m.get_str("cert"),
         rows: m.get_str("ROWS")?,

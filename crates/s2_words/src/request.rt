@@ -52,14 +52,11 @@ pub enum CodeWords {
     Mode { modcod: u8, short: bool },
 }
 
-/// `judge`: a code, whether there are values of many frames, whether they are decided bits, whether notes are left
-/// out, the tuning, and the files.
+/// `judge`: a code, whether the values are decided bits, the tuning, and the files.
 #[derive(Clone, Copy, PartialEq, Eq)]
 pub struct JudgeWords<'a> {
     pub code: CodeWords,
-    pub each: bool,
     pub hard: bool,
-    pub quiet: bool,
     pub tuning: Tuning,
     pub certificate: Option<&'a str>,
     pub rows: &'a str,

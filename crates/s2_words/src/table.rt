@@ -85,7 +85,7 @@ Example:
 
 /// The text below the options of `judge`.
 const JUDGE_MORE: &str = "\
-The report, a line for each frame:
+The report:
   sole cost C              the decided bits cost C, every other codeword costs more
   most-likely cost C       the decided bits cost C, no codeword costs less
   parity cost C            all parity checks hold, no certificate was found: try --passes 96
@@ -94,14 +94,11 @@ The report, a line for each frame:
 Exits:
   0  sole or most-likely: nothing is to be done
   1  a usage fault, or a fault that standard error tells
-  2  parity or broken; with --each one of the frames is
-
-Notes, on standard error:
-  these look like hard decisions: use --hard    all values are 0 or 1, which speak for the word of zeros
+  2  parity or broken
 
 Example:
   s2 judge --group 4 --groups 2 --q 3 --cert certificate rows soft
-  s2 judge --modcod qpsk1/2 --each --cert certificates rows values";
+  s2 judge --modcod qpsk1/2 --cert certificate rows soft";
 
 /// The text below the options of `check`.
 const CHECK_MORE: &str = "\
@@ -605,12 +602,6 @@ const PROGRESS: Argument = Argument {
     help: "Progress on standard error, also where that is no terminal: a line that is rewritten once a second",
 };
 
-const EACH_VALUES: Argument = Argument {
-    name: "each",
-    form: Form::Flag,
-    help: "Values of any number of frames, one after the other: a line of the report for each",
-};
-
 const HARD: Argument = Argument {
     name: "hard",
     form: Form::Flag,
@@ -638,7 +629,7 @@ const CERTIFICATES: Argument = Argument {
 const VALUES: Argument = Argument {
     name: "values",
     form: Form::NamedFile,
-    help: "File for the soft values of each frame, a line each, as `judge --each` reads them",
+    help: "File for the soft values of each frame, a line each, as `judge` reads one",
 };
 
 const CODEWORDS: Argument = Argument {
@@ -753,7 +744,6 @@ static JUDGE_ARGUMENTS: [Argument; 14] = [
     Q_OR_MODE,
     MODCOD_OR_NONE,
     SHORT,
-    EACH_VALUES,
     HARD,
     CERTIFICATE,
     PASSES,
