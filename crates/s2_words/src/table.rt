@@ -72,8 +72,8 @@ Example:
 /// The text below the options of `table`.
 const TABLE_MORE: &str = "\
 The answer:
-  standard  the rows are those of the standard for this code, whatever the order within each row
-  other     they are not: a recording of the standard's frames comes out `broken` under them
+  standard       the rows are those of the standard for this code, whatever the order within each row
+  other: line N  they are not, and row N, from 1, is the first that differs; the standard's frames come out `broken` under them
 
 Exits:
   0  standard
@@ -172,7 +172,7 @@ Notes, on standard error:
   these rows are not the standard's for MODE           only what was sent by the same rows is received by them
   MODE wants N rows of addresses below M               the row file that is refused is to have these
   N symbols passed over in M places, the first at S    they belong to no frame: symbols were inserted, or headers were lost
-  no frame of MODE in N symbols                        another mode, byte order, form of samples or rotation
+  no frame of MODE in N symbols: try s2 scan           another mode, byte order, form of samples or rotation
   N packets torn                                       begun, and lost with a frame that is missing or not delivered
 
 Files:
