@@ -243,10 +243,6 @@ def run_effects(report, others):
     yield Effect("--esn0", f"{words} --seed {seed} {{}} made packets out", each("--esn0", (decibels, 40), (gaussian_noise, WELL)))
     other = {"code": ANY, "out": ANY, "errors": "", "writes": {"out": ANY}}
     yield Effect("--seed", f"{words} --level {NOISY[1]} {{}} made packets out", each("--seed", (NOISY[0], 15), (usual, other)))
-    # a run for each seed: the lines of both, and one more
-    both_told = Rule("two runs and a line of sums", lambda got: got.decode().startswith(2 * TWO) and got.count(b"\n") == 7)
-    two_runs = {"code": FINE, "out": both_told, "errors": "", "writes": {"out": ANY}}
-    yield Effect("--seeds", f"run {LINK} --level 0 {{}} made packets out", {"--seed 1": WELL, "--seeds 3..4": two_runs})
     yield Effect("--pilots", f"run {LINK} --seed 1 --level 0 {{}} made packets out", {"": WELL, "--pilots": received(TWO.replace("8190", "8370"))})
     apart = received(TWO.replace("8190", "11520"))
     yield Effect("--dummy", f"run {LINK} --seed 1 --level 0 {{}} made packets out", by_default("--dummy", 0, 1, WELL, apart))

@@ -124,10 +124,6 @@ RECORDS = {
     "--codewords": "for the decided bits of each frame, eight to a byte, the first one highest",
     "--bbframes": "for the BBFRAMEs, as `join` reads them: zeros for a frame that is lost, and before one that follows a gap",
 }
-# What is no range of seeds, and why.
-NO_RANGE = "it is two numbers of 64 bits, as 1..100"
-RANGES = {text: NO_RANGE for text in ("1", "1.2", "1..", "..2", "..", "1...2", "1..2..3", "1..-2", "+1..2", "1,2", "a..b", f"0..{2**64}")}
-RANGES |= {"2..1": "2 is greater than 1", f"{2**64 - 1}..0": f"{2**64 - 1} is greater than 0"}
 NOT_BOTH = "error: the argument '--uncertified' cannot be used with '--passes <P>'"
 # Words that no command has, and the first line on standard error.
 MISUSES = [
@@ -200,10 +196,6 @@ MISUSES = [
     (f"{RUN} --esn0 1 made packets out", "error: the argument '--level <L>' cannot be used with '--esn0 <DB>'"),
     *((f"run --modcod 1 --seed 1 --esn0 {text} made packets out", no_ratio(text)) for text in RATIOS),
     ("run --seed 1 --level 1 made packets out", LACKS),
-    ("run --modcod 1 --seed 1 --seeds 1..2 --level 1 made packets out", "error: the argument '--seed <S>' cannot be used with '--seeds <A..B>'"),
-    ("run --modcod 1 --seeds 1..2 made packets out", LACKS),
-    *((f"run --modcod 1 --level 1 --seeds {text} made packets out", invalid(text, "seeds <A..B>", why)) for text, why in RANGES.items()),
-    ("noise --seeds 1..2 --level 1 packets out", "error: unexpected argument '--seeds' found"),
     (f"{RUN} made packets", LACKS),
     (f"{RUN} --dummy 65536 made packets out", beyond(65536, "dummy <D>", 0, 65535)),
     (f"{RUN} --rounds 201 made packets out", beyond(201, "rounds <K>", 1, 200)),
@@ -286,8 +278,6 @@ WORDS = [
     ("judge", "--modcod <M>", "as qpsk3/4 or 8PSK2/3: `s2 modes` lists them"),
     ("judge", "--short", "Frames of 16200 bits, and not of 64800"),
     ("judge", "--hard", "in the place of soft values: 0 is the value 1, and 1 is -1"),
-    ("run", "--seed <S>", "Seed of the generator, any number of 64 bits"),
-    ("run", "--seeds <A..B>", "A run for each seed from A to B, both included, and a line of sums at the end"),
     *((name, f"{option} <FILE>", says) for name in ("demod", "run") for option, says in RECORDS.items()),
     ("demod", "A frame's records", "A file keeps its contents until the rows are accepted."),
     ("run", "A frame's records", "A file keeps its contents until the rows are accepted, and the packets."),
@@ -397,7 +387,6 @@ REFUSED = [
     ("demod --modcod 11 --short made packets old", "no such mode"),
     ("demod --modcod 17 --short none none old", "no such mode"),
     ("run --modcod 11 --short --seed 1 --level 1 none none old", "no such mode"),
-    ("run --modcod 11 --short --seeds 1..2 --level 1 none none old", "no such mode"),
     ("join --modcod 11 --short none old", "no such mode"),
     ("audit --modcod 11 --short none none none none", "no such mode"),
 ]

@@ -18,12 +18,11 @@ mod parser;
 mod reading;
 mod refusal;
 mod request;
-mod seeds;
 mod table;
 
 pub use reading::read_words;
 pub use request::{
     AuditWords, ChannelWords, CheckWords, CodeWords, DemodWords, JoinWords, JudgeWords, LinkWords,
     ModWords, ModesWords, NoiseWords, NoteWords, Progress, RecordWords, Request, RowsWords,
-    RunWords, ScanWords, SeedWords, ShapeWords, TableWords,
+    RunWords, ScanWords, ShapeWords, TableWords,
 };

@@ -6,9 +6,8 @@ use crate::refusal::{misused, not_understood, values_in};
 use crate::request::{
     AuditWords, ChannelWords, CheckWords, CodeWords, DemodWords, JoinWords, JudgeWords, LinkWords,
     ModWords, ModesWords, NoiseWords, NoteWords, Progress, RecordWords, Request, RowsWords,
-    RunWords, ScanWords, SeedWords, ShapeWords, TableWords,
+    RunWords, ScanWords, ShapeWords, TableWords,
 };
-use crate::seeds::read_seeds;
 use clap::parser::ValueSource;
 use clap::{ArgMatches, Error};
 use s2_channel::Strength;
@@ -82,29 +81,11 @@ fn strength_of(m: &ArgMatches<'_>) -> Option<Strength> {
     }
 }
 
-fn seeds_of(m: &ArgMatches<'_>) -> Option<Option<SeedWords>> {
-    match m.get_str("seeds") {
-        Some(text) => read_seeds(text).map(Some),
-        None => Some(None),
-    }
-}
-
 fn channel_of(m: &ArgMatches<'_>) -> Option<ChannelWords> {
     Some(ChannelWords {
         seed: m.get_one::<u64>("seed")?,
         strength: strength_of(m)?,
     })
-}
-
-/// The channel of the first of a range of seeds, if there is one.
-fn channel_from(seeds: Option<SeedWords>, m: &ArgMatches<'_>) -> Option<ChannelWords> {
-    match seeds {
-        Some(seeds) => Some(ChannelWords {
-            seed: seeds.first,
-            strength: strength_of(m)?,
-        }),
-        None => channel_of(m),
-    }
 }
 
 fn notes_of(m: &ArgMatches<'_>) -> NoteWords {
@@ -220,13 +201,11 @@ fn demod_of<'a>(m: &ArgMatches<'a>) -> Option<Request<'a>> {
 }
 
 fn run_of<'a>(m: &ArgMatches<'a>) -> Option<Request<'a>> {
-    let seeds = seeds_of(m)?;
     Some(Request::Run(RunWords {
         link: link_of(m)?,
         dummy: m.get_one::<u16>("dummy")?,
         tuning: tuning_of(m)?,
-        channel: channel_from(seeds, m)?,
-        seeds,
+        channel: channel_of(m)?,
         notes: notes_of(m),
         progress: progress_of(m),
         records: records_of(m),

@@ -2,7 +2,6 @@
 use crate::decibels::read_esn0;
 use crate::options::read_modcod;
 use crate::parser::{Values, command_of, program};
-use crate::seeds::read_range;
 use crate::table::{Entry, commands};
 use clap::error::ErrorKind;
 use clap::{ArgMatches, Error};
@@ -160,23 +159,6 @@ fn rate_message(alloc: Global, m: &ArgMatches<'_>) -> Result<Option<String>, All
     }
 }
 
-/// What is said of a text that is no range of seeds.
-fn seeds_message(alloc: Global, m: &ArgMatches<'_>) -> Result<Option<String>, AllocError> {
-    let Some(text) = m.get_str("seeds") else {
-        return Ok(None);
-    };
-    match read_range(text) {
-        Some(seeds) if seeds.first <= seeds.last => Ok(None),
-        Some(seeds) => Ok(Some(format!(in alloc;
-            "invalid value '{text}' for '--seeds <A..B>': {} is greater than {}",
-            seeds.first, seeds.last
-        )?)),
-        None => Ok(Some(format!(in alloc;
-            "invalid value '{text}' for '--seeds <A..B>': it is two numbers of 64 bits, as 1..100"
-        )?)),
-    }
-}
-
 /// The accepted values in place of unknown ones, if there are any.
 fn message_of(alloc: Global, m: &ArgMatches<'_>) -> Result<Option<String>, AllocError> {
     if let Some(text) = modcod_message(alloc, m)? {
@@ -188,10 +170,7 @@ fn message_of(alloc: Global, m: &ArgMatches<'_>) -> Result<Option<String>, Alloc
     if let Some(text) = esn0_message(alloc, m)? {
         return Ok(Some(text));
     }
-    if let Some(text) = rate_message(alloc, m)? {
-        return Ok(Some(text));
-    }
-    seeds_message(alloc, m)
+    rate_message(alloc, m)
 }
 
 /// The usage fault of arguments from which no request can be made.

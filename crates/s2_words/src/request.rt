@@ -30,13 +30,6 @@ pub struct ChannelWords {
     pub strength: Strength,
 }
 
-/// The first and the last of a range of seeds.
-#[derive(Clone, Copy, Debug, PartialEq, Eq)]
-pub struct SeedWords {
-    pub first: u64,
-    pub last: u64,
-}
-
 /// `rows`: the numbers of made rows.
 #[derive(Clone, Copy, PartialEq, Eq)]
 pub struct RowsWords {
@@ -143,16 +136,14 @@ pub struct DemodWords<'a> {
     pub packets: &'a str,
 }
 
-/// `run`: a link, the number of frames between dummy frames (0 for none), the tuning, a channel, a range of seeds if
-/// there is to be a run for each, the notes, whether progress is shown, the records, and the files. The channel has the
-/// first seed of the range.
+/// `run`: a link, the number of frames between dummy frames (0 for none), the tuning, a channel, the notes,
+/// whether progress is shown, the records, and the files.
 #[derive(Clone, Copy, PartialEq, Eq)]
 pub struct RunWords<'a> {
     pub link: LinkWords,
     pub dummy: u16,
     pub tuning: Tuning,
     pub channel: ChannelWords,
-    pub seeds: Option<SeedWords>,
     pub notes: NoteWords,
     pub progress: Progress,
     pub records: RecordWords<'a>,

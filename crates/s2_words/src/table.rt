@@ -542,21 +542,6 @@ const SEED: Argument = Argument {
     help: "Seed of the generator, any number of 64 bits",
 };
 
-/// The same option, for a command that takes a range of seeds in its place.
-const SEED_OR_SEEDS: Argument = Argument {
-    form: Form::NamedNumber {
-        value: "S",
-        allowed: ANY,
-    },
-    ..SEED
-};
-
-const SEEDS: Argument = Argument {
-    name: "seeds",
-    form: Form::NamedText { value: "A..B" },
-    help: "A run for each seed from A to B, both included, and a line of sums at the end",
-};
-
 const LEVEL: Argument = Argument {
     name: "level",
     form: Form::NamedNumber {
@@ -821,7 +806,7 @@ static DEMOD_ARGUMENTS: [Argument; 22] = [
 ];
 
 /// The arguments of `run`, in order.
-static RUN_ARGUMENTS: [Argument; 27] = [
+static RUN_ARGUMENTS: [Argument; 26] = [
     MODCOD,
     SHORT,
     PILOTS,
@@ -835,8 +820,7 @@ static RUN_ARGUMENTS: [Argument; 27] = [
     FACTOR,
     LOCK,
     TUNED,
-    SEED_OR_SEEDS,
-    SEEDS,
+    SEED,
     LEVEL,
     ESN0,
     STRICT,
@@ -927,18 +911,11 @@ const STRENGTH: Choice = Choice {
     options: &["level", "esn0"],
 };
 
-/// One run, or one for each seed of a range.
-const RUNS: Choice = Choice {
-    name: "runs",
-    options: &["seed", "seeds"],
-};
-
 /// The choices of a command.
 pub(crate) fn choices_of(command: Name) -> &'static [Choice] {
     match command {
         Name::Judge => &[CODE],
-        Name::Noise => &[STRENGTH],
-        Name::Run => &[RUNS, STRENGTH],
+        Name::Noise | Name::Run => &[STRENGTH],
         _ => &[],
     }
 }
