@@ -723,7 +723,7 @@ static ROWS_ARGUMENTS: [Argument; 6] = [GROUP, GROUPS, Q, WEIGHT, SEED, QUIET];
 static TABLE_ARGUMENTS: [Argument; 4] = [MODCOD, SHORT, QUIET, ROWS];
 
 /// The arguments of `judge`, in order.
-static JUDGE_ARGUMENTS: [Argument; 14] = [
+static JUDGE_ARGUMENTS: [Argument; 13] = [
     GROUP_OR_MODE,
     GROUPS_OR_MODE,
     Q_OR_MODE,
