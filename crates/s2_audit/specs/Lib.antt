@@ -1,0 +1,5 @@
+pub mod Limits
+pub mod Entries
+pub mod Reading
+pub mod Desks
+pub mod Showing
