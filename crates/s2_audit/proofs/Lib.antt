@@ -1,2 +1,4 @@
 pub mod NumberLemmas
 pub mod EntryLemmas
+pub mod ReadingLemmas
+pub mod ValueLemmas
