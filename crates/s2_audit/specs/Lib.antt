@@ -3,3 +3,5 @@ pub mod Entries
 pub mod Reading
 pub mod Desks
 pub mod Showing
+pub mod Lines
+pub mod Turns

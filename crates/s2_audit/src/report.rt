@@ -13,7 +13,7 @@ use s2_mode::{CountedRead, FaultText, ReadFault, read_full};
 type LineBytes = ArrayVec<u8, 256>;
 
 /// The next byte, or `None` at the end.
-fn read_byte<R: CountedRead>(reader: &mut R) -> Result<Option<u8>, ReadFault>
+pub(crate) fn read_byte<R: CountedRead>(reader: &mut R) -> Result<Option<u8>, ReadFault>
     requires { CanCount (R.count reader.old) }
     ensures byte { IfOk result (GivesByte (R.remaining reader.old) (R.remaining reader.new)) }
     ensures cause { CountsFault (R.count reader.old) (R.count reader.new) result }
