@@ -5,3 +5,5 @@ pub mod Desks
 pub mod Showing
 pub mod Lines
 pub mod Turns
+pub mod Auditing
+pub mod Commands

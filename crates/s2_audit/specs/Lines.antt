@@ -23,6 +23,18 @@ failed_line frame reason = frame_words frame ++ codes " " ++ reason_text reason 
 abbrev pub left_over_line : List ℕ
 left_over_line = codes "certificates left over\n"
 
+-- audit frames F
+unfoldable pub frames_words : Counts → List ℕ
+frames_words counts = codes "audit frames " ++ decimal counts.frames
+
+-- sole A
+unfoldable pub sole_words : Counts → List ℕ
+sole_words counts = codes " sole " ++ decimal counts.sole
+
+-- most-likely B
+unfoldable pub likely_words : Counts → List ℕ
+likely_words counts = codes " most-likely " ++ decimal counts.most_likely
+
 -- audit frames F sole A most-likely B
 unfoldable pub end_line : Counts → List ℕ
-end_line counts = codes "audit frames " ++ decimal counts.frames ++ codes " sole " ++ decimal counts.sole ++ codes " most-likely " ++ decimal counts.most_likely ++ codes "\n"
+end_line counts = frames_words counts ++ sole_words counts ++ likely_words counts ++ codes "\n"

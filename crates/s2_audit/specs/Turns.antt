@@ -152,3 +152,7 @@ abbrev pub Turns : Terms → (number : ℕ) → (was is : Standing) → Option (
 Turns t number was is report report_new old new result =
     LineTurn t was is report report_new old new result
     ⊎ (LastTurn was.counts report report_new old new result ⊎ StoppedTurn number report report_new result)
+
+-- a place and counts
+abbrev pub standing : ℕ → Counts → Standing
+standing place counts = record { place = place; counts = counts }

@@ -241,6 +241,7 @@ impl<'a> Desk<'a> {
         ensures finds { IfOk result (Finds self.now.terms.rows self.now.soft verdict self.now.block) }
         ensures memory { IsOkUnless result Fault.NoMemory }
     {
+        let _n = self.mode.n();
         judge_bytes(alloc, self.matrix, &self.block, &self.soft, verdict)
     }
 }

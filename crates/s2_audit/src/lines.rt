@@ -54,7 +54,7 @@ pub(crate) fn left_over_line() -> Line
 }
 
 /// The line at the end.
-#[tactic(auto, unfolding(crate::specs::Lines::end_line))]
+#[tactic(auto, unfolding(crate::specs::Lines::end_line, crate::specs::Lines::frames_words, crate::specs::Lines::sole_words, crate::specs::Lines::likely_words))]
 pub(crate) fn end_line(counts: Counts) -> Line
     ensures { result ≡ end_line counts }
 {

@@ -116,7 +116,7 @@ fn frame_turn<R: CountedRead>(
 }
 
 /// The turn of an entry.
-fn entry_turn<R: CountedRead>(
+pub(crate) fn entry_turn<R: CountedRead>(
     alloc: Global,
     desk: &mut Desk<'_>,
     entry: Entry,
@@ -143,7 +143,7 @@ fn entry_turn<R: CountedRead>(
 }
 
 /// The turn at the end of the report.
-fn end_turn<R: CountedRead>(counts: Counts, certificates: &mut R) -> Result<Turn, Fault<'static>>
+pub(crate) fn end_turn<R: CountedRead>(counts: Counts, certificates: &mut R) -> Result<Turn, Fault<'static>>
     requires { CanCount (R.count certificates.old) }
     ensures turn { EndTurn counts (R.remaining certificates.old) (R.remaining certificates.new) result }
     ensures read { result ≡ Err Fault.Read → R.count certificates.new ≡ R.count certificates.old + 1 }
@@ -163,7 +163,7 @@ fn end_turn<R: CountedRead>(counts: Counts, certificates: &mut R) -> Result<Turn
 }
 
 /// The counts with those of an entry.
-fn count_entry(counts: Counts, entry: Entry) -> Counts
+pub(crate) fn count_entry(counts: Counts, entry: Entry) -> Counts
     requires { (counts.frames < 2 ^ 62) × (counts.sole < 2 ^ 62) × (counts.most_likely < 2 ^ 62) }
     ensures { result ≡ counted_with counts entry }
 {

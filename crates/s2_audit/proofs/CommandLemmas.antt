@@ -1,0 +1,42 @@
+-- The command on its files.
+use Rattle.std.proofs.Common.{◌≡◌, ◌≢◌, ℕ, ◌+◌, List, Option, Result, Ok, Err, IfSome, refl, sym, ap, subst, ◌∙◌, inl, inr}
+use Rattle.std.specs.Prelude.{Some}
+use Rattle.s2_mode.specs.Mode.{shape_in}
+use Rattle.s2_mode.specs.Shape.{Shape}
+use Rattle.s2_rows.specs.Rows.{Rows}
+use Rattle.s2_console.specs.declared.exit.Exit.{Exit}
+use Rattle.s2_console.specs.declared.fault.Fault.{Fault}
+use Rattle.s2_console.specs.declared.fault.Fault.TheVariants as faults
+use Rattle.s2_link.specs.Link.{Link, link_of}
+use Rattle.s2_link.specs.declared.setup.Setup.{Setup}
+use Rattle.s2_evidence.specs.Inputs.{rows_in}
+use Rattle.s2_audit.specs.Commands.{AuditExits, AuditRuns, AuditsLink, Causes, Files}
+use Rattle.s2_console.specs.Exits.{Complains, exit_of}
+use Rattle.s2_console.specs.Screens.{Screen}
+
+pub on_rows : (setup : Setup) (divisor : ℕ) (old new : Files) (o o' : Option (List ℕ)) (result : Result Exit Fault) (shape : Shape) (link : Link) (rows : Rows)
+    → shape ≡ shape_in setup.mode → link ≡ link_of setup rows → IfSome old.rows (λ xs. rows_in shape xs ≡ Ok rows)
+    → AuditsLink link divisor old.report new.report old.evidence new.evidence o o' result → AuditRuns setup divisor old new o o' result
+on_rows setup divisor old new o o' result shape link rows is made read h =
+    inr (rows, subst (λ (s : Shape). IfSome old.rows (λ xs. rows_in s xs ≡ Ok rows)) is read,
+    subst (λ (l : Link). AuditsLink l divisor old.report new.report old.evidence new.evidence o o' result) made h)
+
+pub causes : (ended : Result Exit Fault) (a b c d : ℕ) → (ended ≢ Err faults.Read → b ≡ a) → (ended ≡ Err faults.Write → d ≡ c + 1) → (ended ≢ Err faults.Write → d ≡ c) → Causes ended a b c d
+causes ended a b c d no_read write no_write = record {
+  no_read = no_read;
+  write_reported = λ e. inr (refl, write e);
+  no_write = λ e. (refl, no_write e);
+}
+
+pub ran : (setup : Setup) (divisor : ℕ) (old new : Files) (a b : ℕ) (before after screen_old screen_new : Screen) (ended : Result Exit Fault) (exit : Exit)
+    → before.output ≡ screen_old.output → before.output_failed ≡ screen_old.output_failed → after.output ≡ screen_new.output → after.output_failed ≡ screen_new.output_failed
+    → exit ≡ exit_of ended → AuditRuns setup divisor old new before.output after.output ended
+    → (ended ≢ Err faults.Read → b ≡ a) → (ended ≡ Err faults.Write → after.output_failed ≡ before.output_failed + 1) → (ended ≢ Err faults.Write → after.output_failed ≡ before.output_failed)
+    → Complains ended screen_old screen_new → AuditExits setup divisor old new a b screen_old screen_new exit
+ran setup divisor old new a b before after screen_old screen_new ended exit out count out' count' is runs no_read write no_write told = (
+  ended,
+  is,
+  subst (λ o. AuditRuns setup divisor old new o screen_new.output ended) out (subst (λ o. AuditRuns setup divisor old new before.output o ended) out' runs),
+  subst (λ n. Causes ended a b n screen_new.output_failed) count (subst (λ n. Causes ended a b before.output_failed n) count' (causes ended a b before.output_failed after.output_failed no_read write no_write)),
+  told,
+)
