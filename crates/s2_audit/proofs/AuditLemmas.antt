@@ -50,7 +50,7 @@ made_as a b c a' b' c' p q r = ap (λ x. made x b c) p ∙ ap (λ x. made a' x c
 
 counts_by_entry : (counts : Counts) (entry : Entry)
     → made (counts.frames + (if is_frame (λ v. true) (Some entry) then 1 else 0)) (counts.sole + (if is_frame is_sole (Some entry) then 1 else 0)) (counts.most_likely + (if is_frame is_most_likely (Some entry) then 1 else 0))
-      ≡ counted_with counts entry
+    ≡ counted_with counts entry
 counts_by_entry counts entries.Other =
     let a : counts.frames + 0 ≡ counts.frames = omega arith in
     let b : counts.sole + 0 ≡ counts.sole = omega arith in
@@ -335,9 +335,9 @@ line_prints t n was is r r' old new o o' turn (Err (faults.Refused text)) h p = 
 
 -- ---- the loop
 
-pub ends_by : {t t' : Terms} {n place : ℕ} {counts : Counts} {r r' r'' : Option (List ℕ)} {old new new' : Evidence} {o o' o'' : Option (List ℕ)} {is' : Standing} {said : Result (Option Exit) Fault} (result : Result Exit Fault)
+pub ends_by : {t t' : Terms} {n place : ℕ} {counts : Counts} {r r' r'' : Option (List ℕ)} {old new new' : Evidence} {o o' o'' : Option (List ℕ)} {said : Result (Option Exit) Fault} (is' : Standing) (result : Result Exit Fault)
     → t' ≡ t → said ≡ last_of result → Progress t n r r' old new o o' (standing place counts) → LineIs t' (n + 1) (standing place counts) is' r' r'' new new' o' o'' said → AuditsToEnd t r r'' old new' o o'' result
-ends_by {t} {t'} {n} {place} {counts} {r} {r'} {r''} {old} {new} {new'} {o} {o'} {o''} {is'} {said} result same is p h =
+ends_by {t} {t'} {n} {place} {counts} {r} {r'} {r''} {old} {new} {new'} {o} {o'} {o''} {said} is' result same is p h =
     ends t n place counts r r' r'' old new new' o o' o'' is' result p
     (subst (λ (x : Terms). LineIs x (n + 1) (standing place counts) is' r' r'' new new' o' o'' (last_of result)) same
     (subst (λ (x : Result (Option Exit) Fault). LineIs t' (n + 1) (standing place counts) is' r' r'' new new' o' o'' x) is h))

@@ -113,7 +113,16 @@ pub(crate) fn audit_lines<R: CountedRead, O: CountedWrite>(
 {
     let mut counts = Counts::none();
     'lines: for line in 0..MAX_LINES {
-        match audit_line(alloc, desk, line + 1, &mut counts, report, symbols, certificates, out) {
+        match audit_line(
+            alloc,
+            desk,
+            line + 1,
+            &mut counts,
+            report,
+            symbols,
+            certificates,
+            out,
+        ) {
             Ok(None) => {}
             Ok(Some(exit)) => return Ok(exit),
             Err(fault) => return Err(fault),

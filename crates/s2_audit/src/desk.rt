@@ -233,11 +233,7 @@ impl<'a> Desk<'a> {
     }
 
     /// What is found of the last certificate, for the last frame's soft values.
-    pub(crate) fn judge(
-        &self,
-        alloc: Global,
-        verdict: Verdict,
-    ) -> Result<Finding, Fault<'static>>
+    pub(crate) fn judge(&self, alloc: Global, verdict: Verdict) -> Result<Finding, Fault<'static>>
         ensures finds { IfOk result (Finds self.now.terms.rows self.now.soft verdict self.now.block) }
         ensures memory { IsOkUnless result Fault.NoMemory }
     {

@@ -4,5 +4,4 @@ ghost use Rattle.s2_audit.specs.Limits.{LimitsLaw};
 /// The numbers that the code works with are those of the definitions.
 pub fn limits()
     ensures { LimitsLaw }
-{
-}
+{}

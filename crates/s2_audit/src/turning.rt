@@ -143,7 +143,10 @@ pub(crate) fn entry_turn<R: CountedRead>(
 }
 
 /// The turn at the end of the report.
-pub(crate) fn end_turn<R: CountedRead>(counts: Counts, certificates: &mut R) -> Result<Turn, Fault<'static>>
+pub(crate) fn end_turn<R: CountedRead>(
+    counts: Counts,
+    certificates: &mut R,
+) -> Result<Turn, Fault<'static>>
     requires { CanCount (R.count certificates.old) }
     ensures turn { EndTurn counts (R.remaining certificates.old) (R.remaining certificates.new) result }
     ensures read { result ≡ Err Fault.Read → R.count certificates.new ≡ R.count certificates.old + 1 }

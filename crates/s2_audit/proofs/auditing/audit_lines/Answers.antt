@@ -1,5 +1,6 @@
 use Rattle.std.proofs.Common.{◌≡◌, None, Ok, Err, rules, ap, ◌∙◌}
 use Rattle.s2_console.specs.declared.fault.Fault.TheVariants as faults
+use Rattle.s2_audit.specs.Turns.{standing}
 use Rattle.s2_audit.proofs.AuditLemmas.{begins, ends_by, few_counts, goes_on_by, not_failed, stops_there}
 use Rattle.s2_audit.proofs.auditing.audit_lines.Goals as goal
 
@@ -18,10 +19,10 @@ audit_line-requires-clause-few g c = few_counts _ _ _ _ _ _ _ _ _ c.lines.invari
 
 pub returns-in-Ok-Some-clause-audits : goal.returns-in-Ok-Some-clause-audits
 returns-in-Ok-Some-clause-audits g c =
-    ends_by (Ok c.in-Ok-Some.exit) c.lines.invariant.terms (c.in-Ok-Some.is ∙ ap Ok c.in-Ok-Some.field-0-is) c.lines.invariant.progress c.audit_line.ensures.line
+    ends_by (standing c.audit_line.new.desk.place c.audit_line.new.counts) (Ok c.in-Ok-Some.exit) c.lines.invariant.terms (c.in-Ok-Some.is ∙ ap Ok c.in-Ok-Some.field-0-is) c.lines.invariant.progress c.audit_line.ensures.line
 
 pub returns-in-Err-clause-audits : goal.returns-in-Err-clause-audits
-returns-in-Err-clause-audits g c = ends_by (Err c.in-Err.fault) c.lines.invariant.terms c.in-Err.is c.lines.invariant.progress c.audit_line.ensures.line
+returns-in-Err-clause-audits g c = ends_by (standing c.audit_line.new.desk.place c.audit_line.new.counts) (Err c.in-Err.fault) c.lines.invariant.terms c.in-Err.is c.lines.invariant.progress c.audit_line.ensures.line
 
 pub lines-preserved : goal.lines-preserved
 lines-preserved g c =
@@ -32,8 +33,8 @@ lines-preserved g c =
       progress = goes_on_by so.terms ok so.progress c.audit_line.ensures.line;
       terms = c.audit_line.ensures.terms ∙ so.terms;
       report = read.0 ∙ so.report;
-      symbols = read.1.0 ∙ so.symbols;
-      certificates = read.1.1 ∙ so.certificates;
+      symbols = read.1 ∙ so.symbols;
+      certificates = read.2 ∙ so.certificates;
       out = c.audit_line.ensures.no_write (not_failed _ faults.Write ok) ∙ so.out;
     }
 
