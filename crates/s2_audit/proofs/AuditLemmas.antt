@@ -35,7 +35,7 @@ use Rattle.s2_audit.specs.Lines.{shown_line}
 use Rattle.s2_audit.specs.Reading.{GivesEntry, NextEntry}
 use Rattle.s2_audit.specs.Showing.{Finds, FindsFile, FindsParsed}
 use Rattle.s2_audit.specs.Turns.{Evidence, EndTurn, EntryTurn, FrameTurn, Judges, LineTurn, SilentTurn, Standing, Turns, standing}
-use Rattle.s2_audit.specs.Auditing.{Audits, AuditsToEnd, Checked, IsAt, IsChecked, IsReadable, LineIs, PrintsTurn, Shows, last_of, line_of, turn_exit, turn_text}
+use Rattle.s2_audit.specs.Auditing.{Audits, AuditsToEnd, Checked, IsAt, IsChecked, IsReadable, LineIs, PrintsTurn, ReachesLimit, Shows, last_of, line_of, turn_exit, turn_text}
 
 -- ---- the counts of one line more
 
@@ -356,3 +356,6 @@ not_failed said f ok bad = cc
 
 pub prints_silent : (turn : Turn) (o : Option (List ℕ)) → turn ≡ turns.Silent → PrintsTurn turn o o (Ok None)
 prints_silent turn o is = subst (λ (x : Turn). PrintsTurn x o o (Ok None)) (sym is) (refl, Appends-nil o)
+
+pub reaches : (t : Terms) (n : ℕ) (r r' : Option (List ℕ)) (old new : Evidence) (o o' : Option (List ℕ)) (is : Standing) → Progress t n r r' old new o o' is → n ≡ max_lines → ReachesLimit r r'
+reaches t n r r' old new o o' is p most = (p.lines, p.number ∙ most, p.audits.report_read)

@@ -1,5 +1,5 @@
 -- The command on its files.
-use Rattle.std.proofs.Common.{◌≡◌, ◌≢◌, ℕ, ◌+◌, List, Option, Result, Ok, Err, IfSome, refl, sym, ap, subst, ◌∙◌, inl, inr}
+use Rattle.std.proofs.Common.{◌≡◌, ◌≢◌, ◌⊎◌, ℕ, ◌+◌, List, Option, Result, Ok, Err, IfSome, refl, sym, ap, subst, ◌∙◌, inl, inr, arith}
 use Rattle.std.specs.Prelude.{Some}
 use Rattle.s2_mode.specs.Mode.{shape_in}
 use Rattle.s2_mode.specs.Shape.{Shape}
@@ -10,6 +10,7 @@ use Rattle.s2_console.specs.declared.fault.Fault.TheVariants as faults
 use Rattle.s2_link.specs.Link.{Link, link_of}
 use Rattle.s2_link.specs.declared.setup.Setup.{Setup}
 use Rattle.s2_evidence.specs.Inputs.{rows_in}
+use Rattle.s2_audit.specs.Auditing.{ReachesLimit}
 use Rattle.s2_audit.specs.Commands.{AuditExits, AuditRuns, AuditsLink, Causes, Files}
 use Rattle.std.specs.Io.KnownBytes.{Appends}
 use Rattle.s2_console.specs.Faults.{fault_line}
@@ -26,12 +27,20 @@ on_rows setup divisor old new o o' result shape link rows is made read h =
       subst (λ (l : Link). AuditsLink l divisor old.report new.report old.evidence new.evidence o o' result) made h,
     )
 
-pub causes : (ended : Result Exit Fault) (a b c d : ℕ) → (ended ≢ Err faults.Read → b ≡ a) → (ended ≡ Err faults.Write → d ≡ c + 1) → (ended ≢ Err faults.Write → d ≡ c) → Causes ended a b c d
-causes ended a b c d no_read write no_write = record {
-  no_read = no_read;
-  write_reported = λ e. inr (refl, write e);
-  no_write = λ e. (refl, no_write e);
+pub causes : (ended : Result Exit Fault) (r r' : Option (List ℕ)) (a b c d : ℕ) → (ended ≡ Err faults.Read → (b ≡ a + 1) ⊎ ReachesLimit r r') → (ended ≢ Err faults.Read → b ≡ a) → (ended ≡ Err faults.Write → d ≡ c + 1) → (ended ≢ Err faults.Write → d ≡ c) → Causes ended r r' a b c d
+causes ended r r' a b c d read no_read write no_write = record {
+  only = record {
+    no_read = no_read;
+    write_reported = λ e. inr (refl, write e);
+    no_write = λ e. (refl, no_write e);
+  };
+  read = read;
 }
+
+-- a fault of the audit, after the rows were read
+pub read_after : (r r' : Option (List ℕ)) (a a' b b' c c' d d' : ℕ) → a' ≡ a → (c' + b' + d' ≡ c + b + d + 1) ⊎ ReachesLimit r r' → (a' + b' + c' + d' ≡ a + b + c + d + 1) ⊎ ReachesLimit r r'
+read_after r r' a a' b b' c c' d d' same (inl more) = inl (omega (arith, same, more))
+read_after r r' a a' b b' c c' d d' same (inr limit) = inr limit
 
 complains_from : (ended : Result Exit Fault) (between old new : Screen) → between.errors ≡ old.errors → between.errors_failed ≡ old.errors_failed → Complains ended between new → Complains ended old new
 complains_from (Ok exit) between old new same kept (failed, errors) = (failed ∙ kept, errors ∙ same)
@@ -41,12 +50,12 @@ pub ran : (setup : Setup) (divisor : ℕ) (old new : Files) (a b : ℕ) (before 
     → before.output ≡ screen_old.output → before.output_failed ≡ screen_old.output_failed → after.output ≡ screen_new.output → after.output_failed ≡ screen_new.output_failed
     → between.errors ≡ screen_old.errors → between.errors_failed ≡ screen_old.errors_failed
     → exit ≡ exit_of ended → AuditRuns setup divisor old new before.output after.output ended
-    → (ended ≢ Err faults.Read → b ≡ a) → (ended ≡ Err faults.Write → after.output_failed ≡ before.output_failed + 1) → (ended ≢ Err faults.Write → after.output_failed ≡ before.output_failed)
+    → (ended ≡ Err faults.Read → (b ≡ a + 1) ⊎ ReachesLimit old.report new.report) → (ended ≢ Err faults.Read → b ≡ a) → (ended ≡ Err faults.Write → after.output_failed ≡ before.output_failed + 1) → (ended ≢ Err faults.Write → after.output_failed ≡ before.output_failed)
     → Complains ended between screen_new → AuditExits setup divisor old new a b screen_old screen_new exit
-ran setup divisor old new a b before after between screen_old screen_new ended exit out count out' count' same kept is runs no_read write no_write told = (
+ran setup divisor old new a b before after between screen_old screen_new ended exit out count out' count' same kept is runs read no_read write no_write told = (
   ended,
   is,
   subst (λ o. AuditRuns setup divisor old new o screen_new.output ended) out (subst (λ o. AuditRuns setup divisor old new before.output o ended) out' runs),
-  subst (λ n. Causes ended a b n screen_new.output_failed) count (subst (λ n. Causes ended a b before.output_failed n) count' (causes ended a b before.output_failed after.output_failed no_read write no_write)),
+  subst (λ n. Causes ended old.report new.report a b n screen_new.output_failed) count (subst (λ n. Causes ended old.report new.report a b before.output_failed n) count' (causes ended old.report new.report a b before.output_failed after.output_failed read no_read write no_write)),
   complains_from ended between screen_old screen_new same kept told,
 )

@@ -115,3 +115,7 @@ pub record AuditsToEnd (t : Terms) (report report_new : Option (List ℕ)) (old 
   pub audits : Audits t report report_between old between out out_between lines place
   pub last : LineIs t (length lines + 1) (standing place (counts_of lines)) behind report_between report_new between new out_between out_new (last_of result)
       ⊎ ((result ≡ Err faults.Read) × (length lines ≡ max_lines) × (out_new ≡ out_between))
+
+-- the lines that were read are the most that one audit takes
+abbrev pub ReachesLimit : Option (List ℕ) → Option (List ℕ) → Type 0
+ReachesLimit report report_new = (lines : List (List ℕ)) × (length lines ≡ max_lines) × Consumes report report_new (text_of lines)

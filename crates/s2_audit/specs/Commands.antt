@@ -13,7 +13,7 @@ use Rattle.s2_link.specs.declared.setup.Setup.{Setup}
 use Rattle.s2_evidence.specs.Inputs.{rows_in}
 use Rattle.s2_audit.specs.Desks.{terms_of}
 use Rattle.s2_audit.specs.Turns.{Evidence}
-use Rattle.s2_audit.specs.Auditing.{AuditsToEnd}
+use Rattle.s2_audit.specs.Auditing.{AuditsToEnd, ReachesLimit}
 
 -- the unread bytes of the files of an audit, if they are known
 pub record Files : Type 0 where
@@ -53,14 +53,15 @@ AuditRuns setup divisor old new out out_new result =
     RefusesRows setup old.rows out out_new result
     ⊎ ((rows : Rows) × IfSome old.rows (λ xs. rows_in (shape_in setup.mode) xs ≡ Ok rows) × AuditsLink (link_of setup rows) divisor old.report new.report old.evidence new.evidence out out_new result)
 
--- only failed calls were counted, and their fault is reported
-abbrev pub Causes : Result Exit Fault → (reads reads_after prints prints_after : ℕ) → Type 0
-Causes ended reads reads_after prints prints_after =
-    OnlyFailed (ended ≡ Err faults.Read) (ended ≡ Err faults.Write) (counted reads prints) (counted reads_after prints_after)
+-- Only failed calls were counted, and their fault is reported. If a fault of reading is reported, a read failed, or as
+-- many lines came as one audit takes
+pub record Causes (ended : Result Exit Fault) (report report_new : Option (List ℕ)) (reads reads_after prints prints_after : ℕ) : Type 0 where
+  pub only : OnlyFailed (ended ≡ Err faults.Read) (ended ≡ Err faults.Write) (counted reads prints) (counted reads_after prints_after)
+  pub read : ended ≡ Err faults.Read → (reads_after ≡ reads + 1) ⊎ ReachesLimit report report_new
 
 -- `audit` has ended with this exit: so it ran on its files and its output, only failed calls were counted, and the line
 -- of a fault is on the errors
 abbrev pub AuditExits : Setup → (divisor : ℕ) → Files → Files → (reads reads_after : ℕ) → Screen → Screen → Exit → Type 0
 AuditExits setup divisor old new reads reads_after screen_old screen_new exit =
     (ended : Result Exit Fault) × (exit ≡ exit_of ended) × AuditRuns setup divisor old new screen_old.output screen_new.output ended
-    × Causes ended reads reads_after screen_old.output_failed screen_new.output_failed × Complains ended screen_old screen_new
+    × Causes ended old.report new.report reads reads_after screen_old.output_failed screen_new.output_failed × Complains ended screen_old screen_new

@@ -1,8 +1,8 @@
 //! The loop over the lines of a report.
-ghost use Rattle.std.specs.Prelude.{◌≡◌, ◌≢◌, ◌+◌, ◌^◌, ◌<◌, Err};
+ghost use Rattle.std.specs.Prelude.{◌≡◌, ◌≢◌, ◌⊎◌, ◌+◌, ◌^◌, ◌<◌, Err};
 ghost use Rattle.s2_mode.specs.Counts.{CanCount};
 ghost use Rattle.s2_audit.specs.Turns.{Turns, evidence_by, standing};
-ghost use Rattle.s2_audit.specs.Auditing.{AuditsToEnd, LineIs, PrintsTurn};
+ghost use Rattle.s2_audit.specs.Auditing.{AuditsToEnd, LineIs, PrintsTurn, ReachesLimit};
 
 use crate::counts::Counts;
 use crate::desk::Desk;
@@ -30,6 +30,7 @@ fn turn<R: CountedRead>(
     ensures turns { let ends = evidence_by R.remaining in Turns desk.old.terms number (standing desk.old.place counts.old) (standing desk.new.place counts.new)
         (R.remaining report.old) (R.remaining report.new) (ends symbols.old certificates.old) (ends symbols.new certificates.new) result }
     ensures terms { desk.new.terms ≡ desk.old.terms }
+    ensures read { result ≡ Err Fault.Read → R.count report.new + R.count symbols.new + R.count certificates.new ≡ R.count report.old + R.count symbols.old + R.count certificates.old + 1 }
     ensures no_read { result ≢ Err Fault.Read → (R.count report.new ≡ R.count report.old) × (R.count symbols.new ≡ R.count symbols.old) × (R.count certificates.new ≡ R.count certificates.old) }
 {
     match next_entry(report, number) {
@@ -81,6 +82,7 @@ fn audit_line<R: CountedRead, O: CountedWrite>(
     ensures line { let ends = evidence_by R.remaining in LineIs desk.old.terms number (standing desk.old.place counts.old) (standing desk.new.place counts.new)
         (R.remaining report.old) (R.remaining report.new) (ends symbols.old certificates.old) (ends symbols.new certificates.new) (O.contents out.old) (O.contents out.new) result }
     ensures terms { desk.new.terms ≡ desk.old.terms }
+    ensures read { result ≡ Err Fault.Read → R.count report.new + R.count symbols.new + R.count certificates.new ≡ R.count report.old + R.count symbols.old + R.count certificates.old + 1 }
     ensures no_read { result ≢ Err Fault.Read → (R.count report.new ≡ R.count report.old) × (R.count symbols.new ≡ R.count symbols.old) × (R.count certificates.new ≡ R.count certificates.old) }
     ensures write { result ≡ Err Fault.Write → O.count out.new ≡ O.count out.old + 1 }
     ensures no_write { result ≢ Err Fault.Write → O.count out.new ≡ O.count out.old }
@@ -107,6 +109,7 @@ pub(crate) fn audit_lines<R: CountedRead, O: CountedWrite>(
     requires place { desk.old.place ≡ 0 }
     ensures audits { let ends = evidence_by R.remaining in AuditsToEnd desk.old.terms (R.remaining report.old) (R.remaining report.new)
         (ends symbols.old certificates.old) (ends symbols.new certificates.new) (O.contents out.old) (O.contents out.new) result }
+    ensures read { result ≡ Err Fault.Read → (R.count report.new + R.count symbols.new + R.count certificates.new ≡ R.count report.old + R.count symbols.old + R.count certificates.old + 1) ⊎ ReachesLimit (R.remaining report.old) (R.remaining report.new) }
     ensures no_read { result ≢ Err Fault.Read → (R.count report.new ≡ R.count report.old) × (R.count symbols.new ≡ R.count symbols.old) × (R.count certificates.new ≡ R.count certificates.old) }
     ensures write { result ≡ Err Fault.Write → O.count out.new ≡ O.count out.old + 1 }
     ensures no_write { result ≢ Err Fault.Write → O.count out.new ≡ O.count out.old }

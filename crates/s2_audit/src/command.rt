@@ -1,10 +1,11 @@
 //! `audit`: checks the certificates of a receiver's report.
-ghost use Rattle.std.specs.Prelude.{◌≡◌, ◌≢◌, ◌+◌, Err};
+ghost use Rattle.std.specs.Prelude.{◌≡◌, ◌≢◌, ◌⊎◌, ◌+◌, Err};
 ghost use Rattle.s2_mode.specs.Counts.{CanCount};
 ghost use Rattle.s2_console.specs.Screens.{CanShow};
 ghost use Rattle.s2_link.specs.Link.{setup_of};
 ghost use Rattle.s2_audit.specs.Commands.{AuditExits, AuditRuns, AuditsLink, failed_by, files_by};
 ghost use Rattle.s2_audit.specs.Turns.{evidence_by};
+ghost use Rattle.s2_audit.specs.Auditing.{ReachesLimit};
 
 use crate::auditing::audit_lines;
 use crate::desk::Desk;
@@ -31,6 +32,7 @@ fn audit_link<R: CountedRead, O: CountedWrite>(
     requires out { CanCount (O.count out.old) }
     ensures audits { let ends = evidence_by R.remaining in AuditsLink link.now divisor (R.remaining report.old) (R.remaining report.new)
         (ends symbols.old certificates.old) (ends symbols.new certificates.new) (O.contents out.old) (O.contents out.new) result }
+    ensures read { result ≡ Err Fault.Read → (R.count report.new + R.count symbols.new + R.count certificates.new ≡ R.count report.old + R.count symbols.old + R.count certificates.old + 1) ⊎ ReachesLimit (R.remaining report.old) (R.remaining report.new) }
     ensures no_read { result ≢ Err Fault.Read → (R.count report.new ≡ R.count report.old) × (R.count symbols.new ≡ R.count symbols.old) × (R.count certificates.new ≡ R.count certificates.old) }
     ensures write { result ≡ Err Fault.Write → O.count out.new ≡ O.count out.old + 1 }
     ensures no_write { result ≢ Err Fault.Write → O.count out.new ≡ O.count out.old }
@@ -59,6 +61,7 @@ fn audit_files<R: CountedRead, O: CountedWrite>(
     requires out { CanCount (O.count out.old) }
     ensures runs { AuditRuns (setup_of setup) divisor (files_by R.remaining rows.old symbols.old report.old certificates.old)
         (files_by R.remaining rows.new symbols.new report.new certificates.new) (O.contents out.old) (O.contents out.new) result }
+    ensures read { result ≡ Err Fault.Read → (R.count rows.new + R.count symbols.new + R.count report.new + R.count certificates.new ≡ R.count rows.old + R.count symbols.old + R.count report.old + R.count certificates.old + 1) ⊎ ReachesLimit (R.remaining report.old) (R.remaining report.new) }
     ensures no_read { result ≢ Err Fault.Read → R.count rows.new + R.count symbols.new + R.count report.new + R.count certificates.new ≡ R.count rows.old + R.count symbols.old + R.count report.old + R.count certificates.old }
     ensures write { result ≡ Err Fault.Write → O.count out.new ≡ O.count out.old + 1 }
     ensures no_write { result ≢ Err Fault.Write → O.count out.new ≡ O.count out.old }

@@ -1,7 +1,8 @@
-use Rattle.std.proofs.Common.{◌≡◌, None, Ok, Err, rules, ap, ◌∙◌}
+use Rattle.std.proofs.Common.{◌≡◌, None, Ok, Err, rules, arith, ap, ◌∙◌, inl, inr}
 use Rattle.s2_console.specs.declared.fault.Fault.TheVariants as faults
+use Rattle.s2_audit.specs.Auditing.{last_of}
 use Rattle.s2_audit.specs.Turns.{standing}
-use Rattle.s2_audit.proofs.AuditLemmas.{begins, ends_by, few_counts, goes_on_by, not_failed, stops_there}
+use Rattle.s2_audit.proofs.AuditLemmas.{begins, ends_by, few_counts, goes_on_by, not_failed, reaches, stops_there}
 use Rattle.s2_audit.proofs.auditing.audit_lines.Goals as goal
 
 pub lines-init : goal.lines-init
@@ -40,3 +41,12 @@ lines-preserved g c =
 
 pub returns-clause-audits : goal.returns-clause-audits
 returns-clause-audits g c = stops_there _ _ _ _ _ _ _ _ _ _ c.lines.invariant.progress (search rules)
+
+pub returns-in-Err-clause-read : goal.returns-in-Err-clause-read
+returns-in-Err-clause-read g c = λ e.
+    let so = c.lines.invariant in
+    let more = c.audit_line.ensures.read (c.in-Err.is ∙ ap last_of e) in
+    inl (omega (arith, more, so.report, so.symbols, so.certificates))
+
+pub returns-clause-read : goal.returns-clause-read
+returns-clause-read g c = λ e. inr (reaches _ _ _ _ _ _ _ _ _ c.lines.invariant.progress (search rules))

@@ -19,4 +19,4 @@ returns-clause-run g c =
     (files done.new.rows done.new.symbols done.new.report done.new.certificates) _ _ before after between c.args.console.now c.conclude.new.self done.result c.conclude.result
     (ap (λ (s : Screen). s.output) was) (ap (λ (s : Screen). s.output_failed) was) (sym c.conclude.ensures.output) (sym c.conclude.ensures.output_failed)
     (ap (λ (s : Screen). s.errors) was) (ap (λ (s : Screen). s.errors_failed) was)
-    c.conclude.ensures.exit done.ensures.runs done.ensures.no_read done.ensures.write done.ensures.no_write c.conclude.ensures.told
+    c.conclude.ensures.exit done.ensures.runs done.ensures.read done.ensures.no_read done.ensures.write done.ensures.no_write c.conclude.ensures.told
