@@ -46,16 +46,16 @@ complains_from : (ended : Result Exit Fault) (between old new : Screen) → betw
 complains_from (Ok exit) between old new same kept (failed, errors) = (failed ∙ kept, errors ∙ same)
 complains_from (Err f) between old new same kept told = λ e. subst (λ o. Appends o new.errors (fault_line f)) same (told (e ∙ sym kept))
 
-pub ran : (setup : Setup) (divisor : ℕ) (old new : Files) (a b : ℕ) (before after between screen_old screen_new : Screen) (ended : Result Exit Fault) (exit : Exit)
+pub ran : (setup : Setup) (divisor : ℕ) (old new : Files) (before after between screen_old screen_new : Screen) (ended : Result Exit Fault) (exit : Exit)
     → before.output ≡ screen_old.output → before.output_failed ≡ screen_old.output_failed → after.output ≡ screen_new.output → after.output_failed ≡ screen_new.output_failed
     → between.errors ≡ screen_old.errors → between.errors_failed ≡ screen_old.errors_failed
     → exit ≡ exit_of ended → AuditRuns setup divisor old new before.output after.output ended
-    → (ended ≡ Err faults.Read → (b ≡ a + 1) ⊎ ReachesLimit old.report new.report) → (ended ≢ Err faults.Read → b ≡ a) → (ended ≡ Err faults.Write → after.output_failed ≡ before.output_failed + 1) → (ended ≢ Err faults.Write → after.output_failed ≡ before.output_failed)
-    → Complains ended between screen_new → AuditExits setup divisor old new a b screen_old screen_new exit
-ran setup divisor old new a b before after between screen_old screen_new ended exit out count out' count' same kept is runs read no_read write no_write told = (
+    → (ended ≡ Err faults.Read → (new.failed ≡ old.failed + 1) ⊎ ReachesLimit old.report new.report) → (ended ≢ Err faults.Read → new.failed ≡ old.failed) → (ended ≡ Err faults.Write → after.output_failed ≡ before.output_failed + 1) → (ended ≢ Err faults.Write → after.output_failed ≡ before.output_failed)
+    → Complains ended between screen_new → AuditExits setup divisor old new screen_old screen_new exit
+ran setup divisor old new before after between screen_old screen_new ended exit out count out' count' same kept is runs read no_read write no_write told = (
   ended,
   is,
   subst (λ o. AuditRuns setup divisor old new o screen_new.output ended) out (subst (λ o. AuditRuns setup divisor old new before.output o ended) out' runs),
-  subst (λ n. Causes ended old.report new.report a b n screen_new.output_failed) count (subst (λ n. Causes ended old.report new.report a b before.output_failed n) count' (causes ended old.report new.report a b before.output_failed after.output_failed read no_read write no_write)),
+  subst (λ n. Causes ended old.report new.report old.failed new.failed n screen_new.output_failed) count (subst (λ n. Causes ended old.report new.report old.failed new.failed before.output_failed n) count' (causes ended old.report new.report old.failed new.failed before.output_failed after.output_failed read no_read write no_write)),
   complains_from ended between screen_old screen_new same kept told,
 )

@@ -15,23 +15,21 @@ use Rattle.s2_audit.specs.Desks.{terms_of}
 use Rattle.s2_audit.specs.Turns.{Evidence}
 use Rattle.s2_audit.specs.Auditing.{AuditsToEnd, ReachesLimit}
 
--- the unread bytes of the files of an audit, if they are known
+-- the unread bytes of the files of an audit, if they are known, and how many of their calls have failed
 pub record Files : Type 0 where
   pub rows : Option (List ℕ)
   pub report : Option (List ℕ)
   pub evidence : Evidence
+  pub failed : ℕ
 
 -- those of four readers
-abbrev pub files_by : {R : Type 0} → (R → Option (List ℕ)) → R → R → R → R → Files
-files_by remaining rows symbols report certificates = record {
+abbrev pub files_by : {R : Type 0} → (R → Option (List ℕ)) → (R → ℕ) → R → R → R → R → Files
+files_by remaining count rows symbols report certificates = record {
   rows = remaining rows;
   report = remaining report;
   evidence = record { symbols = remaining symbols; certificates = remaining certificates };
+  failed = count rows + count symbols + count report + count certificates;
 }
-
--- how many calls of four readers have failed
-abbrev pub failed_by : {R : Type 0} → (R → ℕ) → R → R → R → R → ℕ
-failed_by failed rows symbols report certificates = failed rows + failed symbols + failed report + failed certificates
 
 -- there was no memory for a frame and a certificate, and nothing is printed
 abbrev pub LacksMemory : Option (List ℕ) → Option (List ℕ) → Result Exit Fault → Type 0
@@ -61,7 +59,7 @@ pub record Causes (ended : Result Exit Fault) (report report_new : Option (List 
 
 -- `audit` has ended with this exit: so it ran on its files and its output, only failed calls were counted, and the line
 -- of a fault is on the errors
-abbrev pub AuditExits : Setup → (divisor : ℕ) → Files → Files → (reads reads_after : ℕ) → Screen → Screen → Exit → Type 0
-AuditExits setup divisor old new reads reads_after screen_old screen_new exit =
+abbrev pub AuditExits : Setup → (divisor : ℕ) → Files → Files → Screen → Screen → Exit → Type 0
+AuditExits setup divisor old new screen_old screen_new exit =
     (ended : Result Exit Fault) × (exit ≡ exit_of ended) × AuditRuns setup divisor old new screen_old.output screen_new.output ended
-    × Causes ended old.report new.report reads reads_after screen_old.output_failed screen_new.output_failed × Complains ended screen_old screen_new
+    × Causes ended old.report new.report old.failed new.failed screen_old.output_failed screen_new.output_failed × Complains ended screen_old screen_new

@@ -3,7 +3,7 @@ ghost use Rattle.std.specs.Prelude.{◌≡◌, ◌≢◌, ◌⊎◌, ◌+◌, Er
 ghost use Rattle.s2_mode.specs.Counts.{CanCount};
 ghost use Rattle.s2_console.specs.Screens.{CanShow};
 ghost use Rattle.s2_link.specs.Link.{setup_of};
-ghost use Rattle.s2_audit.specs.Commands.{AuditExits, AuditRuns, AuditsLink, failed_by, files_by};
+ghost use Rattle.s2_audit.specs.Commands.{AuditExits, AuditRuns, AuditsLink, files_by};
 ghost use Rattle.s2_audit.specs.Turns.{evidence_by};
 ghost use Rattle.s2_audit.specs.Auditing.{ReachesLimit};
 
@@ -59,8 +59,8 @@ fn audit_files<R: CountedRead, O: CountedWrite>(
     requires report { CanCount (R.count report.old) }
     requires certificates { CanCount (R.count certificates.old) }
     requires out { CanCount (O.count out.old) }
-    ensures runs { AuditRuns (setup_of setup) divisor (files_by R.remaining rows.old symbols.old report.old certificates.old)
-        (files_by R.remaining rows.new symbols.new report.new certificates.new) (O.contents out.old) (O.contents out.new) result }
+    ensures runs { let ends = files_by R.remaining R.count in AuditRuns (setup_of setup) divisor (ends rows.old symbols.old report.old certificates.old)
+        (ends rows.new symbols.new report.new certificates.new) (O.contents out.old) (O.contents out.new) result }
     ensures read { result ≡ Err Fault.Read → (R.count rows.new + R.count symbols.new + R.count report.new + R.count certificates.new ≡ R.count rows.old + R.count symbols.old + R.count report.old + R.count certificates.old + 1) ⊎ ReachesLimit (R.remaining report.old) (R.remaining report.new) }
     ensures no_read { result ≢ Err Fault.Read → R.count rows.new + R.count symbols.new + R.count report.new + R.count certificates.new ≡ R.count rows.old + R.count symbols.old + R.count report.old + R.count certificates.old }
     ensures write { result ≡ Err Fault.Write → O.count out.new ≡ O.count out.old + 1 }
@@ -105,8 +105,8 @@ pub fn audit_command<R: CountedRead, O: CountedWrite, E: CountedWrite>(
     requires console { CanShow console.old }
     ensures quiet { result ≢ Exit.Fault → console.new.errors_failed ≡ console.old.errors_failed }
     ensures whole { result ≢ Exit.Fault → console.new.output_failed ≡ console.old.output_failed }
-    ensures run { let files = files_by R.remaining in let failed = failed_by R.count in AuditExits (setup_of setup) divisor (files rows.old symbols.old report.old certificates.old)
-        (files rows.new symbols.new report.new certificates.new) (failed rows.old symbols.old report.old certificates.old) (failed rows.new symbols.new report.new certificates.new) console.old console.new result }
+    ensures run { let ends = files_by R.remaining R.count in AuditExits (setup_of setup) divisor (ends rows.old symbols.old report.old certificates.old)
+        (ends rows.new symbols.new report.new certificates.new) console.old console.new result }
 {
     let ended = audit_files(
         alloc,
