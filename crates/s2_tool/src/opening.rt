@@ -1,5 +1,5 @@
 //! Opens files in the order of the command line, and the command's output. Shows its progress.
-ghost use Rattle.std.specs.Prelude.{◌≡◌, ◌≤◌, false, IfOk, IfSome, OnOk, [], length};
+ghost use Rattle.std.specs.Prelude.{All, ◌≡◌, ◌≤◌, false, IfOk, IfSome, OnOk, [], length};
 ghost use Rattle.s2_console.specs.Files.{CanStart};
 ghost use Rattle.s2_console.specs.Screens.{CanNote};
 ghost use Rattle.s2_evidence.specs.Files.{CanJudge};
@@ -156,6 +156,21 @@ pub(crate) fn open_link<'a, 'm, 't, 'r, R: Disk + Clock + AllocGlobal>(
         from: Watched::new(from, show),
         to: Destination::new(Watched::new(to, show)),
     })
+}
+
+/// Opens the files of `audit`. Report and certificates have a buffer.
+pub(crate) fn open_audit<'a, R: Disk + AllocGlobal>(
+    rt: &R,
+    words: &AuditWords<'a>,
+) -> Result<[Input<R>; 4], Fault<'a>>
+    ensures { IfOk result (λ files. All (λ file. file.failed ≡ 0) files.items) }
+{
+    let mut opener = Opener::new(rt);
+    let rows = opener.read(words.rows)?;
+    let symbols = opener.read(words.symbols)?;
+    let report = opener.read_buffered(words.report)?;
+    let certificates = opener.read_buffered(words.certificates)?;
+    Ok([rows, symbols, report, certificates])
 }
 
 /// Opens the files of `noise`, both with a buffer.

@@ -1,0 +1,361 @@
+-- An audit, turn by turn.
+use Rattle.std.proofs.Common.{◌≡◌, ◌≢◌, ◌⊎◌, ℕ, ◌+◌, ◌*◌, ◌<◌, ◌≤◌, ℤ, Bool, true, false, List, [], ◌∷◌, ◌++◌, All, Option, Some, None, Result, Ok, Err, length, map, refl, sym, ap, ap₂, subst, ◌∙◌, append-nil, append_assoc, length-append, arith, inl, inr}
+use Rattle.std.specs.Prelude.{if◌then◌else◌}
+use Rattle.std.specs.List.{flat_map, count_by}
+use Rattle.std.specs.Io.KnownBytes.{Appends, Consumes, IsAtEnd}
+use Rattle.std.proofs.KnownBytes.{Appends-nil, Appends-trans, Consumes-nil, Consumes-trans}
+use Rattle.std.proofs.lemmas.List.{map_push}
+use Rattle.std.proofs.lemmas.List.Concat.{flat_map-append}
+use Rattle.std.proofs.lemmas.List.Elements.{All-nil, All-push, All-weaker}
+use Rattle.std.proofs.lemmas.List.Sums.{sum_by_push, count_by-le-length}
+use Rattle.s2_certfile.specs.File.{File}
+use Rattle.s2_certfile.specs.Format.{file_of_bytes}
+use Rattle.s2_certfile.specs.declared.fault.CertFault.{CertFault}
+use Rattle.s2_check.specs.CertificateFiles.{view_of}
+use Rattle.s2_check.specs.Cost.{cost}
+use Rattle.s2_check.specs.Verdicts.{is_certified}
+use Rattle.s2_check.specs.declared.verdict.Verdict.{Verdict}
+use Rattle.s2_rows.specs.Rows.{Rows}
+use Rattle.s2_audit.specs.declared.counts.Counts.{Counts}
+use Rattle.s2_audit.specs.declared.entry.Frame.{Frame}
+use Rattle.s2_audit.specs.declared.entry.Entry.{Entry}
+use Rattle.s2_audit.specs.declared.entry.Entry.TheVariants as entries
+use Rattle.s2_audit.specs.declared.judging.Finding.{Finding}
+use Rattle.s2_audit.specs.declared.judging.Finding.TheVariants.{Shown, Failed}
+use Rattle.s2_audit.specs.declared.turning.Turn.{Turn}
+use Rattle.s2_audit.specs.declared.turning.Turn.TheVariants as turns
+use Rattle.s2_console.specs.declared.exit.Exit.{Exit}
+use Rattle.s2_console.specs.declared.fault.Fault.{Fault}
+use Rattle.s2_console.specs.declared.fault.Fault.TheVariants as faults
+use Rattle.s2_mode.specs.Mode.{symbols_in}
+use Rattle.s2_audit.specs.Desks.{Terms, ReadsFrame, frame_soft}
+use Rattle.s2_audit.specs.Entries.{certified_in, certified_of, counted, counted_with, counts_of, entry_in, is_frame, is_most_likely, is_sole, text_of, IsLine}
+use Rattle.s2_audit.specs.Limits.{frame_bytes, max_lines}
+use Rattle.s2_audit.specs.Lines.{shown_line}
+use Rattle.s2_audit.specs.Reading.{GivesEntry, NextEntry}
+use Rattle.s2_audit.specs.Showing.{Finds, FindsFile, FindsParsed}
+use Rattle.s2_audit.specs.Turns.{Evidence, EndTurn, EntryTurn, FrameTurn, Judges, LineTurn, SilentTurn, Standing, Turns, standing}
+use Rattle.s2_audit.specs.Auditing.{Audits, AuditsToEnd, Checked, IsAt, IsChecked, IsReadable, LineIs, PrintsTurn, ReachesLimit, Shows, last_of, line_of, turn_exit, turn_text}
+
+-- ---- the counts of one line more
+
+count_push : {X : Type 0} (p : X → Bool) (xs : List X) (x : X) → count_by p (xs ++ x ∷ []) ≡ count_by p xs + (if p x then 1 else 0)
+count_push p xs x = sum_by_push (λ y. if p y then 1 else 0) xs x
+
+abbrev made : ℕ → ℕ → ℕ → Counts
+made a b c = record { frames = a; sole = b; most_likely = c }
+
+made_as : (a b c a' b' c' : ℕ) → a ≡ a' → b ≡ b' → c ≡ c' → made a b c ≡ made a' b' c'
+made_as a b c a' b' c' p q r = ap (λ x. made x b c) p ∙ ap (λ x. made a' x c) q ∙ ap (λ x. made a' b' x) r
+
+counts_by_entry : (counts : Counts) (entry : Entry)
+    → made (counts.frames + (if is_frame (λ v. true) (Some entry) then 1 else 0)) (counts.sole + (if is_frame is_sole (Some entry) then 1 else 0)) (counts.most_likely + (if is_frame is_most_likely (Some entry) then 1 else 0))
+    ≡ counted_with counts entry
+counts_by_entry counts entries.Other =
+    let a : counts.frames + 0 ≡ counts.frames = omega arith in
+    let b : counts.sole + 0 ≡ counts.sole = omega arith in
+    let c : counts.most_likely + 0 ≡ counts.most_likely = omega arith in
+    made_as (counts.frames + 0) (counts.sole + 0) (counts.most_likely + 0) counts.frames counts.sole counts.most_likely a b c
+counts_by_entry counts (entries.Frame frame) = refl
+
+pub counts_push : (lines : List (List ℕ)) (line : List ℕ) (entry : Entry) → entry_in line ≡ Some entry → counts_of (lines ++ line ∷ []) ≡ counted_with (counts_of lines) entry
+counts_push lines line entry says =
+    let p : (Verdict → Bool) → List ℕ → Bool = λ q l. is_frame q (entry_in l) in
+    made_as _ _ _ _ _ _ (count_push (p (λ v. true)) lines line) (count_push (p is_sole) lines line) (count_push (p is_most_likely) lines line)
+    ∙ ap (λ o. made ((counts_of lines).frames + (if is_frame (λ v. true) o then 1 else 0)) ((counts_of lines).sole + (if is_frame is_sole o then 1 else 0)) ((counts_of lines).most_likely + (if is_frame is_most_likely o then 1 else 0))) says
+    ∙ counts_by_entry (counts_of lines) entry
+
+-- ---- what a certificate shows
+
+shows_parsed : (rows : Rows) (soft : List ℤ) (verdict : Verdict) (said : Result File CertFault) (found : ℤ) → FindsParsed rows soft verdict said (Shown found)
+    → (file : File) × (said ≡ Ok file) × Shows rows soft verdict file × (found ≡ cost file.soft file.bits)
+shows_parsed rows soft verdict (Ok file) found (inl (suits, (values, accepted, strict, is))) = (file, refl, record { values = values; suits = suits; accepted = accepted; strict = strict }, is)
+shows_parsed rows soft verdict (Ok file) found (inr (unsuited, is)) = cc
+shows_parsed rows soft verdict (Err fault) found is = cc
+
+-- ---- frames at their places
+
+IsAt-more : (whole more part : List ℕ) (place : ℕ) → IsAt whole place part → IsAt (whole ++ more) place part
+IsAt-more whole more part place (before, after, long, is) =
+    (before, after ++ more, long, ap (λ l. l ++ more) is ∙ append_assoc before (part ++ after) more ∙ ap (λ l. before ++ l) (append_assoc part after more))
+
+IsAt-last : (whole skipped part : List ℕ) (place : ℕ) → length whole + length skipped ≡ place → IsAt (whole ++ (skipped ++ part)) place part
+IsAt-last whole skipped part place long =
+    (whole ++ skipped, [], length-append whole skipped ∙ long, ap (λ l. whole ++ (skipped ++ l)) (sym (append-nil part)) ∙ sym (append_assoc whole skipped (part ++ [])))
+
+IsChecked-more : (t : Terms) (recording more : List ℕ) (c : Checked) → IsChecked t recording c → IsChecked t (recording ++ more) c
+IsChecked-more t recording more c h = record {
+  place = IsAt-more recording more c.symbols (4 * c.frame.at) h.place;
+  whole = h.whole;
+  long = h.long;
+  parsed = h.parsed;
+  shown = h.shown;
+}
+
+-- ---- the audit so far
+
+-- so many lines were audited, and these are their counts
+pub record Progress (t : Terms) (n : ℕ) (r r' : Option (List ℕ)) (old new : Evidence) (o o' : Option (List ℕ)) (is : Standing) : Type 0 where
+  pub lines : List (List ℕ)
+  pub audits : Audits t r r' old new o o' lines is.place
+  pub number : length lines ≡ n
+  pub counts : is.counts ≡ counts_of lines
+
+pub begins : (t : Terms) (r : Option (List ℕ)) (old : Evidence) (o : Option (List ℕ)) (is : Standing) → is.place ≡ 0 → is.counts ≡ made 0 0 0 → Progress t 0 r r old old o o is
+begins t r old o is place none = record {
+  lines = [];
+  audits = record {
+    checked = [];
+    recording = [];
+    readable = All-nil IsReadable;
+    frames = refl;
+    each = All-nil (IsChecked t []);
+    report_read = Consumes-nil r;
+    symbols_read = Consumes-nil old.symbols;
+    symbols_long = ap (λ n. 4 * n) (sym place);
+    certificates_read = Consumes-nil old.certificates;
+    printed = Appends-nil o;
+  };
+  number = refl;
+  counts = none;
+}
+
+readable_line : (r r' : Option (List ℕ)) (line : List ℕ) (entry : Entry) → GivesEntry r r' line entry → IsReadable line
+readable_line r r' line entry given = (given.whole, λ none. (let e : Some entry ≡ None = sym given.says ∙ none in cc))
+
+certified_push : (lines : List (List ℕ)) (line : List ℕ) (entry : Entry) → entry_in line ≡ Some entry → certified_in (lines ++ line ∷ []) ≡ certified_in lines ++ certified_of (Some entry)
+certified_push lines line entry says =
+    flat_map-append (λ l. certified_of (entry_in l)) lines (line ∷ []) ∙ ap (λ l. certified_in lines ++ l) (append-nil (certified_of (entry_in line)) ∙ ap certified_of says)
+
+text_push : (lines : List (List ℕ)) (line : List ℕ) → text_of (lines ++ line ∷ []) ≡ text_of lines ++ (line ++ 10 ∷ [])
+text_push lines line = flat_map-append (λ l. l ++ 10 ∷ []) lines (line ∷ []) ∙ ap (λ l. text_of lines ++ l) (append-nil (line ++ 10 ∷ []))
+
+flat_push : {X : Type 0} (f : X → List ℕ) (xs : List X) (x : X) → flat_map f (xs ++ x ∷ []) ≡ flat_map f xs ++ f x
+flat_push f xs x = flat_map-append f xs (x ∷ []) ∙ ap (λ l. flat_map f xs ++ l) (append-nil (f x))
+
+-- a line that needs no certificate
+goes_silent : (t : Terms) (r r' r'' : Option (List ℕ)) (old new : Evidence) (o o' : Option (List ℕ)) (lines : List (List ℕ)) (line : List ℕ) (entry : Entry) (place : ℕ)
+    → Audits t r r' old new o o' lines place → GivesEntry r' r'' line entry → certified_of (Some entry) ≡ [] → Audits t r r'' old new o o' (lines ++ line ∷ []) place
+goes_silent t r r' r'' old new o o' lines line entry place a given none = record {
+  checked = a.checked;
+  recording = a.recording;
+  readable = All-push IsReadable lines line a.readable (readable_line r' r'' line entry given);
+  frames = certified_push lines line entry given.says ∙ ap (λ l. certified_in lines ++ l) none ∙ append-nil (certified_in lines) ∙ a.frames;
+  each = a.each;
+  report_read = subst (Consumes r r'') (sym (text_push lines line)) (Consumes-trans r r' r'' (text_of lines) (line ++ 10 ∷ []) a.report_read given.read);
+  symbols_read = a.symbols_read;
+  symbols_long = a.symbols_long;
+  certificates_read = a.certificates_read;
+  printed = a.printed;
+}
+
+-- a line whose frame is shown
+module _ (t : Terms) (r r' r'' : Option (List ℕ)) (old new new' : Evidence) (o o' o'' : Option (List ℕ)) (lines : List (List ℕ)) (line : List ℕ) (frame : Frame) (place behind : ℕ) (a : Audits t r r' old new o o' lines place) (given : GivesEntry r' r'' line (entries.Frame frame)) (certified : is_certified frame.verdict ≡ true) (found : ℤ) (j : Judges t place behind new new' frame (Shown found)) where
+  goes_by : (file : File) → file_of_bytes j.block ≡ Ok file → Shows t.rows (frame_soft t j.judged.symbols) frame.verdict file → found ≡ cost file.soft file.bits → Appends o' o'' (shown_line frame found)
+      → Audits t r r'' old new' o o'' (lines ++ line ∷ []) behind
+  goes_by file parsed shown is printed =
+      let f = j.judged.symbols_read in
+      let c : Checked = record { frame = frame; symbols = j.judged.symbols; block = j.block; file = file } in
+      let more : List ℕ = f.skipped ++ j.judged.symbols in
+      let recording : List ℕ = a.recording ++ more in
+      let at : length a.recording + length f.skipped ≡ 4 * frame.at = ap (λ n. n + length f.skipped) a.symbols_long ∙ f.place_is in
+      let checked : IsChecked t recording c = record {
+        place = IsAt-last a.recording f.skipped j.judged.symbols (4 * frame.at) at;
+        whole = f.whole;
+        long = j.long;
+        parsed = parsed;
+        shown = shown;
+      } in
+      let total : length recording ≡ length a.recording + (length f.skipped + length j.judged.symbols) = length-append a.recording more ∙ ap (λ n. length a.recording + n) (length-append f.skipped j.judged.symbols) in
+      let whole : length j.judged.symbols ≡ 4 * symbols_in t.mode = f.whole in
+      let one : certified_of (Some (entries.Frame frame)) ≡ frame ∷ [] = ap (λ b. if b then frame ∷ [] else []) certified in
+      record {
+        checked = a.checked ++ c ∷ [];
+        recording = recording;
+        readable = All-push IsReadable lines line a.readable (readable_line r' r'' line (entries.Frame frame) given);
+        frames = certified_push lines line (entries.Frame frame) given.says ∙ ap₂ (λ xs ys. xs ++ ys) a.frames one ∙ sym (map_push (λ (x : Checked). x.frame) a.checked c);
+        each = All-push (IsChecked t recording) a.checked c (All-weaker (IsChecked t a.recording) (IsChecked t recording) (λ x h. IsChecked-more t a.recording more x h) a.checked a.each) checked;
+        report_read = subst (Consumes r r'') (sym (text_push lines line)) (Consumes-trans r r' r'' (text_of lines) (line ++ 10 ∷ []) a.report_read given.read);
+        symbols_read = Consumes-trans old.symbols new.symbols new'.symbols a.recording more a.symbols_read f.read;
+        symbols_long = omega (arith, total, at, whole, j.judged.behind_it);
+        certificates_read = subst (Consumes old.certificates new'.certificates) (sym (flat_push (λ (x : Checked). x.block) a.checked c))
+            (Consumes-trans old.certificates new.certificates new'.certificates (flat_map (λ (x : Checked). x.block) a.checked) j.block a.certificates_read j.read);
+        printed = subst (Appends o o'') (sym (flat_push line_of a.checked c))
+            (Appends-trans o o' o'' (flat_map line_of a.checked) (line_of c) a.printed (subst (λ z. Appends o' o'' (shown_line frame z)) is printed));
+      }
+
+  goes_shown : Appends o' o'' (shown_line frame found) → Audits t r r'' old new' o o'' (lines ++ line ∷ []) behind
+  goes_shown printed =
+      let (file, parsed, shown, is) = shows_parsed t.rows (frame_soft t j.judged.symbols) frame.verdict (file_of_bytes j.block) found j.judged.found in
+      goes_by file parsed shown is printed
+
+-- what was printed and what was read move on
+moved_on : (t : Terms) (r r' : Option (List ℕ)) (old new new' : Evidence) (o o' o'' : Option (List ℕ)) (lines : List (List ℕ)) (place behind : ℕ)
+    → Audits t r r' old new o o' lines place → new' ≡ new → behind ≡ place → Appends o' o'' [] → Audits t r r' old new' o o'' lines behind
+moved_on t r r' old new new' o o' o'' lines place behind a same here none =
+    subst (λ (e : Evidence). Audits t r r' old e o o'' lines behind) (sym same) (subst (λ k. Audits t r r' old new o o'' lines k) (sym here) (record {
+      checked = a.checked;
+      recording = a.recording;
+      readable = a.readable;
+      frames = a.frames;
+      each = a.each;
+      report_read = a.report_read;
+      symbols_read = a.symbols_read;
+      symbols_long = a.symbols_long;
+      certificates_read = a.certificates_read;
+      printed = subst (Appends o o'') (append-nil (flat_map line_of a.checked)) (Appends-trans o o' o'' (flat_map line_of a.checked) [] a.printed none);
+    }))
+
+module _ (t : Terms) (r r' r'' : Option (List ℕ)) (old new new' : Evidence) (o o' o'' : Option (List ℕ)) (lines : List (List ℕ)) (place behind : ℕ) (a : Audits t r r' old new o o' lines place) where
+  after_entry : (line : List ℕ) (entry : Entry) (turn : Turn) → GivesEntry r' r'' line entry → EntryTurn t place behind new new' entry (Ok turn) → None ≡ turn_exit turn → Appends o' o'' (turn_text turn)
+      → Audits t r r'' old new' o o'' (lines ++ line ∷ []) behind
+  after_entry line entries.Other turns.Silent given (is, here, same) goes app =
+      moved_on t r r'' old new new' o o' o'' (lines ++ line ∷ []) place behind (goes_silent t r r' r'' old new o o' lines line entries.Other place a given refl) same here app
+  after_entry line entries.Other (turns.Shown text) given (is, here, same) goes app = cc
+  after_entry line entries.Other (turns.Ended printed) given h goes app = cc
+  after_entry line (entries.Frame frame) turns.Silent given (inl (un, (is, here, same))) goes app =
+      moved_on t r r'' old new new' o o' o'' (lines ++ line ∷ []) place behind
+      (goes_silent t r r' r'' old new o o' lines line (entries.Frame frame) place a given (ap (λ b. if b then frame ∷ [] else []) un)) same here app
+  after_entry line (entries.Frame frame) turns.Silent given (inr (certified, h)) goes app = absurd h
+  after_entry line (entries.Frame frame) (turns.Shown text) given (inl (un, (is, here, same))) goes app = cc
+  after_entry line (entries.Frame frame) (turns.Shown text) given (inr (certified, (found, judged, said))) goes app =
+      goes_shown t r r' r'' old new new' o o' o'' lines line frame place behind a given certified found judged (subst (Appends o' o'') said app)
+  after_entry line (entries.Frame frame) (turns.Ended printed) given h goes app = cc
+
+no_end : (counts : Counts) (a b : Option (List ℕ)) (turn : Turn) → EndTurn counts a b (Ok turn) → None ≡ turn_exit turn → ⊥
+no_end counts a b turns.Silent h e = h
+no_end counts a b (turns.Shown text) h e = h
+no_end counts a b (turns.Ended printed) h e = cc
+
+pub goes_on : (t : Terms) (n : ℕ) (r r' r'' : Option (List ℕ)) (old new new' : Evidence) (o o' o'' : Option (List ℕ)) (is is' : Standing)
+    → Progress t n r r' old new o o' is → LineIs t (n + 1) is is' r' r'' new new' o' o'' (Ok None) → Progress t (n + 1) r r'' old new' o o'' is'
+goes_on t n r r' r'' old new new' o o' o'' is is' p (turn, inl l, (goes, app)) = record {
+  lines = p.lines ++ l.line ∷ [];
+  audits = after_entry t r r' r'' old new new' o o' o'' p.lines is.place is'.place p.audits l.line l.entry turn l.given l.turn goes app;
+  number = length-append p.lines (l.line ∷ []) ∙ ap (λ k. k + 1) p.number;
+  counts = l.counted_is ∙ ap (λ c. counted_with c l.entry) p.counts ∙ sym (counts_push p.lines l.line l.entry l.given.says);
+}
+goes_on t n r r' r'' old new new' o o' o'' is is' p (turn, inr (inl last), (goes, app)) = absurd (no_end is.counts new.certificates new'.certificates turn last.turn goes)
+goes_on t n r r' r'' old new new' o o' o'' is is' p (turn, inr (inr (inl (bad, u))), (goes, app)) = cc
+goes_on t n r r' r'' old new new' o o' o'' is is' p (turn, inr (inr (inr bad)), (goes, app)) = cc
+
+pub ends : (t : Terms) (n place : ℕ) (counts : Counts) (r r' r'' : Option (List ℕ)) (old new new' : Evidence) (o o' o'' : Option (List ℕ)) (is' : Standing) (result : Result Exit Fault)
+    → Progress t n r r' old new o o' (standing place counts) → LineIs t (n + 1) (standing place counts) is' r' r'' new new' o' o'' (last_of result) → AuditsToEnd t r r'' old new' o o'' result
+ends t n place counts r r' r'' old new new' o o' o'' is' result p h = record {
+  lines = p.lines;
+  place = place;
+  report_between = r';
+  between = new;
+  out_between = o';
+  behind = is';
+  audits = p.audits;
+  last = inl (subst (λ k. LineIs t k (standing place (counts_of p.lines)) is' r' r'' new new' o' o'' (last_of result)) (ap (λ k. k + 1) (sym p.number))
+      (subst (λ c. LineIs t (n + 1) (standing place c) is' r' r'' new new' o' o'' (last_of result)) p.counts h));
+}
+
+pub stops_there : (t : Terms) (n place : ℕ) (counts : Counts) (r r' : Option (List ℕ)) (old new : Evidence) (o o' : Option (List ℕ)) → Progress t n r r' old new o o' (standing place counts) → n ≡ max_lines → AuditsToEnd t r r' old new o o' (Err faults.Read)
+stops_there t n place counts r r' old new o o' p most = record {
+  lines = p.lines;
+  place = place;
+  report_between = r';
+  between = new;
+  out_between = o';
+  behind = standing place counts;
+  audits = p.audits;
+  last = inr (refl, p.number ∙ most, refl);
+}
+
+-- the counts are at most the lines
+pub few_counts : (t : Terms) (n : ℕ) (r r' : Option (List ℕ)) (old new : Evidence) (o o' : Option (List ℕ)) (is : Standing) → Progress t n r r' old new o o' is → n < max_lines
+    → (is.counts.frames < 4611686018427387904) × (is.counts.sole < 4611686018427387904) × (is.counts.most_likely < 4611686018427387904)
+few_counts t n r r' old new o o' is p few =
+    let p1 : (Verdict → Bool) → List ℕ → Bool = λ q l. is_frame q (entry_in l) in
+    let f : is.counts.frames ≡ (counts_of p.lines).frames = ap (λ (c : Counts). c.frames) p.counts in
+    let s : is.counts.sole ≡ (counts_of p.lines).sole = ap (λ (c : Counts). c.sole) p.counts in
+    let m : is.counts.most_likely ≡ (counts_of p.lines).most_likely = ap (λ (c : Counts). c.most_likely) p.counts in
+    let fn : (counts_of p.lines).frames ≤ length p.lines = count_by-le-length (p1 (λ v. true)) p.lines in
+    let sn : (counts_of p.lines).sole ≤ length p.lines = count_by-le-length (p1 is_sole) p.lines in
+    let mn : (counts_of p.lines).most_likely ≤ length p.lines = count_by-le-length (p1 is_most_likely) p.lines in
+    let long : length p.lines ≡ n = p.number in
+    let less : n < 1099511627776 = few in
+    (omega (arith, f, fn, long, less), omega (arith, s, sn, long, less), omega (arith, m, mn, long, less))
+
+-- ---- a turn
+
+pub turn_fault : (t : Terms) (n : ℕ) (was is : Standing) (r r' : Option (List ℕ)) (old new : Evidence) (f : Fault) → NextEntry n r r' (Err f) → Turns t n was is r r' old new (Err f)
+turn_fault t n was is r r' old new faults.Read h = inr (inr (inr refl))
+turn_fault t n was is r r' old new faults.Write (e, u) = inr (inr (inl (ap Err e, u)))
+turn_fault t n was is r r' old new faults.TooLong (e, u) = inr (inr (inl (ap Err e, u)))
+turn_fault t n was is r r' old new faults.NoMemory (e, u) = inr (inr (inl (ap Err e, u)))
+turn_fault t n was is r r' old new (faults.Open name) (e, u) = inr (inr (inl (ap Err e, u)))
+turn_fault t n was is r r' old new (faults.UsedTwice name) (e, u) = inr (inr (inl (ap Err e, u)))
+turn_fault t n was is r r' old new (faults.Rows text) (e, u) = inr (inr (inl (ap Err e, u)))
+turn_fault t n was is r r' old new (faults.Refused text) (e, u) = inr (inr (inl (ap Err e, u)))
+
+pub turn_end : (t : Terms) (n : ℕ) (was is : Standing) (r r' : Option (List ℕ)) (old new : Evidence) (result : Result Turn Fault) → NextEntry n r r' (Ok None) → EndTurn was.counts old.certificates new.certificates result → Turns t n was is r r' old new result
+turn_end t n was is r r' old new result (none, end) h = inr (inl (record { none = none; end = end; turn = h }))
+
+pub turn_line : (t : Terms) (n : ℕ) (was is : Standing) (r r' : Option (List ℕ)) (old new : Evidence) (entry : Entry) (result : Result Turn Fault)
+    → NextEntry n r r' (Ok (Some entry)) → is.counts ≡ counted_with was.counts entry → EntryTurn t was.place is.place old new entry result → Turns t n was is r r' old new result
+turn_line t n was is r r' old new entry result ((line, given), small) counted h = inl (record { line = line; entry = entry; given = given; turn = h; counted_is = counted })
+
+-- a turn does not write
+pub never_write : (t : Terms) (n : ℕ) (was is : Standing) (r r' : Option (List ℕ)) (old new : Evidence) → Turns t n was is r r' old new (Err faults.Write) → ⊥
+never_write t n was is r r' old new (inl l) = by_entry l.entry l.turn
+  where
+    by_entry : (entry : Entry) → EntryTurn t was.place is.place old new entry (Err faults.Write) → ⊥
+    by_entry entries.Other (bad, here, same) = cc
+    by_entry (entries.Frame frame) (inl (un, (bad, here, same))) = cc
+    by_entry (entries.Frame frame) (inr (certified, (bad, cut))) = cc
+never_write t n was is r r' old new (inr (inl last)) = last.turn
+never_write t n was is r r' old new (inr (inr (inl (bad, u)))) = cc
+never_write t n was is r r' old new (inr (inr (inr bad))) = cc
+
+pub line_fails : (t : Terms) (n : ℕ) (was is : Standing) (r r' : Option (List ℕ)) (old new : Evidence) (o : Option (List ℕ)) (f : Fault) → Turns t n was is r r' old new (Err f) → LineIs t n was is r r' old new o o (Err f)
+line_fails t n was is r r' old new o faults.Write h = absurd (never_write t n was is r r' old new h)
+line_fails t n was is r r' old new o faults.Read h = (h, refl)
+line_fails t n was is r r' old new o faults.TooLong h = (h, refl)
+line_fails t n was is r r' old new o faults.NoMemory h = (h, refl)
+line_fails t n was is r r' old new o (faults.Open name) h = (h, refl)
+line_fails t n was is r r' old new o (faults.UsedTwice name) h = (h, refl)
+line_fails t n was is r r' old new o (faults.Rows text) h = (h, refl)
+line_fails t n was is r r' old new o (faults.Refused text) h = (h, refl)
+
+pub line_prints : (t : Terms) (n : ℕ) (was is : Standing) (r r' : Option (List ℕ)) (old new : Evidence) (o o' : Option (List ℕ)) (turn : Turn) (result : Result (Option Exit) Fault)
+    → Turns t n was is r r' old new (Ok turn) → PrintsTurn turn o o' result → LineIs t n was is r r' old new o o' result
+line_prints t n was is r r' old new o o' turn (Ok exit) h p = (turn, h, p)
+line_prints t n was is r r' old new o o' turn (Err faults.Write) h p = (turn, h, p)
+line_prints t n was is r r' old new o o' turn (Err faults.Read) h p = absurd p
+line_prints t n was is r r' old new o o' turn (Err faults.TooLong) h p = absurd p
+line_prints t n was is r r' old new o o' turn (Err faults.NoMemory) h p = absurd p
+line_prints t n was is r r' old new o o' turn (Err (faults.Open name)) h p = absurd p
+line_prints t n was is r r' old new o o' turn (Err (faults.UsedTwice name)) h p = absurd p
+line_prints t n was is r r' old new o o' turn (Err (faults.Rows text)) h p = absurd p
+line_prints t n was is r r' old new o o' turn (Err (faults.Refused text)) h p = absurd p
+
+-- ---- the loop
+
+pub ends_by : {t t' : Terms} {n place : ℕ} {counts : Counts} {r r' r'' : Option (List ℕ)} {old new new' : Evidence} {o o' o'' : Option (List ℕ)} {said : Result (Option Exit) Fault} (is' : Standing) (result : Result Exit Fault)
+    → t' ≡ t → said ≡ last_of result → Progress t n r r' old new o o' (standing place counts) → LineIs t' (n + 1) (standing place counts) is' r' r'' new new' o' o'' said → AuditsToEnd t r r'' old new' o o'' result
+ends_by {t} {t'} {n} {place} {counts} {r} {r'} {r''} {old} {new} {new'} {o} {o'} {o''} {said} is' result same is p h =
+    ends t n place counts r r' r'' old new new' o o' o'' is' result p
+    (subst (λ (x : Terms). LineIs x (n + 1) (standing place counts) is' r' r'' new new' o' o'' (last_of result)) same
+    (subst (λ (x : Result (Option Exit) Fault). LineIs t' (n + 1) (standing place counts) is' r' r'' new new' o' o'' x) is h))
+
+pub goes_on_by : {t t' : Terms} {n place : ℕ} {counts : Counts} {r r' r'' : Option (List ℕ)} {old new new' : Evidence} {o o' o'' : Option (List ℕ)} {is' : Standing} {said : Result (Option Exit) Fault}
+    → t' ≡ t → said ≡ Ok None → Progress t n r r' old new o o' (standing place counts) → LineIs t' (n + 1) (standing place counts) is' r' r'' new new' o' o'' said → Progress t (n + 1) r r'' old new' o o'' is'
+goes_on_by {t} {t'} {n} {place} {counts} {r} {r'} {r''} {old} {new} {new'} {o} {o'} {o''} {is'} {said} same is p h =
+    goes_on t n r r' r'' old new new' o o' o'' (standing place counts) is' p
+    (subst (λ (x : Terms). LineIs x (n + 1) (standing place counts) is' r' r'' new new' o' o'' (Ok None)) same
+    (subst (λ (x : Result (Option Exit) Fault). LineIs t' (n + 1) (standing place counts) is' r' r'' new new' o' o'' x) is h))
+
+pub not_failed : (said : Result (Option Exit) Fault) (f : Fault) → said ≡ Ok None → said ≡ Err f → ⊥
+not_failed said f ok bad = cc
+
+-- ---- what a turn prints
+
+pub prints_silent : (turn : Turn) (o : Option (List ℕ)) → turn ≡ turns.Silent → PrintsTurn turn o o (Ok None)
+prints_silent turn o is = subst (λ (x : Turn). PrintsTurn x o o (Ok None)) (sym is) (refl, Appends-nil o)
+
+pub reaches : (t : Terms) (n : ℕ) (r r' : Option (List ℕ)) (old new : Evidence) (o o' : Option (List ℕ)) (is : Standing) → Progress t n r r' old new o o' is → n ≡ max_lines → ReachesLimit r r'
+reaches t n r r' old new o o' is p most = (p.lines, p.number ∙ most, p.audits.report_read)

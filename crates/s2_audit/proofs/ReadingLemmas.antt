@@ -1,0 +1,65 @@
+-- What is read of a report and of a recording, byte by byte and symbol by symbol.
+use Rattle.std.proofs.Common.{◌≡◌, ℕ, ◌+◌, ◌*◌, ◌<◌, ◌≤◌, ◌==◌, Bool, true, false, List, [], ◌∷◌, ◌++◌, All, Option, Some, None, length, take, refl, sym, ap, subst, ◌∙◌, append-nil, length-append, arith, inl, inr}
+use Rattle.std.specs.Io.KnownBytes.{Consumes, IsAtEnd}
+use Rattle.std.proofs.KnownBytes.{Consumes-nil, Consumes-trans}
+use Rattle.std.proofs.lemmas.List.{length-take-le, take_all}
+use Rattle.std.proofs.lemmas.List.Elements.{All-nil, All-push}
+use Rattle.s2_mode.specs.declared.symbols.Symbol.{Symbol}
+use Rattle.s2_mode.specs.Symbols.{YieldsSymbol}
+use Rattle.s2_rows.specs.Text.{is_line_feed}
+use Rattle.s2_audit.specs.Entries.{IsLine}
+use Rattle.s2_audit.specs.Limits.{line_bytes}
+use Rattle.s2_audit.specs.Reading.{EndsBefore, GivesByte, GivesLine, ReadsAt, Skips}
+
+-- ---- symbols
+
+pub skip_none : (a : Option (List ℕ)) → Skips 0 a a true
+skip_none a = ([], refl, Consumes-nil a)
+
+pub skip_more : (n : ℕ) (a b c : Option (List ℕ)) (symbol : Symbol) → Skips n a b true → YieldsSymbol b c (Some symbol) → Skips (n + 1) a c true
+skip_more n a b c symbol (bytes, long, read) (more, four, is, then) =
+    let total : length (bytes ++ more) ≡ length bytes + length more = length-append bytes more in
+    (bytes ++ more, omega (arith, total, long, four), Consumes-trans a b c bytes more read then)
+
+pub skip_ends : (n count : ℕ) (a b c : Option (List ℕ)) → n < count → Skips n a b true → YieldsSymbol b c None → EndsBefore (4 * count) a c
+skip_ends n count a b c few (bytes, long, read) (more, short, then, end) =
+    let total : length (bytes ++ more) ≡ length bytes + length more = length-append bytes more in
+    (bytes ++ more, omega (arith, total, long, short, few), Consumes-trans a b c bytes more read then, end)
+
+-- ---- a line
+
+-- these bytes of a line so far
+pub record LineSoFar (a b : Option (List ℕ)) (line : List ℕ) : Type 0 where
+  pub whole : IsLine line
+  pub read : Consumes a b line
+
+pub line_none : (a : Option (List ℕ)) (line : List ℕ) → line ≡ [] → LineSoFar a a line
+line_none a line e = subst (LineSoFar a a) (sym e) (record { whole = All-nil (λ b. is_line_feed b ≡ false); read = Consumes-nil a })
+
+pub line_more : (a b c : Option (List ℕ)) (line line' : List ℕ) (byte : ℕ) → LineSoFar a b line → GivesByte b c (Some byte) → is_line_feed byte ≡ false → line' ≡ line ++ byte ∷ [] → LineSoFar a c line'
+line_more a b c line line' byte so next other is =
+    subst (LineSoFar a c) (sym is) (record { whole = All-push (λ b. is_line_feed b ≡ false) line byte so.whole other; read = Consumes-trans a b c line (byte ∷ []) so.read next })
+
+pub line_ended : (a b c : Option (List ℕ)) (line : List ℕ) (byte : ℕ) → LineSoFar a b line → GivesByte b c (Some byte) → byte ≡ 10 → GivesLine a c line true
+line_ended a b c line byte so next is = (so.whole, Consumes-trans a b c line (10 ∷ []) so.read (subst (λ x. Consumes b c (x ∷ [])) is next))
+
+pub line_cut : (a b c : Option (List ℕ)) (line : List ℕ) → LineSoFar a b line → GivesByte b c None → GivesLine a c line false
+line_cut a b c line so (next, end) = (so.whole, subst (Consumes a c) (append-nil line) (Consumes-trans a b c line [] so.read next), inl end)
+
+pub line_long : (a b : Option (List ℕ)) (line : List ℕ) → LineSoFar a b line → line_bytes < length line → GivesLine a b line false
+line_long a b line so long = (so.whole, so.read, inr long)
+
+-- ---- a frame's bytes after skipped symbols
+
+pub ends_sooner : (n more : ℕ) (a b : Option (List ℕ)) → EndsBefore n a b → EndsBefore (n + more) a b
+ends_sooner n more a b (bytes, short, read, end) = (bytes, omega (arith, short), read, end)
+
+pub reads_less : (n k : ℕ) (a b c : Option (List ℕ)) (buf : List ℕ) → Skips n a b true → k ≤ length buf → k < length buf → Consumes b c (take k buf) → IsAtEnd c → EndsBefore (4 * n + length buf) a c
+reads_less n k a b c buf (bytes, long, read) most short then end =
+    let part : length (take k buf) ≡ k = length-take-le k buf most in
+    let total : length (bytes ++ take k buf) ≡ length bytes + length (take k buf) = length-append bytes (take k buf) in
+    (bytes ++ take k buf, omega (arith, total, part, long, short), Consumes-trans a b c bytes (take k buf) read then, end)
+
+pub reads_there : (n k : ℕ) (a b c : Option (List ℕ)) (buf : List ℕ) → Skips n a b true → k ≤ length buf → length buf ≤ k → Consumes b c (take k buf) → ReadsAt n a c buf true
+reads_there n k a b c buf (bytes, long, read) most whole then =
+    (bytes, long, Consumes-trans a b c bytes buf read (subst (Consumes b c) (take_all k buf (omega (arith, most, whole))) then))

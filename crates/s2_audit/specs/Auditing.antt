@@ -1,0 +1,121 @@
+-- An audit: the certificates of a report's frames, one after another, and what is printed (own).
+use Rattle.std.specs.Prelude.{◌≡◌, ◌≢◌, ◌⊎◌, ℕ, ◌+◌, ◌*◌, ℤ, List, [], ◌++◌, All, length, map, Option, Some, None, Result, Ok, Err}
+use Rattle.std.specs.List.{flat_map}
+use Rattle.std.specs.Io.KnownBytes.{Appends, Consumes}
+use Rattle.s2_mode.specs.Pieces.{AppendsPart}
+use Rattle.s2_rows.specs.Rows.{Rows}
+use Rattle.s2_certfile.specs.File.{File}
+use Rattle.s2_certfile.specs.Format.{file_of_bytes}
+use Rattle.s2_check.specs.CertificateFiles.{view_of, Suits}
+use Rattle.s2_check.specs.Checking.{IsCertificate}
+use Rattle.s2_check.specs.Cost.{cost}
+use Rattle.s2_check.specs.Strict.{IsStrict}
+use Rattle.s2_check.specs.declared.verdict.Verdict.{Verdict}
+use Rattle.s2_check.specs.declared.verdict.Verdict.TheVariants.{Sole}
+use Rattle.s2_console.specs.declared.exit.Exit.{Exit}
+use Rattle.s2_console.specs.declared.fault.Fault.{Fault}
+use Rattle.s2_console.specs.declared.fault.Fault.TheVariants as faults
+use Rattle.s2_audit.specs.declared.entry.Frame.{Frame}
+use Rattle.s2_audit.specs.declared.turning.Turn.{Turn}
+use Rattle.s2_audit.specs.declared.turning.Turn.TheVariants as turns
+use Rattle.s2_audit.specs.Desks.{Terms, frame_soft}
+use Rattle.s2_audit.specs.Entries.{certified_in, counts_of, entry_in, text_of, IsLine}
+use Rattle.s2_audit.specs.Limits.{certificate_bytes, frame_bytes, max_lines}
+use Rattle.s2_audit.specs.Lines.{shown_line}
+use Rattle.s2_audit.specs.Turns.{Evidence, Standing, Turns, standing}
+
+-- a certificate with a frame's soft values, which the checker accepts under these rows, and strictly if the verdict is
+-- sole
+pub record Shows (rows : Rows) (soft : List ℤ) (verdict : Verdict) (file : File) : Type 0 where
+  pub values : file.soft ≡ soft
+  pub suits : Suits rows file
+  pub accepted : IsCertificate rows (view_of rows file)
+  pub strict : verdict ≡ Sole → IsStrict rows (view_of rows file)
+
+-- a frame of a report, the bytes of its symbols, the bytes of its certificate, and the certificate
+pub record Checked : Type 0 where
+  pub frame : Frame
+  pub symbols : List ℕ
+  pub block : List ℕ
+  pub file : File
+
+-- these bytes are in a file from a place on
+abbrev pub IsAt : List ℕ → ℕ → List ℕ → Type 0
+IsAt whole place part = (before : List ℕ) × (after : List ℕ) × (length before ≡ place) × (whole ≡ before ++ (part ++ after))
+
+-- the frame's symbols are in the recording at its position, and its certificate shows its verdict for their soft values
+pub record IsChecked (t : Terms) (recording : List ℕ) (c : Checked) : Type 0 where
+  pub place : IsAt recording (4 * c.frame.at) c.symbols
+  pub whole : length c.symbols ≡ frame_bytes t.mode
+  pub long : length c.block ≡ certificate_bytes t.mode
+  pub parsed : file_of_bytes c.block ≡ Ok c.file
+  pub shown : Shows t.rows (frame_soft t c.symbols) c.frame.verdict c.file
+
+-- the line of a frame that is shown, with the cost of its bits
+abbrev pub line_of : Checked → List ℕ
+line_of c = shown_line c.frame (cost c.file.soft c.file.bits)
+
+-- a line that an audit reads
+abbrev pub IsReadable : List ℕ → Type 0
+IsReadable line = IsLine line × (entry_in line ≢ None)
+
+-- These lines of the report were read, and each of their frames that is reported sole or most likely is shown by the
+-- certificate in its turn. So many symbols were read, and the line of each of these frames is printed
+pub record Audits (t : Terms) (report report_new : Option (List ℕ)) (old new : Evidence) (out out_new : Option (List ℕ)) (lines : List (List ℕ)) (place : ℕ) : Type 0 where
+  pub checked : List Checked
+  pub recording : List ℕ
+  pub readable : All IsReadable lines
+  pub frames : certified_in lines ≡ map (λ c. c.frame) checked
+  pub each : All (IsChecked t recording) checked
+  pub report_read : Consumes report report_new (text_of lines)
+  pub symbols_read : Consumes old.symbols new.symbols recording
+  pub symbols_long : length recording ≡ 4 * place
+  pub certificates_read : Consumes old.certificates new.certificates (flat_map (λ c. c.block) checked)
+  pub printed : Appends out out_new (flat_map line_of checked)
+
+-- what a turn prints
+abbrev pub turn_text : Turn → List ℕ
+turn_text turns.Silent = []
+turn_text (turns.Shown text) = text
+turn_text (turns.Ended printed) = printed.text
+
+-- the exit, if a turn is the last
+abbrev pub turn_exit : Turn → Option Exit
+turn_exit turns.Silent = None
+turn_exit (turns.Shown text) = None
+turn_exit (turns.Ended printed) = Some printed.exit
+
+-- what a turn says is printed: all of it, or a first part if the writer failed
+abbrev pub PrintsTurn : Turn → Option (List ℕ) → Option (List ℕ) → Result (Option Exit) Fault → Type 0
+PrintsTurn turn out out_new (Ok exit) = (exit ≡ turn_exit turn) × Appends out out_new (turn_text turn)
+PrintsTurn turn out out_new (Err faults.Write) = AppendsPart (turn_text turn) out out_new
+PrintsTurn turn out out_new (Err f) = ⊥
+
+-- a turn was made, and printed; or it has a fault, and nothing is printed
+abbrev pub LineIs : Terms → (number : ℕ) → (was is : Standing) → Option (List ℕ) → Option (List ℕ) → Evidence → Evidence → Option (List ℕ) → Option (List ℕ) → Result (Option Exit) Fault → Type 0
+LineIs t number was is report report_new old new out out_new (Ok exit) =
+    (turn : Turn) × Turns t number was is report report_new old new (Ok turn) × PrintsTurn turn out out_new (Ok exit)
+LineIs t number was is report report_new old new out out_new (Err faults.Write) =
+    (turn : Turn) × Turns t number was is report report_new old new (Ok turn) × AppendsPart (turn_text turn) out out_new
+LineIs t number was is report report_new old new out out_new (Err f) = Turns t number was is report report_new old new (Err f) × (out_new ≡ out)
+
+-- the result of the last turn
+abbrev pub last_of : Result Exit Fault → Result (Option Exit) Fault
+last_of (Ok exit) = Ok (Some exit)
+last_of (Err f) = Err f
+
+-- Some lines were audited, and the turn of the next one is the last. Or they are the most lines that one audit takes
+pub record AuditsToEnd (t : Terms) (report report_new : Option (List ℕ)) (old new : Evidence) (out out_new : Option (List ℕ)) (result : Result Exit Fault) : Type 0 where
+  pub lines : List (List ℕ)
+  pub place : ℕ
+  pub report_between : Option (List ℕ)
+  pub between : Evidence
+  pub out_between : Option (List ℕ)
+  pub behind : Standing
+  pub audits : Audits t report report_between old between out out_between lines place
+  pub last : LineIs t (length lines + 1) (standing place (counts_of lines)) behind report_between report_new between new out_between out_new (last_of result)
+      ⊎ ((result ≡ Err faults.Read) × (length lines ≡ max_lines) × (out_new ≡ out_between))
+
+-- the lines that were read are the most that one audit takes
+abbrev pub ReachesLimit : Option (List ℕ) → Option (List ℕ) → Type 0
+ReachesLimit report report_new = (lines : List (List ℕ)) × (length lines ≡ max_lines) × Consumes report report_new (text_of lines)

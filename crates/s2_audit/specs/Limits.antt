@@ -1,0 +1,26 @@
+-- The limits of an audit, and the size of a certificate in its file (own).
+use Rattle.std.specs.Prelude.{◌≡◌, ℕ, ◌+◌, ◌*◌, ◌/◌, ◌^◌}
+use Rattle.s2_mode.specs.Mode.{Mode, n_of, q_of, symbols_in}
+use Rattle.s2_audit.specs.declared.limits.TheConstants.{LINE_BYTES, MAX_LINES}
+
+-- the most bytes of a line of a report, without its LF
+abbrev pub line_bytes : ℕ
+line_bytes = 255
+
+-- the most lines of a report
+abbrev pub max_lines : ℕ
+max_lines = 2 ^ 40
+
+-- the bytes of a frame's symbols, four each
+abbrev pub frame_bytes : Mode → ℕ
+frame_bytes m = 4 * symbols_in m
+
+-- the bytes of a certificate of version 2 of a mode: the header of 13, two for each soft value, the bits, and six for
+-- each check's move
+abbrev pub certificate_bytes : Mode → ℕ
+certificate_bytes m = 13 + 2 * n_of m + (n_of m + 7) / 8 + 6 * (360 * q_of m)
+
+-- the numbers that the code works with are these
+pub record LimitsLaw : Type 0 where
+  pub line : LINE_BYTES ≡ line_bytes
+  pub lines : MAX_LINES ≡ max_lines

@@ -1,0 +1,164 @@
+"""`audit`, on a stream without noise: `cases` takes what `mod` made and what `demod --certificates` wrote of it.
+
+The lines that are wanted are worked out from the report and from the bytes of the certificates: the cost of a certificate's bits is
+the sum of its soft values at the bits that are 1."""
+from cases.common import FAULT, LINK, NO, Case, fault
+
+HEAD = 13
+WORDS = f"audit {LINK} made symbols report certificates"
+
+
+def code(certificate):
+    """n of a certificate of version 2."""
+    group, groups, q = (int.from_bytes(certificate[at : at + 2], "big") for at in (5, 7, 9))
+    return group, groups, q, group * (groups + q)
+
+
+def size(certificate):
+    """The bytes of a certificate of version 2: its header, n soft values, n bits, and a move for each check."""
+    group, _, q, n = code(certificate)
+    return HEAD + 2 * n + (n + 7) // 8 + 6 * group * q
+
+
+def apart(certificates):
+    """The certificates of a file."""
+    step = size(certificates)
+    assert len(certificates) % step == 0
+    return [certificates[at : at + step] for at in range(0, len(certificates), step)]
+
+
+def cost(certificate):
+    *_, n = code(certificate)
+    word = certificate[HEAD + 2 * n :]
+    soft = [int.from_bytes(certificate[HEAD + 2 * i : HEAD + 2 * i + 2], "big", signed=True) for i in range(n)]
+    return sum(soft[i] for i in range(n) if word[i // 8] >> (7 - i % 8) & 1)
+
+
+def certified(report):
+    """The words of the frame lines that have a certificate."""
+    lines = [line.split() for line in report.splitlines() if line.startswith("frame ")]
+    return [line for line in lines if line[4] in ("sole", "most-likely")]
+
+
+def shown(report, certificates):
+    """The line of each frame that is shown."""
+    return [f"{' '.join(line[:5])} cost {cost(one)}\n" for line, one in zip(certified(report), certificates)]
+
+
+def last(report):
+    frames = [line.split()[4] for line in report.splitlines() if line.startswith("frame ")]
+    return f"audit frames {len(frames)} sole {frames.count('sole')} most-likely {frames.count('most-likely')}\n"
+
+
+def failed(line, reason):
+    return f"{' '.join(line[:4])} {reason}\n"
+
+
+def changed(data, at, byte):
+    return data[:at] + bytes([byte]) + data[at + 1 :]
+
+
+def with_value(certificate, i, value):
+    at = HEAD + 2 * i
+    return certificate[:at] + value.to_bytes(2, "big", signed=True) + certificate[at + 2 :]
+
+
+def case(report, symbols, certificates, code, out, errors="", words=WORDS):
+    reads = {"report": report.encode(), "symbols": symbols, "certificates": certificates}
+    return Case(words, code, out, errors, reads=reads)
+
+
+def stopped(report, symbols, certificates, out, text, words=WORDS):
+    return case(report, symbols, certificates, FAULT, out, f"s2: {text}\n", words)
+
+
+def cases(symbols, report, certificates):
+    """Of at least two frames, all of them sole."""
+    each = apart(certificates)
+    frames = certified(report)
+    lines = shown(report, each)
+    assert len(frames) == len(each) >= 2 and all(line[4] == "sole" for line in frames)
+    ahead, line, one = "".join(lines[:-1]), frames[-1], each[-1]
+    *_, n = code(one)
+    first, end = int(line[3]), len(symbols) // 4
+    rest = report.splitlines(True)
+    before = b"".join(each[:-1])
+    yield case(report, symbols, certificates, 0, "".join(lines) + last(report))
+    # a frame may be reported as less than it is: the line says what the report says
+    likely = report.replace(" sole ", " most-likely ")
+    yield case(likely, symbols, certificates, 0, "".join(shown(likely, each)) + last(likely))
+    # a frame without a certificate in the report needs none
+    for word in ("parity", "broken"):
+        less = report.replace(f"{' '.join(line[:4])} sole", f"{' '.join(line[:4])} {word}")
+        yield case(less, symbols, before, 0, ahead + last(less))
+        yield case(less, symbols, certificates, NO, ahead + "certificates left over\n")
+    # one soft value is another one, by one, and so is one symbol
+    soft = int.from_bytes(one[HEAD : HEAD + 2], "big", signed=True)
+    other = soft - 1 if soft > 0 else soft + 1
+    yield case(report, symbols, before + with_value(one, 0, other), NO, ahead + failed(line, "other values"))
+    last_soft = int.from_bytes(one[HEAD + 2 * n - 2 : HEAD + 2 * n], "big", signed=True)
+    yield case(report, symbols, before + with_value(one, n - 1, -last_soft), NO, ahead + failed(line, "other values"))
+    at = 4 * (first + 90)
+    yield case(report, changed(symbols, at, symbols[at] ^ 0x80), certificates, NO, ahead + failed(line, "other values"))
+    # a symbol of the header has no soft value
+    at = 4 * first
+    yield case(report, changed(symbols, at, symbols[at] ^ 0x80), certificates, 0, "".join(lines) + last(report))
+    # two certificates in each other's places, where their frames differ, and one missing, and one more
+    if each[0] != each[1]:
+        yield case(report, symbols, each[1] + each[0] + b"".join(each[2:]), NO, failed(frames[0], "other values"))
+    yield case(report, symbols, before, NO, ahead + failed(line, "no certificate"))
+    yield case(report, symbols, b"", NO, failed(frames[0], "no certificate"))
+    yield case(report, symbols, certificates + one, NO, "".join(lines) + "certificates left over\n")
+    yield case(report, symbols, certificates + b"S", NO, "".join(lines) + "certificates left over\n")
+    # another word, another header
+    wrong = changed(one, HEAD + 2 * n, one[HEAD + 2 * n] ^ 0x80)
+    yield case(report, symbols, before + wrong, NO, ahead + failed(line, "not accepted"))
+    for at, byte in ((0, 0x54), (4, 1), (4, 3), (6, 0), (8, 1), (11, 0x20)):
+        yield case(report, symbols, before + changed(one, at, byte), NO, ahead + failed(line, "not accepted"))
+    # the report of another recording: the frames begin elsewhere, the last one too late, or before the end of the one before it
+    moved = [" ".join([*words[:3], str(int(words[3]) + 1), *words[4:]]) if words[0] == "frame" else " ".join(words) for words in map(str.split, rest)]
+    yield case("".join(f"{text}\n" for text in moved), symbols, certificates, NO, failed([*frames[0][:3], str(int(frames[0][3]) + 1)], "other values"))
+    late = [*line[:3], str(end - 90)]
+    yield case(report.replace(f"at {first} ", f"at {end - 90} "), symbols, certificates, NO, ahead + failed(late, "no symbols"))
+    soon = [*line[:3], str(first - 1)]
+    yield case(report.replace(f"at {first} ", f"at {first - 1} "), symbols, certificates, NO, ahead + failed(soon, "no symbols"))
+    # the recording is cut within the last frame, by one byte or by all of it
+    frame = end - first
+    for less in (1, 4, 4 * frame):
+        yield case(report, symbols[: len(symbols) - less], certificates, NO, ahead + failed(line, "no symbols"))
+    # a certificate is cut
+    for less in (1, len(one) - 1):
+        yield stopped(report, symbols, certificates[: len(certificates) - less], ahead, "certificate: cut")
+    # another divisor gives other values; the same one may be named
+    yield case(report, symbols, certificates, 0, "".join(lines) + last(report), words=WORDS.replace(LINK, f"{LINK} --divisor 4096"))
+    yield case(report, symbols, certificates, NO, failed(frames[0], "other values"), words=WORDS.replace(LINK, f"{LINK} --divisor 8192"))
+    # unreadable lines, after the lines of the frames before
+    number = len(rest)
+    for text in ("frame", "frame 1", "frame 1 at", "frame 1 at 0", "frame 1 in 0 sole fixed 0", "frame x at 0 sole", "frame 1 at -1 sole", "frame 1 at 0 sure fixed 0",
+                 "frame  1 at 0 sole", f"frame {2**40} at 0 sole", f"frame 1 at {2**40} sole", "ending", "", "end " + 252 * "x"):  # fmt: skip
+        yield stopped("".join(rest[:-1]) + text + "\n", symbols, certificates, "".join(lines), f"report: line {number}")
+    yield stopped("".join(rest)[:-1], symbols, certificates, "".join(lines), f"report: line {number}")
+    yield stopped("\n" + report, symbols, certificates, "", "report: line 1")
+    # other lines are passed over; a report without an end line is a report
+    for text in ("cut at 5 symbols 90", "end", "cut", "end " + 251 * "x"):
+        yield case("".join(rest[:-1]) + text + "\n", symbols, certificates, 0, "".join(lines) + last(report))
+    yield case("".join(rest[:-1]), symbols, certificates, 0, "".join(lines) + last(report))
+    # an empty report
+    yield case("", symbols, b"", 0, "audit frames 0 sole 0 most-likely 0\n")
+    yield case("", b"", certificates, NO, "certificates left over\n")
+
+
+def likely_cases(symbols, report, certificates):
+    """Of frames of which one is most likely and not sole: called sole, it is not shown."""
+    each = apart(certificates)
+    frames = certified(report)
+    lines = shown(report, each)
+    at = next(i for i, line in enumerate(frames) if line[4] == "most-likely")
+    line = frames[at]
+    claimed = report.replace(f"{' '.join(line[:4])} most-likely", f"{' '.join(line[:4])} sole")
+    yield case(report, symbols, certificates, 0, "".join(lines) + last(report))
+    yield case(claimed, symbols, certificates, NO, "".join(lines[:at]) + failed(line, "not sole"))
+
+
+# Rows are read first, and are refused as by other commands.
+ROWS = [fault(f"audit {LINK} toy symbols report certificates", "rows: too few rows", reads={"symbols": b"", "report": b"", "certificates": b""})]
