@@ -72,7 +72,7 @@ impl<'w, 'a> LinkRequest<'w, 'a> {
 }
 
 /// The setup of a link's options.
-fn setup_of(words: LinkWords) -> Result<LinkSetup, Fault<'static>> {
+pub(crate) fn setup_of(words: LinkWords) -> Result<LinkSetup, Fault<'static>> {
     Ok(LinkSetup {
         mode: mode_of(words.modcod, words.short, words.pilots)?,
         number: words.number,

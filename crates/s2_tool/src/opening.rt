@@ -1,5 +1,5 @@
 //! Opens files in the order of the command line, and the command's output. Shows its progress.
-ghost use Rattle.std.specs.Prelude.{All, ◌≡◌, ◌≤◌, false, IfOk, IfSome, OnOk, [], length};
+ghost use Rattle.std.specs.Prelude.{◌≡◌, ◌≤◌, false, IfOk, IfSome, OnOk, [], length};
 ghost use Rattle.s2_console.specs.Files.{CanStart};
 ghost use Rattle.s2_console.specs.Screens.{CanNote};
 ghost use Rattle.s2_evidence.specs.Files.{CanJudge};
@@ -11,7 +11,7 @@ use s2_evidence::JudgeFiles;
 use s2_files::{Destination, Disk, Opener, Reader, Role, StandardStreams, Target, is_standard};
 use s2_mode::Counting;
 use s2_progress::{Clearing, Meter, Pace, Show, Terminal, Watched};
-use s2_words::{JoinWords, JudgeWords, Progress};
+use s2_words::{AuditWords, JoinWords, JudgeWords, Progress};
 use std::rt::Files;
 use std::time::Clock;
 
@@ -162,15 +162,16 @@ pub(crate) fn open_link<'a, 'm, 't, 'r, R: Disk + Clock + AllocGlobal>(
 pub(crate) fn open_audit<'a, R: Disk + AllocGlobal>(
     rt: &R,
     words: &AuditWords<'a>,
-) -> Result<[Input<R>; 4], Fault<'a>>
-    ensures { IfOk result (λ files. All (λ file. file.failed ≡ 0) files.items) }
+) -> Result<(Input<R>, Input<R>, Input<R>, Input<R>), Fault<'a>>
+    ensures rows { IfOk result (λ files. (files.0.failed ≡ 0) × (files.1.failed ≡ 0)) }
+    ensures report { IfOk result (λ files. (files.2.failed ≡ 0) × (files.3.failed ≡ 0)) }
 {
     let mut opener = Opener::new(rt);
     let rows = opener.read(words.rows)?;
     let symbols = opener.read(words.symbols)?;
     let report = opener.read_buffered(words.report)?;
     let certificates = opener.read_buffered(words.certificates)?;
-    Ok([rows, symbols, report, certificates])
+    Ok((rows, symbols, report, certificates))
 }
 
 /// Opens the files of `noise`, both with a buffer.

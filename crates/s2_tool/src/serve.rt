@@ -3,14 +3,15 @@ ghost use Rattle.std.specs.Prelude.{OnErr};
 ghost use Rattle.s2_mode.specs.Counts.{CanCount};
 ghost use Rattle.s2_console.specs.Screens.{CanNote};
 
-use crate::link_request::{LinkRequest, with_link};
+use crate::link_request::{LinkRequest, setup_of, with_link};
 use crate::noise::noise_command;
 use crate::opening::{
-    open_input, open_inputs, open_join, open_judge, open_noise, screen_beside, show_on,
+    open_audit, open_input, open_inputs, open_join, open_judge, open_noise, screen_beside, show_on,
 };
 use crate::rows::rows_command;
 use clap::Error;
 use clap::error::ErrorKind;
+use s2_audit::audit_command;
 use s2_console::{Console, Exit, Fault};
 use s2_evidence::{check_command, check_each_command, judge_command, self_command};
 use s2_files::Disk;
@@ -21,8 +22,8 @@ use s2_progress::{Pace, Terminal};
 use s2_scan::scan_command;
 use s2_table::table_command;
 use s2_words::{
-    CheckWords, CodeWords, JoinWords, JudgeWords, ModesWords, NoiseWords, Request, RowsWords,
-    ScanWords, ShapeWords, TableWords, read_words,
+    AuditWords, CheckWords, CodeWords, JoinWords, JudgeWords, ModesWords, NoiseWords, Request,
+    RowsWords, ScanWords, ShapeWords, TableWords, read_words,
 };
 use std::alloc::{AllocError, Global};
 use std::env;
@@ -114,6 +115,7 @@ pub(crate) fn run_request<R: Disk + Clock + AllocGlobal, O: CountedWrite, E: Cou
         Request::Noise(words) => conclude(serve_noise(rt, terminal, words, console), console),
         Request::Scan(words) => conclude(serve_scan(rt, words, console), console),
         Request::Join(words) => conclude(serve_join(rt, words, console), console),
+        Request::Audit(words) => conclude(serve_audit(rt, words, console), console),
         Request::Mod(words) => {
             let request = LinkRequest::Mod(words);
             conclude(with_link(rt, terminal, request, console, notes), console)
@@ -155,7 +157,7 @@ fn serve_modes<R: Disk + AllocGlobal, O: CountedWrite, E: CountedWrite>(
     console: &mut Console<O, E>,
 ) -> Result<Exit, Fault<'static>>
     requires { CanNote console.old }
-    ensures { OnErr result (console.new.errors_failed ≡ console.old.errors_failed) }
+    ensures { OnErr result (CanCount console.new.errors_failed) }
 {
     let mode = match words.mode {
         Some((modcod, short)) => Some(mode_of(modcod, short, false)?),
@@ -203,7 +205,14 @@ fn serve_judge<'a, R: Disk + AllocGlobal, O: CountedWrite, E: CountedWrite>(
 {
     let shape = shape_by(words.code)?;
     let mut files = open_judge(rt, words)?;
-    Ok(judge_command(rt.alloc(), shape, words.hard, words.tuning, &mut files, console))
+    Ok(judge_command(
+        rt.alloc(),
+        shape,
+        words.hard,
+        words.tuning,
+        &mut files,
+        console,
+    ))
 }
 
 /// `check`.
@@ -268,4 +277,27 @@ fn serve_join<'a, R: Disk + AllocGlobal, O: CountedWrite, E: CountedWrite>(
     let mode = mode_of(words.modcod, words.short, false)?;
     let (mut bbframes, mut packets) = open_join(rt, words)?;
     Ok(join_command(rt.alloc(), mode, &mut bbframes, &mut packets, console))
+}
+
+/// `audit`.
+fn serve_audit<'a, R: Disk + AllocGlobal, O: CountedWrite, E: CountedWrite>(
+    rt: &R,
+    words: &AuditWords<'a>,
+    console: &mut Console<O, E>,
+) -> Result<Exit, Fault<'a>>
+    requires { CanNote console.old }
+    ensures { OnErr result (CanCount console.new.errors_failed) }
+{
+    let setup = setup_of(words.link)?;
+    let (mut rows, mut symbols, mut report, mut certificates) = open_audit(rt, words)?;
+    Ok(audit_command(
+        rt.alloc(),
+        setup,
+        words.divisor,
+        &mut rows,
+        &mut symbols,
+        &mut report,
+        &mut certificates,
+        console,
+    ))
 }
