@@ -1,5 +1,5 @@
 -- The headline holds.
-use Rattle.s2_modem.proofs.Names.{◌≡◌, ℕ, zero, suc, ◌+◌, ◌<◌, ◌≤◌, ◌⊎◌, IsTrue, Bool, true, false, cond, List, [], ◌∷◌, ◌++◌, All, Option, Some, None, length, map, range_with_len, count_by, sum_by-cons, inl, inr, refl, sym, ap, ◌∙◌, subst, append_assoc, append-nil, Result, Ok, Err, ⊤, nat_lt, lt-leb, flat_map, All-nil, All-cons, arith, Mode, IsMode, HasCodeSizes, symbols_of, Streams, Symbol, code_of, header_at, field_bytes, IsDivisor, Found, Tuning, Link, IsLinkOf, Gap, Report, frame_line, cut_line, end_line, Met, frame, cut, ended, no_gap, extended, begins, by_found, met_from, Rules, State, Standing, at_start, at_end, with_gap, report_of, after, after_all, all_packets, all_lines, begun, RunsOut, Piece, joined, stream_symbols, SpellSymbols, IsReceived, frames_at, gives, all_joined, packets-append, frame_soft, IsAsLikely, IsCorrected, link_rules, AllAsLikely, AllTold, Receiver, rules_for, IsSent, is_certified, Delivered, frame_from, decision_from, is_delivered, stands, IsCutAt, IsReadable, Arriving, closed_packets, wrong_bits, Headline, KeepsHeadline, FramePromises, IsHeadline, RunsHeadline, RunAnswers, ReceivesTo, Received, Totals, StreamFault, max_symbols}
+use Rattle.s2_modem.proofs.Names.{◌≡◌, ℕ, zero, suc, ◌+◌, ◌<◌, ◌≤◌, ◌⊎◌, IsTrue, Bool, true, false, cond, List, [], ◌∷◌, ◌++◌, All, Option, Some, None, length, map, range_with_len, count_by, sum_by-cons, inl, inr, refl, sym, ap, ◌∙◌, subst, append_assoc, append-nil, Result, Ok, Err, ⊤, nat_lt, lt-leb, flat_map, All-nil, All-cons, arith, Mode, IsMode, HasCodeSizes, symbols_of, Streams, Symbol, code_of, header_at, field_bytes, IsDivisor, Found, Tuning, Link, IsLinkOf, Gap, Report, frame_line, cut_line, end_line, Met, frame, cut, ended, no_gap, extended, begins, by_found, met_from, Rules, State, Standing, at_start, at_end, with_gap, report_of, after, after_all, all_packets, all_lines, begun, RunsOut, Piece, joined, stream_symbols, SpellSymbols, IsReceived, frames_at, gives, all_joined, packets-append, frame_soft, IsAsLikely, IsCorrected, link_rules, AllAsLikely, AllTold, Receiver, rules_for, IsSent, is_certified, Delivered, frame_from, decision_from, is_delivered, stands, IsCutAt, IsReadable, Arriving, closed_packets, wrong_bits, Headline, KeepsHeadline, FramePromises, IsHeadline, RunsHeadline, RunAnswers, RunAnswersWith, Taking, ReceivesTo, Received, Totals, StreamFault, max_symbols}
 use Rattle.s2_modem.proofs.Names.founds
 use Rattle.s2_modem.proofs.Arrival.{all_met}
 use Rattle.s2_modem.proofs.CleanFrames.{all_as_likely, all_told, counts, receives_all_law, both_codes_law}
@@ -180,6 +180,19 @@ run_headline v w followed new before behind (Err fault) is same all run = tt
 run_headline v w followed new before behind (Ok received) is same all run =
     subst (λ (x : Receiver). x.state ≡ begun → IsHeadline x.link x.tuning before behind) is
     (λ fresh. all v.limit new before behind (subst (λ (x : Rules). RunsOut x begun new before behind) same (subst (λ (s : State). RunsOut followed s new before behind) fresh run.0.runs_out)))
+
+-- a run with a sink, of a receiver in its own words
+pub runs_with : {S : Type 0} (takes fails : Taking S) (v w : Receiver) (followed : Rules) (new : State) (sink_old sink_new : S) (before behind : Streams) (result : Result Received StreamFault) → v ≡ w → followed ≡ rules_for v
+    → RunAnswersWith takes fails followed v.state new sink_old sink_new before behind result → RunAnswersWith takes fails (rules_for w) w.state new sink_old sink_new before behind result
+runs_with takes fails v w followed new sink_old sink_new before behind result is same run =
+    subst (λ (x : Receiver). RunAnswersWith takes fails (rules_for x) x.state new sink_old sink_new before behind result) is
+    (subst (λ (x : Rules). RunAnswersWith takes fails x v.state new sink_old sink_new before behind result) same run)
+
+-- its headline
+pub run_with_headline : {S : Type 0} (takes fails : Taking S) (v w : Receiver) (followed : Rules) (new : State) (sink_old sink_new : S) (before behind : Streams) (result : Result Received StreamFault) → v ≡ w → followed ≡ rules_for v
+    → KeepsHeadline v.link v.tuning → RunAnswersWith takes fails followed v.state new sink_old sink_new before behind result → RunsHeadline w before behind result
+run_with_headline takes fails v w followed new sink_old sink_new before behind (Err fault) is same all run = tt
+run_with_headline takes fails v w followed new sink_old sink_new before behind (Ok received) is same all run = run_headline v w followed new before behind (Ok received) is same all run.0
 
 -- a whole stream in memory
 pub bytes_headline : (link : Link) (tuning : Tuning) (followed : Rules) (new : State) (before behind : Streams) (totals : Totals) → followed ≡ link_rules link tuning max_symbols → KeepsHeadline link tuning

@@ -81,6 +81,7 @@ pub use Rattle.s2_receive.specs.Meeting.{Met, begins, by_found, cut, ended, exte
 pub use Rattle.s2_receive.specs.Parts.{delivered_of}
 pub use Rattle.s2_receive.specs.Receiving.{Decision, Meets, Rules, RunsOut, Standing, State, after, after_all, all_lines, all_packets, are_all_certified, at_end, at_start, begun, count_of, left_in, left_known, report_of, step_of, with_gap}
 pub use Rattle.s2_receive.specs.ReportLines.{cut_line, end_line, frame_line}
+pub use Rattle.s2_receive.specs.Sinks.{RunAnswersWith, Taking}
 unfoldable pub use Rattle.s2_receive.specs.Windows.{found_as}
 pub use Rattle.s2_receive.specs.declared.parts.Decided.{Decided as Answer}
 pub use Rattle.s2_receive.specs.declared.report.Outcome.{Outcome}

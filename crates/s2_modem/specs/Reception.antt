@@ -1,5 +1,5 @@
 -- The input, the report and the output of a receiver of a link, and the setups that it refuses (EN 302 307-1, 5.1 to 5.5).
-use Rattle.std.specs.Prelude.{◌≡◌, IsTrue, ℕ, ℤ, Bool, if◌then◌else◌, List, Option, None, Result, Ok, Err, ⊤}
+use Rattle.std.specs.Prelude.{◌≡◌, IsTrue, ℕ, ℤ, Bool, if◌then◌else◌, List, Option, None, Result, Ok, Err}
 use Rattle.s2_mode.specs.Mode.{Mode, k_of, symbols_in}
 use Rattle.s2_mode.specs.Streams.{Streams}
 use Rattle.s2_mode.specs.declared.symbols.Symbol.{Symbol}
@@ -13,6 +13,7 @@ use Rattle.s2_check.specs.declared.verdict.Verdict.{Verdict}
 use Rattle.s2_check.specs.declared.verdict.Verdict.TheVariants.{Sole}
 use Rattle.s2_receive.specs.Receiving.{Rules, State, Decision, begun, is_at_frame}
 use Rattle.s2_receive.specs.Answers.{Seen, RunAnswers, ReceivesTo, BreaksIn}
+use Rattle.s2_receive.specs.Sinks.{Taking, RunAnswersWith}
 use Rattle.s2_mode.specs.declared.stream_fault.StreamFault.{StreamFault}
 use Rattle.s2_receive.specs.declared.report.Received.{Received}
 use Rattle.s2_receive.specs.declared.report.Totals.{Totals}
@@ -56,6 +57,12 @@ seen r = record { rules = rules_for r; state = r.state; last = r.last; packets =
 -- a run to the end of the stream, from a receiver's state to another
 abbrev pub RunsReceiver : (old new : Receiver) → (before behind : Streams) → Result Received StreamFault → Type 0
 RunsReceiver old new before behind result = RunAnswers (rules_for old) old.state new.state before behind result
+
+-- A run with a sink, by what a call does to the sink if it takes a frame, and if it fails. The result is that of a run,
+-- and the sink took the frames that were met; or the sink failed to take a frame, and nothing of this frame was written
+abbrev pub RunsReceiverWith : {S : Type 0} → (takes fails : Taking S) → (old new : Receiver) → (sink_old sink_new : S) → (before behind : Streams) → Result Received StreamFault → Type 0
+RunsReceiverWith takes fails old new sink_old sink_new before behind result =
+    RunAnswersWith takes fails (rules_for old) old.state new.state sink_old sink_new before behind result
 
 -- the certificate that it shows: that of the last decision, if the last step came to that frame; else none
 abbrev pub certificate_of : Receiver → Option View

@@ -10,7 +10,7 @@ use s2_check::{CertView, Verdict};
 use s2_judge::Judge;
 use s2_link::{Link, RollOff, Tuning};
 use s2_mode::{Mode, Symbol};
-use s2_receive::{Decide, Decided, Outcome};
+use s2_receive::{Decide, Decided, Frame, Outcome};
 use std::alloc::{AllocError, Global};
 use std::marker::Model;
 
@@ -144,5 +144,16 @@ impl<'a> Decide for Decider<'a> {
 
     fn field(&self) -> &[u8] {
         self.reader.field()
+    }
+
+    fn frame(&self) -> Frame<'_> {
+        Frame {
+            soft: self.soft(),
+            word: self.word(),
+            certificate: self.certificate(),
+            message: self.message(),
+            decided: self.decided(),
+            field: self.field(),
+        }
     }
 }

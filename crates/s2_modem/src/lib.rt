@@ -25,7 +25,8 @@
 //! do cost less. If they are called sole, all other bits that do cost more. If the search is at a frame that was sent, and
 //! it came without noise or scattered, it is delivered, certified, with no bit changed. If at most t bits of its BCH word
 //! are wrong, exactly these are corrected. [`Receiver::run`] continues to the end of the symbols, and [`demodulate`] does
-//! it for a whole stream in memory.
+//! it for a whole stream in memory. [`Receiver::run_with`] also gives each frame to a [`s2_receive::Sink`], before its
+//! packets are written.
 //!
 //! The n decided bits of a frame are called its word, whether they are a codeword or not. Their first Nbch bits are the
 //! received word. The word that BCH decoding finds for it is a BCH word.

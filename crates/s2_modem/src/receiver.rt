@@ -7,11 +7,12 @@ ghost use Rattle.s2_mode.specs.Streams.{streams_by};
 ghost use Rattle.s2_receive.specs.declared.report.Phase.TheVariants as phases;
 ghost use Rattle.s2_receive.specs.declared.report.Fault.TheVariants as faults;
 ghost use Rattle.s2_receive.specs.Receiving.{IsLive, asked, begun, rules_of, taken};
-ghost use Rattle.s2_receive.specs.Answers.{Advances, OnlyStreamFaults, StepsBy};
+ghost use Rattle.s2_receive.specs.Answers.{Advances, Between, OnlyStreamFaults, StepsBy};
+ghost use Rattle.s2_receive.specs.Sinks.{OnlyFaultsWith};
 ghost use Rattle.s2_link.specs.Tuning.{tuning_of};
 ghost use Rattle.s2_modem.specs.Reports.{IsUndecided};
 ghost use Rattle.s2_modem.specs.Listening.{decides};
-ghost use Rattle.s2_modem.specs.Reception.{IsNew, Makes, RunsReceiver, certificate_of, link_rules, rules_for, seen};
+ghost use Rattle.s2_modem.specs.Reception.{IsNew, Makes, RunsReceiver, RunsReceiverWith, certificate_of, link_rules, rules_for, seen};
 ghost use Rattle.s2_modem.specs.Promise.{KeepsHeadline, RunsHeadline};
 
 use crate::decider::Decider;
@@ -20,7 +21,7 @@ use s2_check::CertView;
 use s2_link::{Link, LinkSetup, Setup, SetupFault, Tuning};
 use s2_matrix::Matrix;
 use s2_mode::{CountedRead, CountedWrite, MAX_SYMBOLS, StreamFault};
-use s2_receive::{Fault, Received, Step, receive_all};
+use s2_receive::{Fault, Received, Sink, Step, receive_all, receive_with};
 use std::alloc::{AllocError, Global};
 use std::marker::Model;
 
@@ -233,6 +234,41 @@ impl<'a> Receiver<'a> {
             × (self.new.limit ≡ self.old.limit) }
     {
         receive_all(&mut self.inner, reader, packets, report)
+    }
+
+    /// As [`Receiver::run`], with a sink. The sink takes each frame that is met, in order, before its packets and its line
+    /// are written. It is told whether symbols were skipped before the frame. It takes no dummy frame and no cut frame. It
+    /// changes nothing else in the run: if it does not fail, packets, report and result are those of [`Receiver::run`].
+    ///
+    /// After `Ok` and after `Read`, the sink took all frames that were met. `Write` has two causes. A packet or a line could
+    /// not be written: then the sink took all frames up to the one at hand. Or the sink failed at a frame: then it took all
+    /// frames before, and a part of what it makes of this one may stand in it. Nothing of this frame is in the packets or
+    /// in the report. Everything met before is written whole.
+    pub fn run_with<K: Sink, R: CountedRead, P: CountedWrite, W: CountedWrite>(
+        &mut self,
+        reader: &mut R,
+        sink: &mut K,
+        packets: &mut P,
+        report: &mut W,
+    ) -> Result<Received, StreamFault>
+        requires reader { CanCount (R.count reader.old) }
+        requires sink { CanCount (K.count sink.old) }
+        requires packets { CanCount (P.count packets.old) }
+        requires report { CanCount (W.count report.old) }
+        requires live { IsLive self.old.state.phase }
+        ensures runs { Between (RunsReceiverWith K.takes K.fails self.old self.new sink.old sink.new) R.remaining R.count
+            P.contents P.count W.contents W.count reader.old packets.old report.old reader.new packets.new report.new result }
+        ensures stopped { OnErr result (self.new.state.phase ≡ phases.Failed) }
+        ensures uncertified { certificate_of self.new ≡ None }
+        ensures bounded { taken self.new.state ≤ self.old.limit }
+        ensures headline { let at = streams_by R.remaining R.count P.contents P.count W.contents W.count in
+            RunsHeadline self.old (at reader.old packets.old report.old) (at reader.new packets.new report.new) result }
+        ensures counts { Between (OnlyFaultsWith (K.count sink.old) (K.count sink.new)) R.remaining R.count
+            P.contents P.count W.contents W.count reader.old packets.old report.old reader.new packets.new report.new result }
+        ensures same { (self.new.link ≡ self.old.link) × (self.new.tuning ≡ self.old.tuning)
+            × (self.new.limit ≡ self.old.limit) }
+    {
+        receive_with(&mut self.inner, reader, sink, packets, report)
     }
 
     /// The soft values of the codeword of the last frame. They are kept after a cut frame, the end and a failed

@@ -57,7 +57,7 @@ pub fn receive_all<D: Decide, R: CountedRead, P: CountedWrite, W: CountedWrite>(
 /// line could not be written: then the sink took all frames up to the one at hand. Or the sink failed at a frame: then it
 /// took all frames before, and nothing of this frame is in the packets or in the report. Everything met before is written
 /// whole.
-pub fn receive_with<D: Decide, K: Sink<D>, R: CountedRead, P: CountedWrite, W: CountedWrite>(
+pub fn receive_with<D: Decide, K: Sink, R: CountedRead, P: CountedWrite, W: CountedWrite>(
     receiver: &mut Receiver<D>,
     reader: &mut R,
     sink: &mut K,

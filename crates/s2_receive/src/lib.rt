@@ -36,6 +36,7 @@ mod all;
 mod delivering;
 mod finder;
 mod finding;
+mod frame;
 mod gap;
 pub mod laws;
 mod lines;
@@ -48,6 +49,7 @@ mod stepper;
 mod telling;
 
 pub use all::{receive_all, receive_bytes, receive_with};
+pub use frame::Frame;
 pub use parts::{Decide, Decided};
 pub use receiver::Receiver;
 pub use report::{Fault, Outcome, Received, Report, Step, Totals};

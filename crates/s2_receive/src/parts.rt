@@ -3,6 +3,7 @@ ghost use Rattle.std.specs.Prelude.{◌≡◌, ◌/◌, ◌<◌, ◌≤◌, ◌�
 ghost use Rattle.s2_mode.specs.declared.symbols.Symbol.{Symbol as SymbolValue};
 ghost use Rattle.s2_receive.specs.Receiving.{Decision};
 
+use crate::frame::Frame;
 use crate::report::Outcome;
 use s2_bbframe::Header;
 use s2_check::Verdict;
@@ -53,4 +54,8 @@ pub trait Decide {
     /// The data field of the message that was delivered last.
     fn field(&self) -> &[u8]
         ensures { result.now ≡ field self.now };
+
+    /// The frame that was decided last, for a sink.
+    fn frame(&self) -> Frame<'_>
+        ensures { result ≡ last self.now };
 }

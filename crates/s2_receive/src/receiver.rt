@@ -229,7 +229,7 @@ impl<D: Decide> Receiver<D> {
 
     /// The same, with a sink that takes the step's frame before its packets and its line are written. `Write` also
     /// means that the sink failed; then nothing of this frame is written.
-    pub(crate) fn next_with<K: Sink<D>, R: CountedRead, P: CountedWrite, W: CountedWrite>(
+    pub(crate) fn next_with<K: Sink, R: CountedRead, P: CountedWrite, W: CountedWrite>(
         &mut self,
         reader: &mut R,
         sink: &mut K,
@@ -258,7 +258,7 @@ impl<D: Decide> Receiver<D> {
             return Err(self.fail(Fault::Read));
         };
         let after_gap = self.totals().places > places;
-        let Ok(()) = give_frame(step, after_gap, self.decider(), sink) else {
+        let Ok(()) = give_frame(step, after_gap, &self.decider().frame(), sink) else {
             return Err(self.fail(Fault::Write));
         };
         match write_step(self.packets(), step, self.totals(), packets, report) {

@@ -4,7 +4,7 @@ ghost use Rattle.s2_mode.specs.Counts.{CanCount, CountsFault};
 ghost use Rattle.s2_receive.specs.Receiving.{Decision};
 ghost use Rattle.s2_receive.specs.Sinks.{BothTake, FailsStep, OneFails, TakesStep, WantedFails, WantedTakes, wanted_count};
 
-use crate::parts::Decide;
+use crate::frame::Frame;
 use crate::report::Step;
 use s2_mode::WriteFault;
 
@@ -12,7 +12,7 @@ use s2_mode::WriteFault;
 ///
 /// `()` is a sink that does nothing. A pair of sinks gives each frame to the first one, and then to the second. An
 /// `Option` without a sink does nothing.
-pub trait Sink<D: Decide> {
+pub trait Sink {
     /// The sink after it took a frame, by whether symbols were skipped before the frame, and by the decision on it.
     ghost takes: { Self → Self → Bool → Decision → Type 0 };
 
@@ -22,69 +22,69 @@ pub trait Sink<D: Decide> {
     /// The number of its failed calls.
     ghost count: { Self → ℕ };
 
-    /// Takes the frame that was decided last. `after_gap` says whether symbols were skipped before it. `WriteFault`
-    /// means that a write failed; a part of what the frame gives may be written.
-    fn take(&mut self, after_gap: bool, decider: &D) -> Result<(), WriteFault>
+    /// Takes a frame. `after_gap` says whether symbols were skipped before it. `WriteFault` means that a write failed; a
+    /// part of what the frame gives may be written.
+    fn take(&mut self, after_gap: bool, frame: &Frame<'_>) -> Result<(), WriteFault>
         requires { CanCount (count self.old) }
-        ensures takes { OnOk result (takes self.old self.new after_gap (D.last decider.now)) }
-        ensures fails { OnErr result (fails self.old self.new after_gap (D.last decider.now)) }
+        ensures takes { OnOk result (takes self.old self.new after_gap frame.now) }
+        ensures fails { OnErr result (fails self.old self.new after_gap frame.now) }
         ensures cause { CountsFault (count self.old) (count self.new) result };
 }
 
-impl<D: Decide> Sink<D> for () {
+impl Sink for () {
     ghost takes = { λ old new after_gap decision. new ≡ old };
 
     ghost fails = { λ old new after_gap decision. ⊥ };
 
     ghost count = { λ sink. 0 };
 
-    fn take(&mut self, _after_gap: bool, _decider: &D) -> Result<(), WriteFault> {
+    fn take(&mut self, _after_gap: bool, _frame: &Frame<'_>) -> Result<(), WriteFault> {
         Ok(())
     }
 }
 
-impl<D: Decide, A: Sink<D>, B: Sink<D>> Sink<D> for (A, B) {
+impl<A: Sink, B: Sink> Sink for (A, B) {
     ghost takes = { BothTake A.takes B.takes };
 
     ghost fails = { OneFails A.takes A.fails B.fails };
 
     ghost count = { λ sinks. A.count sinks.0 + B.count sinks.1 };
 
-    fn take(&mut self, after_gap: bool, decider: &D) -> Result<(), WriteFault> {
-        self.0.take(after_gap, decider)?;
-        self.1.take(after_gap, decider)
+    fn take(&mut self, after_gap: bool, frame: &Frame<'_>) -> Result<(), WriteFault> {
+        self.0.take(after_gap, frame)?;
+        self.1.take(after_gap, frame)
     }
 }
 
-impl<D: Decide, A: Sink<D>> Sink<D> for Option<A> {
+impl<A: Sink> Sink for Option<A> {
     ghost takes = { WantedTakes A.takes };
 
     ghost fails = { WantedFails A.fails };
 
     ghost count = { wanted_count A.count };
 
-    fn take(&mut self, after_gap: bool, decider: &D) -> Result<(), WriteFault> {
+    fn take(&mut self, after_gap: bool, frame: &Frame<'_>) -> Result<(), WriteFault> {
         match self {
             None => Ok(()),
-            Some(sink) => sink.take(after_gap, decider),
+            Some(sink) => sink.take(after_gap, frame),
         }
     }
 }
 
 /// Gives the frame of a step to a sink. If the step is no frame, it does nothing.
-pub(crate) fn give_frame<D: Decide, K: Sink<D>>(
+pub(crate) fn give_frame<K: Sink>(
     step: Step,
     after_gap: bool,
-    decider: &D,
+    frame: &Frame<'_>,
     sink: &mut K,
 ) -> Result<(), WriteFault>
     requires { CanCount (K.count sink.old) }
-    ensures takes { OnOk result (TakesStep K.takes step sink.old sink.new after_gap (D.last decider.now)) }
-    ensures fails { OnErr result (FailsStep K.fails step sink.old sink.new after_gap (D.last decider.now)) }
+    ensures takes { OnOk result (TakesStep K.takes step sink.old sink.new after_gap frame.now) }
+    ensures fails { OnErr result (FailsStep K.fails step sink.old sink.new after_gap frame.now) }
     ensures cause { CountsFault (K.count sink.old) (K.count sink.new) result }
 {
     match step {
-        Step::Frame(_) => sink.take(after_gap, decider),
+        Step::Frame(_) => sink.take(after_gap, frame),
         Step::Cut { .. } | Step::End => Ok(()),
     }
 }

@@ -14,7 +14,7 @@ returns-in-Ok-write_step-clause-steps g c =
     wrote_with g.K.Sink.takes g.K.Sink.fails g.K.Sink.count (see c.args.self.now) (see c.find.new.self) (ends c.args.reader.now c.args.packets.now c.args.report.now)
     (ends c.find.new.reader c.write_step.new.packets c.write_step.new.report) live c.args.sink.now c.give_frame.new.sink
     c.in-Ok.step (nat_lt c.totals-places.result.places c.totals.result.places) (λ i. nat_lt (c.totals-places.ensures.is i).places (c.totals.ensures.is i).places) c.in-Ok.ensures.finds
-    (rw c.packets.ensures at told.packets) (rw c.totals-2.ensures.is at told.line) told.no_write (rw c.decider.ensures at given.takes) given.cause
+    (rw c.packets.ensures at told.packets) (rw c.totals-2.ensures.is at told.line) told.no_write (rw (c.frame.ensures, c.decider.ensures) at given.takes) given.cause
 
 pub returns-in-Err-clause-steps : goal.returns-in-Err-clause-steps
 returns-in-Err-clause-steps g c =
@@ -28,7 +28,7 @@ returns-in-Err-clause-steps g c =
     (ends c.find.new.reader c.write_step.new.packets c.write_step.new.report) live c.args.sink.now c.give_frame.new.sink
     c.in-Ok.step (nat_lt c.totals-places.result.places c.totals.result.places) (λ i. nat_lt (c.totals-places.ensures.is i).places (c.totals.ensures.is i).places)
     (see c.fail-in-Err.new.self) c.in-Ok.ensures.finds (ap (λ (r : Receiver g.row.D.Denot). r.state) c.fail-in-Err.ensures.state)
-    (rw (c.packets.ensures, c.totals-2.ensures.is) at told.part) told.write (rw c.decider.ensures at given.takes) given.cause)
+    (rw (c.packets.ensures, c.totals-2.ensures.is) at told.part) told.write (rw (c.frame.ensures, c.decider.ensures) at given.takes) given.cause)
 
 pub returns-in-Ended-clause-steps : goal.returns-in-Ended-clause-steps
 returns-in-Ended-clause-steps g c =
@@ -62,4 +62,4 @@ returns-in_default-give_frame-clause-steps g c =
     (ends c.find.new.reader c.args.packets.now c.args.report.now) live c.args.sink.now c.give_frame.new.sink
     c.in-Ok.step (nat_lt c.totals-places.result.places c.totals.result.places) (λ i. nat_lt (c.totals-places.ensures.is i).places (c.totals.ensures.is i).places)
     (see c.fail-in_default-give_frame.new.self) c.in-Ok.ensures.finds (ap (λ (r : Receiver g.row.D.Denot). r.state) c.fail-in_default-give_frame.ensures.state)
-    refl refl (refl, refl) (rw c.decider.ensures at failed.fails) failed.cause)
+    refl refl (refl, refl) (rw (c.frame.ensures, c.decider.ensures) at failed.fails) failed.cause)
