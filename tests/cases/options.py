@@ -3,7 +3,7 @@
 import re
 from dataclasses import dataclass, field
 
-from cases import links, listing, progress
+from cases import links, listing, progress, records
 from cases.common import ANY, FINE, LINK, NO, PACKET, PAIR, STORED_MOVED, TOY, TWO, WANTED, Case, Rule, digest, noted
 from cases.drawn import gaussian, made_rows, spoilt
 from cases.judging import LEFT
@@ -175,6 +175,13 @@ def link_effects(two):
     yield Effect("--quiet", f"run {LINK} {{}} --seed 1 --level 0 made packets out", {"": received(TWO, notes=[ROWS_NOTE]), "--quiet": WELL}, {"noted": True})
 
 
+def record_effects(two):
+    """Each option of records makes its file, and changes nothing else."""
+    for option, text in records.records(two).items():
+        ends = {"": WELL, f"{option} record": ended(TWO, out=2 * PACKET, record=text)}
+        yield from both(option, f"{LINK} {{}}", ends, (1, 0), {"reads": {"in": two}})
+
+
 def demod_effects(two, pilots):
     words, end = f"{LINK} --pilots", "end frames 2 delivered {0} packets {0} bad 0\n"
     no_sync = received(NONE, FINE, b"", ["16740 symbols passed over in 1 place, the first at 0", "no frame of QPSK 1/4, short in 16740 symbols: try s2 scan"])
@@ -219,7 +226,7 @@ def run_effects(report, others):
 
 def effects(two, pilots, dummy, report, others):
     found = [*rows_effects(), *judge_effects(), *few_effects(), *join_effects(), *mod_effects(two, dummy), *tuning_effects(two, report)]
-    return found + [*link_effects(two), *demod_effects(two, pilots), *run_effects(report, others)]
+    return found + [*link_effects(two), *record_effects(two), *demod_effects(two, pilots), *run_effects(report, others)]
 
 
 # Options with cases in progress.py.

@@ -112,6 +112,13 @@ def no_ratio(text):
 
 # What is no Es/N0 that there is: beyond the range, by more than two decimals, and not written so.
 RATIOS = ["-10.01", "40.01", "-11", "41", "655.36", "6.205", "6.", ".5", "6.2.1", "6,2", "1e1", "x", "+", "+-6", "6.-2", "6.+2", "99999999999"]
+# The options of demod and run that name a file for records, and what each file takes.
+RECORDS = {
+    "--certificates": "for the certificates of all frames that are sole or most likely, one after the other",
+    "--values": "for the soft values of each frame, a line each",
+    "--codewords": "for the decided bits of each frame, eight to a byte, the first one highest",
+    "--bbframes": "for the BBFRAMEs, as `join` reads them: zeros for a frame that is lost, and before one that follows a gap",
+}
 NOT_BOTH = "error: the argument '--uncertified' cannot be used with '--passes <P>'"
 # Words that no command has, and the first line on standard error.
 MISUSES = [
@@ -162,6 +169,9 @@ MISUSES = [
     ("demod --modcod 1 --lock 41 made packets out", beyond(41, "lock <H>", 12, 40)),
     ("demod --modcod 1 --lock x made packets out", invalid("x", "lock <H>", "invalid digit found in string")),
     ("demod --modcod 1 --uncertified --passes 96 made packets out", NOT_BOTH),
+    *((f"demod --modcod 1 made in out {option}", f"error: a value is required for '{option} <FILE>' but none was supplied") for option in RECORDS),
+    *((f"mod --modcod 1 made packets out {option} file", f"error: unexpected argument '{option}' found") for option in RECORDS),
+    ("demod --modcod 1 --values one --values two made in out", "error: the argument '--values <FILE>' cannot be used multiple times"),
     ("demod --modcod 1 --dummy 1 made packets out", "error: unexpected argument '--dummy' found"),
     ("demod --modcod 1 --seed 1 made packets out", "error: unexpected argument '--seed' found"),
     ("run --modcod 1 --seed 1 made packets out", LACKS),
@@ -240,6 +250,9 @@ WORDS = [
     ("demod", "--rounds <K>", "Rounds of min-sum at most for each frame, 1 to 200 [default: 50]"),
     ("demod", "--passes <P>", "0 to 1000 [default: 0]"),
     *((name, "--uncertified", "which is `parity` then; not with --passes") for name in ("judge", "demod", "run")),
+    *((name, f"{option} <FILE>", says) for name in ("demod", "run") for option, says in RECORDS.items()),
+    ("demod", "A frame's records", "A file keeps its contents until the rows are accepted."),
+    ("run", "A frame's records", "A file keeps its contents until the rows are accepted, and the packets."),
     *((name, "--tuned", "words that stand beside it win") for name in ("demod", "run")),
     ("modes", "--rate <R>", "Symbols a second, 1 to 1000000000: adds the bits a second of the transport stream"),
     ("join", "--modcod <M>", "as qpsk3/4 or 8PSK2/3: `s2 modes` lists them"),
@@ -320,6 +333,8 @@ MISSING = [
     (f"{RUN} made packets none/out", "none/out"),
     ("mod --modcod 11 --pilots none none none", "none"),
     ("demod --modcod 1 /dev/null none none", "none"),
+    *((f"{command} {option} none/file made packets old", "none/file") for command in RECEIVING for option in RECORDS),
+    *((f"{command} {option} file none packets old", "none") for command in RECEIVING for option in RECORDS),
     ("scan none", "none"),
     ("join --modcod 1 none old", "none"),
     ("join --modcod 1 packets none/out", "none/out"),

@@ -6,7 +6,8 @@
 //! leaves out pipes, sockets and character devices, which hold nothing that could be lost.
 //!
 //! An output is opened without being truncated. A command gets it as a [`Destination`]. Only after
-//! [`Destination::truncate`] there is a writer. [`Target::finish`] writes the bytes that are left in a buffer.
+//! [`Destination::truncate`] there is a writer. [`Target::finish`] writes the bytes that are left in a buffer. A
+//! [`Truncating`] output needs no such step: its first write truncates it.
 //!
 //! ```text
 //! let mut opener = Opener::new(rt);
@@ -26,6 +27,7 @@ mod opener;
 mod output;
 mod standard;
 mod target;
+mod truncating;
 mod uses;
 
 pub use disk::Disk;
@@ -34,4 +36,5 @@ pub use opener::{MAX_FILES, Opener, Reader};
 pub use output::{Destination, Output};
 pub use standard::{StandardStreams, is_standard};
 pub use target::Target;
+pub use truncating::Truncating;
 pub use uses::{Node, Role, Stat, Use};

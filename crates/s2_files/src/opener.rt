@@ -14,7 +14,7 @@ use std::io::{BufReader, BufWriter};
 use std::marker::Model;
 
 /// The most files of a command.
-pub const MAX_FILES: usize = 4;
+pub const MAX_FILES: usize = 8;
 
 /// An input with a buffer, or without one if there was no memory for it or none is wanted. It counts its failed calls.
 pub type Reader<F, S> = Counting<Either<BufReader<Opened<F, S>>, Opened<F, S>>>;
@@ -64,7 +64,7 @@ impl<'r, R: Disk> Opener<'r, R> {
 
     /// Notes how a file is used, unless that clashes with those before it.
     fn take<'a>(&mut self, name: &'a str, new: Use) -> Result<(), Fault<'a>>
-        requires room { length self.old < 4 }
+        requires room { length self.old < 8 }
         ensures count { OnOk result (length self.new ≡ length self.old + 1) }
     {
         if clashes_any(self.uses.as_slice(), new) {
@@ -76,7 +76,7 @@ impl<'r, R: Disk> Opener<'r, R> {
 
     /// Notes the use of a standard stream, which has no length.
     fn take_standard<'a>(&mut self, role: Role, name: &'a str) -> Result<(), Fault<'a>>
-        requires room { length self.old < 4 }
+        requires room { length self.old < 8 }
         ensures count { OnOk result (length self.new ≡ length self.old + 1) }
     {
         self.length = None;
@@ -93,7 +93,7 @@ impl<'r, R: Disk> Opener<'r, R> {
 
     /// Notes the use and the length of a file that was opened by its name.
     fn take_file<'a>(&mut self, role: Role, name: &'a str, file: &R::File) -> Result<(), Fault<'a>>
-        requires room { length self.old < 4 }
+        requires room { length self.old < 8 }
         ensures count { OnOk result (length self.new ≡ length self.old + 1) }
     {
         let Ok(stat) = stat(file) else {
@@ -112,7 +112,7 @@ impl<'r, R: Disk> Opener<'r, R> {
 
     /// Opens an input.
     fn input<'a>(&mut self, name: &'a str) -> Result<Opened<R::File, R::Input>, Fault<'a>>
-        requires room { length self.old < 4 }
+        requires room { length self.old < 8 }
         ensures count { OnOk result (length self.new ≡ length self.old + 1) }
     {
         if is_standard(Role::Input, name) {
@@ -128,7 +128,7 @@ impl<'r, R: Disk> Opener<'r, R> {
 
     /// Opens an output, which is not truncated.
     fn output<'a>(&mut self, name: &'a str) -> Result<Opened<R::File, R::Output>, Fault<'a>>
-        requires room { length self.old < 4 }
+        requires room { length self.old < 8 }
         ensures count { OnOk result (length self.new ≡ length self.old + 1) }
     {
         if is_standard(Role::Output, name) {
@@ -144,7 +144,7 @@ impl<'r, R: Disk> Opener<'r, R> {
 
     /// Opens an input without a buffer.
     pub fn read<'a>(&mut self, name: &'a str) -> Result<Reader<R::File, R::Input>, Fault<'a>>
-        requires room { length self.old < 4 }
+        requires room { length self.old < 8 }
         ensures fresh { IfOk result (λ file. file.failed ≡ 0) }
         ensures count { OnOk result (length self.new ≡ length self.old + 1) }
     {
@@ -153,7 +153,7 @@ impl<'r, R: Disk> Opener<'r, R> {
 
     /// Opens an output without a buffer. It is not truncated.
     pub fn write<'a>(&mut self, name: &'a str) -> Result<Target<R::File, R::Output>, Fault<'a>>
-        requires room { length self.old < 4 }
+        requires room { length self.old < 8 }
         ensures fresh { IfOk result (λ file. file.failed ≡ 0) }
         ensures count { OnOk result (length self.new ≡ length self.old + 1) }
     {
@@ -183,7 +183,7 @@ impl<'r, R: Disk + AllocGlobal> Opener<'r, R> {
         &mut self,
         name: &'a str,
     ) -> Result<Reader<R::File, R::Input>, Fault<'a>>
-        requires room { length self.old < 4 }
+        requires room { length self.old < 8 }
         ensures fresh { IfOk result (λ file. file.failed ≡ 0) }
         ensures count { OnOk result (length self.new ≡ length self.old + 1) }
     {
@@ -196,7 +196,7 @@ impl<'r, R: Disk + AllocGlobal> Opener<'r, R> {
         &mut self,
         name: &'a str,
     ) -> Result<Target<R::File, R::Output>, Fault<'a>>
-        requires room { length self.old < 4 }
+        requires room { length self.old < 8 }
         ensures fresh { IfOk result (λ file. file.failed ≡ 0) }
         ensures count { OnOk result (length self.new ≡ length self.old + 1) }
     {

@@ -23,6 +23,6 @@ mod table;
 pub use reading::read_words;
 pub use request::{
     ChannelWords, CheckWords, DemodWords, JoinWords, JudgeWords, LinkWords, ModWords, ModesWords,
-    NoiseWords, NoteWords, Progress, Request, RowsWords, RunWords, ScanWords, ShapeWords,
-    TableWords,
+    NoiseWords, NoteWords, Progress, RecordWords, Request, RowsWords, RunWords, ScanWords,
+    ShapeWords, TableWords,
 };

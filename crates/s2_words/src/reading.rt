@@ -5,8 +5,8 @@ use crate::parser::program;
 use crate::refusal::{misused, not_understood, values_in};
 use crate::request::{
     ChannelWords, CheckWords, DemodWords, JoinWords, JudgeWords, LinkWords, ModWords, ModesWords,
-    NoiseWords, NoteWords, Progress, Request, RowsWords, RunWords, ScanWords, ShapeWords,
-    TableWords,
+    NoiseWords, NoteWords, Progress, RecordWords, Request, RowsWords, RunWords, ScanWords,
+    ShapeWords, TableWords,
 };
 use clap::parser::ValueSource;
 use clap::{ArgMatches, Error};
@@ -84,6 +84,15 @@ fn notes_of(m: &ArgMatches<'_>) -> NoteWords {
     }
 }
 
+fn records_of<'a>(m: &ArgMatches<'a>) -> RecordWords<'a> {
+    RecordWords {
+        certificates: m.get_str("certificates"),
+        values: m.get_str("values"),
+        codewords: m.get_str("codewords"),
+        bbframes: m.get_str("bbframes"),
+    }
+}
+
 fn progress_of(m: &ArgMatches<'_>) -> Progress {
     progress_by(m.get_flag("progress"), m.get_flag("quiet"))
 }
@@ -158,6 +167,7 @@ fn demod_of<'a>(m: &ArgMatches<'a>) -> Option<Request<'a>> {
         tuning: tuning_of(m)?,
         notes: notes_of(m),
         progress: progress_of(m),
+        records: records_of(m),
         rows: m.get_str("ROWS")?,
         symbols: m.get_str("SYMBOLS")?,
         packets: m.get_str("PACKETS")?,
@@ -172,6 +182,7 @@ fn run_of<'a>(m: &ArgMatches<'a>) -> Option<Request<'a>> {
         channel: channel_of(m)?,
         notes: notes_of(m),
         progress: progress_of(m),
+        records: records_of(m),
         rows: m.get_str("ROWS")?,
         packets: m.get_str("PACKETS")?,
         to: m.get_str("OUT")?,

@@ -104,20 +104,30 @@ pub struct NoteWords {
     pub quiet: bool,
 }
 
-/// `demod`: a link, the tuning, the notes, whether progress is shown, and the files.
+/// The files of a reception's records, those that are given: certificates, soft values, decided bits and BBFRAMEs.
+#[derive(Clone, Copy, PartialEq, Eq)]
+pub struct RecordWords<'a> {
+    pub certificates: Option<&'a str>,
+    pub values: Option<&'a str>,
+    pub codewords: Option<&'a str>,
+    pub bbframes: Option<&'a str>,
+}
+
+/// `demod`: a link, the tuning, the notes, whether progress is shown, the records, and the files.
 #[derive(Clone, Copy, PartialEq, Eq)]
 pub struct DemodWords<'a> {
     pub link: LinkWords,
     pub tuning: Tuning,
     pub notes: NoteWords,
     pub progress: Progress,
+    pub records: RecordWords<'a>,
     pub rows: &'a str,
     pub symbols: &'a str,
     pub packets: &'a str,
 }
 
 /// `run`: a link, the number of frames between dummy frames (0 for none), the tuning, a channel, the notes,
-/// whether progress is shown, and the files.
+/// whether progress is shown, the records, and the files.
 #[derive(Clone, Copy, PartialEq, Eq)]
 pub struct RunWords<'a> {
     pub link: LinkWords,
@@ -126,6 +136,7 @@ pub struct RunWords<'a> {
     pub channel: ChannelWords,
     pub notes: NoteWords,
     pub progress: Progress,
+    pub records: RecordWords<'a>,
     pub rows: &'a str,
     pub packets: &'a str,
     pub to: &'a str,

@@ -144,7 +144,7 @@ Example:
 
 /// The report of a receiver, and its exits.
 macro_rules! report {
-    ($example:literal) => {
+    ($accepted:literal, $example:literal) => {
         concat!(
             "\
 The report, a line for each frame as it comes, and one for the end:
@@ -173,6 +173,12 @@ Notes, on standard error:
   no frame of MODE in N symbols                        another mode, byte order, form of samples or rotation
   N packets torn                                       begun, and lost with a frame that is missing or not delivered
 
+Files:
+  --certificates, --values, --codewords and --bbframes write records of the frames. Each takes `-` too.
+  A frame's records are written before its line. A file keeps its contents until the rows are accepted",
+            $accepted,
+            ".
+
 Example:
 ",
             $example
@@ -181,10 +187,14 @@ Example:
 }
 
 /// The text below the options of `demod`.
-const DEMOD_MORE: &str = report!("  s2 demod --modcod qpsk1/2 --pilots rows noisy received.ts");
+const DEMOD_MORE: &str = report!(
+    "",
+    "  s2 demod --modcod qpsk1/2 --pilots rows noisy received.ts"
+);
 
 /// The text below the options of `run`.
 const RUN_MORE: &str = report!(
+    ", and the packets",
     "  s2 run --modcod qpsk1/2 --pilots --seed 1 --level 100 rows packets.ts received.ts"
 );
 
@@ -513,6 +523,30 @@ const CERTIFICATE: Argument = Argument {
     help: "File for the certificate of a word that is sole or most likely: none is made without it",
 };
 
+const CERTIFICATES: Argument = Argument {
+    name: "certificates",
+    form: Form::NamedFile,
+    help: "File for the certificates of all frames that are sole or most likely, one after the other",
+};
+
+const VALUES: Argument = Argument {
+    name: "values",
+    form: Form::NamedFile,
+    help: "File for the soft values of each frame, a line each",
+};
+
+const CODEWORDS: Argument = Argument {
+    name: "codewords",
+    form: Form::NamedFile,
+    help: "File for the decided bits of each frame, eight to a byte, the first one highest",
+};
+
+const BBFRAMES: Argument = Argument {
+    name: "bbframes",
+    form: Form::NamedFile,
+    help: "File for the BBFRAMEs, as `join` reads them: zeros for a frame that is lost, and before one that follows a gap",
+};
+
 /// An argument that is the name of a file.
 macro_rules! file {
     ($name:literal, $help:literal) => {
@@ -648,7 +682,7 @@ static NOISE_ARGUMENTS: [Argument; 7] = [
 ];
 
 /// The arguments of `demod`, in order.
-static DEMOD_ARGUMENTS: [Argument; 18] = [
+static DEMOD_ARGUMENTS: [Argument; 22] = [
     MODCOD,
     SHORT,
     PILOTS,
@@ -664,6 +698,10 @@ static DEMOD_ARGUMENTS: [Argument; 18] = [
     STRICT,
     QUIET_AND_STILL,
     PROGRESS,
+    CERTIFICATES,
+    VALUES,
+    CODEWORDS,
+    BBFRAMES,
     ROWS,
     file!(
         "SYMBOLS",
@@ -673,7 +711,7 @@ static DEMOD_ARGUMENTS: [Argument; 18] = [
 ];
 
 /// The arguments of `run`, in order.
-static RUN_ARGUMENTS: [Argument; 22] = [
+static RUN_ARGUMENTS: [Argument; 26] = [
     MODCOD,
     SHORT,
     PILOTS,
@@ -693,6 +731,10 @@ static RUN_ARGUMENTS: [Argument; 22] = [
     STRICT,
     QUIET_AND_STILL,
     PROGRESS,
+    CERTIFICATES,
+    VALUES,
+    CODEWORDS,
+    BBFRAMES,
     ROWS,
     PACKETS,
     file!("OUT", "File for the packets that are received"),
