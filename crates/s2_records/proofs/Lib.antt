@@ -1,0 +1,7 @@
+pub mod Blocks
+pub mod Lines
+pub mod Streams
+pub mod Sizes
+pub mod ValueLines
+pub mod Written
+pub mod ReadBack
