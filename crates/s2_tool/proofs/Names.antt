@@ -25,6 +25,8 @@ pub use Rattle.s2_modem.specs.Reception.{Receiver, IsNew, link_rules, rules_for}
 pub use Rattle.s2_send.specs.Transmitter.{Transmitter, new_transmitter}
 pub use Rattle.s2_words.specs.declared.request.RunWords.{RunWords}
 pub use Rattle.s2_tool.specs.Links.{Begins, Causes, LinkCommand, DoesOn, OnLink, link_on}
+pub use Rattle.s2_receive.specs.Sinks.{Taking}
+pub use Rattle.s2_tool.specs.Ends.{Ends, BeginsWith, CausesWith}
 pub use Rattle.s2_tool.specs.Looping.{Loops, LoopsBy}
 pub use Rattle.s2_tool.specs.Losses.{Finishes, exit_by, notes_of}
 pub use Rattle.s2_tool.specs.Receptions.{Demodulates, ReceivesToEnd}

@@ -100,8 +100,24 @@ pub(crate) fn with_link<'a, R: Disk + Clock + AllocGlobal, O: CountedWrite, E: C
     let alloc = rt.alloc();
     let exit = match request {
         LinkRequest::Mod(words) => mod_command(alloc, setup, words, &mut files, console, notes),
-        LinkRequest::Demod(words) => demod_command(alloc, setup, words, &mut files, console, notes),
-        LinkRequest::Run(words) => run_command(alloc, setup, words, &mut files, console, notes),
+        LinkRequest::Demod(words) => demod_command(
+            alloc,
+            setup,
+            words,
+            &mut files,
+            &mut (),
+            console,
+            notes,
+        ),
+        LinkRequest::Run(words) => run_command(
+            alloc,
+            setup,
+            words,
+            &mut files,
+            &mut (),
+            console,
+            notes,
+        ),
     };
     show.finish();
     Ok(exit)

@@ -81,7 +81,7 @@ fn send_files<R: CountedRead, W: Output, O: CountedWrite, E: CountedWrite>(
     requires console { CanNote console.old }
     requires notes { CanCount (E.count notes.old) }
     ensures errors { (console.new.errors ≡ console.old.errors) × (console.new.errors_failed ≡ console.old.errors_failed) }
-    ensures run { OnLink (Modulates words.now.dummy) (noted_by E.contents E.count words.now.quiet setup.mode notes.old notes.new) (setup_of setup) files.old files.new (reporting files.old console.old) (reporting files.new console.new) result }
+    ensures run { OnLink (Modulates words.now.dummy) Causes (noted_by E.contents E.count words.now.quiet setup.mode notes.old notes.new) (setup_of setup) files.old files.new (reporting files.old console.old) (reporting files.new console.new) result }
 {
     let matrix = read_noted(alloc, &setup.mode, &mut files.rows, words.quiet, notes)?;
     let link = Link::of(setup, &matrix);
