@@ -1,5 +1,5 @@
 //! `demod`: receives symbols.
-ghost use Rattle.std.specs.Prelude.{◌≡◌, ◌≢◌, Ok, false};
+ghost use Rattle.std.specs.Prelude.{◌≡◌, ◌≢◌, ◌+◌, ◌≤◌, Ok, false};
 ghost use Rattle.s2_mode.specs.Counts.{CanCount};
 ghost use Rattle.s2_mode.specs.Streams.{streams_by};
 ghost use Rattle.s2_link.specs.Link.{setup_of};
@@ -43,6 +43,7 @@ pub(crate) fn receive_begun<K: Sink, S: CountedRead, W: Output, O: CountedWrite>
         (ends_of (ends symbols.old packets.old.to out.old) sinks.old) (ends_of (ends symbols.new packets.new.to out.new) sinks.new) result }
     ensures causes { let ends = streams_by S.remaining S.count W.contents W.count O.contents O.count in
         CausesWith K.count (ends_of (ends symbols.old packets.old.to out.old) sinks.old) (ends_of (ends symbols.new packets.new.to out.new) sinks.new) result }
+    ensures few { K.count sinks.new ≤ K.count sinks.old + 1 }
 {
     if packets.truncate().is_err() {
         return Err(Fault::Write);
@@ -72,6 +73,7 @@ fn receive_files<K: Sink, R: CountedRead, W: Output, O: CountedWrite, E: Counted
     ensures run { let noted = noted_by E.contents E.count words.now.notes.quiet setup.mode notes.old notes.new in
         OnLink (Demodulates K.takes K.fails words.now.tuning) (CausesWith K.count) noted (setup_of setup) files.old files.new
         (ends_of (reporting files.old console.old) sinks.old) (ends_of (reporting files.new console.new) sinks.new) result }
+    ensures few { K.count sinks.new ≤ K.count sinks.old + 1 }
 {
     let quiet = words.notes.quiet;
     let matrix = read_noted(alloc, &setup.mode, &mut files.rows, quiet, notes)?;
@@ -111,6 +113,7 @@ pub fn demod_command<K: Sink, R: CountedRead, W: Output, O: CountedWrite, E: Cou
     ensures whole { result ≢ Exit.Fault → console.new.output_failed ≡ console.old.output_failed }
     ensures run { let noted = noted_by E.contents E.count words.now.notes.quiet setup.mode notes.old notes.new in
         DemodExits K.takes K.fails K.count (setup_of setup) words.now noted files.old files.new sinks.old sinks.new console.old console.new result }
+    ensures few { K.count sinks.new ≤ K.count sinks.old + 1 }
 {
     let reception = receive_files(alloc, setup, words, files, sinks, console, notes);
     conclude_reception(words.notes, &setup.mode, reception, console)

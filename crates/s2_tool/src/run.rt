@@ -1,5 +1,5 @@
 //! `run`: sends packets, adds noise to their symbols, and receives the result. The symbols are kept in memory.
-ghost use Rattle.std.specs.Prelude.{◌≡◌, ◌≢◌, [], Ok, Some, false};
+ghost use Rattle.std.specs.Prelude.{◌≡◌, ◌≢◌, ◌+◌, ◌≤◌, [], Ok, Some, false};
 ghost use Rattle.s2_mode.specs.Counts.{CanCount};
 ghost use Rattle.s2_mode.specs.Streams.{streams_by};
 ghost use Rattle.s2_link.specs.Link.{setup_of};
@@ -59,6 +59,7 @@ fn loop_packets<K: Sink, S: CountedRead, W: Output, O: CountedWrite>(
         (ends_of (ends from.old to.old.to out.old) sinks.old) (ends_of (ends from.new to.new.to out.new) sinks.new) result }
     ensures causes { let ends = streams_by S.remaining S.count W.contents W.count O.contents O.count in
         CausesWith K.count (ends_of (ends from.old to.old.to out.old) sinks.old) (ends_of (ends from.new to.new.to out.new) sinks.new) result }
+    ensures few { K.count sinks.new ≤ K.count sinks.old + 1 }
 {
     let mut symbols = Counting::new(Vec::new(alloc));
     if let Err(refusal) = transmitter.run(from, &mut symbols) {
@@ -96,6 +97,7 @@ fn loop_files<K: Sink, R: CountedRead, W: Output, O: CountedWrite, E: CountedWri
     ensures run { let noted = noted_by E.contents E.count words.now.notes.quiet setup.mode notes.old notes.new in
         OnLink (Loops K.takes K.fails words.now) (CausesWith K.count) noted (setup_of setup) files.old files.new
         (ends_of (reporting files.old console.old) sinks.old) (ends_of (reporting files.new console.new) sinks.new) result }
+    ensures few { K.count sinks.new ≤ K.count sinks.old + 1 }
 {
     let quiet = words.notes.quiet;
     let matrix = read_noted(alloc, &setup.mode, &mut files.rows, quiet, notes)?;
@@ -140,6 +142,7 @@ pub fn run_command<K: Sink, R: CountedRead, W: Output, O: CountedWrite, E: Count
     ensures whole { result ≢ Exit.Fault → console.new.output_failed ≡ console.old.output_failed }
     ensures run { let noted = noted_by E.contents E.count words.now.notes.quiet setup.mode notes.old notes.new in
         RunExits K.takes K.fails K.count (setup_of setup) words.now noted files.old files.new sinks.old sinks.new console.old console.new result }
+    ensures few { K.count sinks.new ≤ K.count sinks.old + 1 }
 {
     let reception = loop_files(alloc, setup, words, files, sinks, console, notes);
     conclude_reception(words.notes, &setup.mode, reception, console)
