@@ -48,8 +48,8 @@ abbrev pub Causes : {T : Type 0} → Streams → Streams → Result T Fault → 
 Causes old new ended = OnlyFailed (ended ≡ Err faults.Read) (ended ≡ Err faults.Write) old new
 
 -- the note on rows, on a writer known by its contents and its count of failed calls
-abbrev pub noted_by : {E : Type 0} → (E → Option (List ℕ)) → (E → ℕ) → Bool → Mode → E → E → Result Rows Fault → Type 0
-noted_by contents count quiet m old new rows = NotesRows quiet m (count old) (count new) (contents old) (contents new) rows
+abbrev pub noted_by : {E : Type 0} → (E → Option (List ℕ)) → (E → ℕ) → (old new : E) → (quiet : Bool) → Mode → Result Rows Fault → Type 0
+noted_by contents count old new quiet m rows = NotesRows quiet m (count old) (count new) (contents old) (contents new) rows
 
 -- A command on a setup and on these files. The row file determines whether there is a link, unless memory runs out or a
 -- read of it fails, which is counted. It also determines the note on the rows. Only these failed calls are counted

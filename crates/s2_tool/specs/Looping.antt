@@ -1,6 +1,7 @@
 -- What `run` does: `mod`, `noise` and `demod`, with the symbols in memory (own).
 use Rattle.std.specs.Prelude.{◌≡◌, ◌⊎◌, ℕ, Bool, true, false, List, [], Option, Some, Result, Ok, Err}
 use Rattle.s2_mode.specs.Limits.{max_symbols}
+use Rattle.s2_mode.specs.Mode.{Mode}
 use Rattle.s2_rows.specs.Rows.{Rows}
 use Rattle.s2_link.specs.declared.setup.Setup.{Setup}
 use Rattle.s2_send.specs.Transmitter.{Transmitter}
@@ -68,8 +69,8 @@ Loops takes fails words link begun old new ended =
     LoopsBy takes fails (transmitter_on link words.dummy) (link_rules link words.tuning max_symbols) words.channel begun old new ended
 
 -- `run` has ended with this exit: so it did on its files and its sinks, and so it reported how it ended
-abbrev pub RunExits : {K : Type 0} → (takes fails : Taking K) → (count : K → ℕ) → Setup → RunWords → (Result Rows Fault → Type 0) → Files → Files → K → K → Screen → Screen → Exit → Type 0
+abbrev pub RunExits : {K : Type 0} → (takes fails : Taking K) → (count : K → ℕ) → Setup → RunWords → ((quiet : Bool) → Mode → Result Rows Fault → Type 0) → Files → Files → K → K → Screen → Screen → Exit → Type 0
 RunExits takes fails count setup words Noted files left sinks_old sinks_new old new exit =
     (reception : Result Received Fault)
-    × OnLink (Loops takes fails words) (CausesWith count) Noted setup files left (ends_of (reporting files old) sinks_old) (ends_of (reporting left new) sinks_new) reception
+    × OnLink (Loops takes fails words) (CausesWith count) (Noted words.notes.quiet setup.mode) setup files left (ends_of (reporting files old) sinks_old) (ends_of (reporting left new) sinks_new) reception
     × Finishes words.notes setup.mode reception exit old new

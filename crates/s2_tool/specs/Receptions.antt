@@ -1,6 +1,7 @@
 -- What `demod` receives, writes and reports (own).
-use Rattle.std.specs.Prelude.{ℕ, Result, Ok, Err}
+use Rattle.std.specs.Prelude.{ℕ, Bool, Result, Ok, Err}
 use Rattle.s2_mode.specs.Limits.{max_symbols}
+use Rattle.s2_mode.specs.Mode.{Mode}
 use Rattle.s2_mode.specs.declared.stream_fault.StreamFault.TheVariants as stream_faults
 use Rattle.s2_rows.specs.Rows.{Rows}
 use Rattle.s2_link.specs.Tuning.{Tuning}
@@ -33,8 +34,8 @@ abbrev pub Demodulates : {K : Type 0} → (takes fails : Taking K) → Tuning �
 Demodulates takes fails tuning link begun old new ended = BeginsWith (ReceivesToEnd takes fails (link_rules link tuning max_symbols)) begun old new ended
 
 -- `demod` has ended with this exit: so it did on its files and its sinks, and so it reported how it ended
-abbrev pub DemodExits : {K : Type 0} → (takes fails : Taking K) → (count : K → ℕ) → Setup → DemodWords → (Result Rows Fault → Type 0) → Files → Files → K → K → Screen → Screen → Exit → Type 0
+abbrev pub DemodExits : {K : Type 0} → (takes fails : Taking K) → (count : K → ℕ) → Setup → DemodWords → ((quiet : Bool) → Mode → Result Rows Fault → Type 0) → Files → Files → K → K → Screen → Screen → Exit → Type 0
 DemodExits takes fails count setup words Noted files left sinks_old sinks_new old new exit =
     (reception : Result Received Fault)
-    × OnLink (Demodulates takes fails words.tuning) (CausesWith count) Noted setup files left (ends_of (reporting files old) sinks_old) (ends_of (reporting left new) sinks_new) reception
+    × OnLink (Demodulates takes fails words.tuning) (CausesWith count) (Noted words.notes.quiet setup.mode) setup files left (ends_of (reporting files old) sinks_old) (ends_of (reporting left new) sinks_new) reception
     × Finishes words.notes setup.mode reception exit old new

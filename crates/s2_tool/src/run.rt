@@ -94,7 +94,7 @@ fn loop_files<K: Sink, R: CountedRead, W: Output, O: CountedWrite, E: CountedWri
     requires console { CanNote console.old }
     requires notes { CanCount (E.count notes.old) }
     ensures errors { (console.new.errors ≡ console.old.errors) × (console.new.errors_failed ≡ console.old.errors_failed) }
-    ensures run { let noted = noted_by E.contents E.count words.now.notes.quiet setup.mode notes.old notes.new in
+    ensures run { let noted = noted_by E.contents E.count notes.old notes.new words.now.notes.quiet setup.mode in
         OnLink (Loops K.takes K.fails words.now) (CausesWith K.count) noted (setup_of setup) files.old files.new
         (ends_of (reporting files.old console.old) sinks.old) (ends_of (reporting files.new console.new) sinks.new) result }
     ensures few { K.count sinks.new ≤ K.count sinks.old + 1 }
@@ -140,8 +140,8 @@ pub fn run_command<K: Sink, R: CountedRead, W: Output, O: CountedWrite, E: Count
     requires notes { CanCount (E.count notes.old) }
     ensures quiet { result ≢ Exit.Fault → console.new.errors_failed ≡ console.old.errors_failed }
     ensures whole { result ≢ Exit.Fault → console.new.output_failed ≡ console.old.output_failed }
-    ensures run { let noted = noted_by E.contents E.count words.now.notes.quiet setup.mode notes.old notes.new in
-        RunExits K.takes K.fails K.count (setup_of setup) words.now noted files.old files.new sinks.old sinks.new console.old console.new result }
+    ensures run { RunExits K.takes K.fails K.count (setup_of setup) words.now (noted_by E.contents E.count notes.old notes.new)
+        files.old files.new sinks.old sinks.new console.old console.new result }
     ensures few { K.count sinks.new ≤ K.count sinks.old + 1 }
 {
     let reception = loop_files(alloc, setup, words, files, sinks, console, notes);
