@@ -3,11 +3,11 @@ use Rattle.s2_tool.proofs.Names.{◌≡◌, ◌≢◌, ◌+◌, ◌∙◌, Bool,
 use Rattle.s2_tool.proofs.Names.faults
 
 -- nothing failed that is counted
-pub none_failed : {T : Type 0} (f : Fault) (old : Streams) → f ≢ faults.Write → Causes {T} old old (Err f)
+pub none_failed : {T : Type 0} (f : Fault) (old : Streams) → f ≢ faults.Write → Causes {T = T} old old (Err f)
 none_failed f old no_write = record { no_read = λ e. refl; write_reported = λ e. absurd (no_write cc); no_write = λ e. (refl, refl) }
 
 -- the same with sinks
-pub none_failed_with : {K T : Type 0} (count : K → ℕ) (f : Fault) (old : Ends K) → f ≢ faults.Write → CausesWith {K} {T} count old old (Err f)
+pub none_failed_with : {K T : Type 0} (count : K → ℕ) (f : Fault) (old : Ends K) → f ≢ faults.Write → CausesWith {K = K} {T = T} count old old (Err f)
 none_failed_with count f old no_write = record { no_read = λ e. refl; write_reported = λ e. absurd (no_write cc); no_write = λ e. ((refl, refl), refl) }
 
 module _ {E T : Type 0} (Does : LinkCommand E T) (Counted : (old new : E) → Result T Fault → Type 0) (Noted : Result Rows Fault → Type 0) (setup : Setup) (files left : Files) where

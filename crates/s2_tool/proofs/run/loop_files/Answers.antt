@@ -12,7 +12,7 @@ returns-in_err-matrix-clause-run g c =
 
 pub returns-in_default-clause-run : goal.returns-in_default-clause-run
 returns-in_default-clause-run g c =
-    rw (sym c.files.view_is, sym c.console.view_is) (without_memory (Loops g.K.Sink.takes g.K.Sink.fails c.args.words.now) (CausesWith g.K.Sink.count) _ (setup_of c.args.setup) _ _ c.in_ok-matrix.matrix c.of-link.result _
+    rw (sym c.files.view_is) (without_memory (Loops g.K.Sink.takes g.K.Sink.fails c.args.words.now) (CausesWith g.K.Sink.count) _ (setup_of c.args.setup) _ _ c.in_ok-matrix.matrix c.of-link.result _
     c.in_ok-matrix.ensures.rows c.in_ok-matrix.ensures.noted c.of-link.ensures (c.in_ok-matrix.ensures.no_other (λ e. cc)) (search rules) (none_failed_with g.K.Sink.count faults.NoMemory _))
 
 pub returns-clause-run : goal.returns-clause-run
