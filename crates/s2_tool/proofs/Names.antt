@@ -1,5 +1,5 @@
 -- The names that the proofs of this crate cite, passed on from one place. Declares nothing.
-pub use Rattle.std.proofs.Common.{◌≡◌, ℕ, ◌+◌, ◌<◌, ◌≢◌, ◌⊎◌, Bool, false, List, [], ◌∷◌, ◌++◌, IfSome, IfOk, Some, None, Ok, Err, Option, Result, sym, refl, ap, subst, ◌∙◌, inl, inr, arith, rules}
+pub use Rattle.std.proofs.Common.{◌≡◌, ℕ, ◌+◌, ◌<◌, ◌≤◌, ◌≢◌, ◌⊎◌, Bool, false, List, [], ◌∷◌, ◌++◌, IfSome, IfOk, Some, None, Ok, Err, Option, Result, sym, refl, ap, subst, ◌∙◌, inl, inr, arith, rules}
 pub use Rattle.std.proofs.lemmas.Option.{IfSome_then}
 pub use Rattle.std.proofs.lemmas.Result.{err_from_is_err_and}
 pub use Rattle.std.specs.Io.KnownBytes.{Appends}
