@@ -1,5 +1,5 @@
 -- The ends of a command that receives: its streams and its sinks (own).
-use Rattle.std.specs.Prelude.{◌≡◌, ◌⊎◌, ℕ, ◌+◌, Bool, true, List, Option, Result, Ok, Err}
+use Rattle.std.specs.Prelude.{◌≡◌, ◌⊎◌, ℕ, Bool, true, Result, Err}
 use Rattle.s2_mode.specs.Streams.{Streams}
 use Rattle.s2_receive.specs.Sinks.{OnlyFailedWith}
 use Rattle.s2_console.specs.declared.fault.Fault.{Fault}

@@ -1,5 +1,5 @@
 -- What `run` does: `mod`, `noise` and `demod`, with the symbols in memory (own).
-use Rattle.std.specs.Prelude.{◌≡◌, ◌⊎◌, ℕ, Bool, true, false, List, [], Option, Some, Result, Ok, Err}
+use Rattle.std.specs.Prelude.{◌≡◌, ℕ, Bool, false, List, [], Option, Some, Result, Ok, Err}
 use Rattle.s2_mode.specs.Limits.{max_symbols}
 use Rattle.s2_mode.specs.Mode.{Mode}
 use Rattle.s2_rows.specs.Rows.{Rows}
