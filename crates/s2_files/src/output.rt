@@ -49,6 +49,13 @@ impl<W> Destination<W> {
         &mut self.to
     }
 
+    /// Whether it is begun.
+    pub fn is_begun(&self) -> bool
+        ensures { result ≡ self.now.begun }
+    {
+        self.begun
+    }
+
     /// The writer, begun or not.
     pub fn into_inner(self) -> W
         ensures { result ≡ self.to }

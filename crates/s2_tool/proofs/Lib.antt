@@ -1,3 +1,4 @@
 pub mod Names
 pub mod LinkLemmas
 pub mod NoteLemmas
+pub mod ReceiveLemmas

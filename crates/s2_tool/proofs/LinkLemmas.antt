@@ -1,13 +1,21 @@
 -- A command on a link, or on none: a setup, and its row file that is read by this shape.
-use Rattle.s2_tool.proofs.Names.{◌≡◌, ◌≢◌, ◌+◌, ◌∙◌, Bool, false, ℕ, Result, Ok, Err, IfSome, ap, refl, subst, inl, inr, shape_in, max_symbols, Streams, Rows, Link, link_of, Setup, Tuning, Receiver, IsNew, rules_for, link_rules, Received, Transmitter, new_transmitter, RunWords, Exit, Fault, Follows, rows_in, Files, Begins, Causes, LinkCommand, DoesOn, OnLink, ReceivesToEnd, Demodulates, SendsBy, transmitter_on, Modulates, LoopsBy, Loops}
+use Rattle.s2_tool.proofs.Names.{◌≡◌, ◌≢◌, ◌+◌, ◌∙◌, Bool, false, ℕ, Result, Ok, Err, IfSome, ap, refl, subst, inl, inr, shape_in, max_symbols, Streams, Rows, Link, link_of, Setup, Tuning, Receiver, IsNew, rules_for, link_rules, Received, Taking, Transmitter, new_transmitter, RunWords, Exit, Fault, Follows, rows_in, Files, Begins, Causes, LinkCommand, DoesOn, OnLink, Ends, BeginsWith, CausesWith, ReceivesToEnd, Demodulates, SendsBy, transmitter_on, Modulates, LoopsBy, Loops}
 use Rattle.s2_tool.proofs.Names.faults
 
-module _ {T : Type 0} (Does : LinkCommand T) (Noted : Result Rows Fault → Type 0) (setup : Setup) (files left : Files) where
+-- nothing failed that is counted
+pub none_failed : {T : Type 0} (f : Fault) (old : Streams) → f ≢ faults.Write → Causes {T = T} old old (Err f)
+none_failed f old no_write = record { no_read = λ e. refl; write_reported = λ e. absurd (no_write cc); no_write = λ e. (refl, refl) }
+
+-- the same with sinks
+pub none_failed_with : {K T : Type 0} (count : K → ℕ) (f : Fault) (old : Ends K) → f ≢ faults.Write → CausesWith {K = K} {T = T} count old old (Err f)
+none_failed_with count f old no_write = record { no_read = λ e. refl; write_reported = λ e. absurd (no_write cc); no_write = λ e. ((refl, refl), refl) }
+
+module _ {E T : Type 0} (Does : LinkCommand E T) (Counted : (old new : E) → Result T Fault → Type 0) (Noted : Result Rows Fault → Type 0) (setup : Setup) (files left : Files) where
   -- there are no rows, for this fault, and this is reported
-  pub without_rows : (f : Fault) (old : Streams) → IfSome files.rows (λ text. Follows {V = Rows} (λ r. r) (Err f) (rows_in (shape_in setup.mode) text))
+  pub without_rows : (f : Fault) (old : E) → IfSome files.rows (λ text. Follows {V = Rows} (λ r. r) (Err f) (rows_in (shape_in setup.mode) text))
       → Noted (Err f) → (f ≡ faults.Read → left.rows_failed ≡ files.rows_failed + 1) → (f ≢ faults.Read → left.rows_failed ≡ files.rows_failed)
-      → f ≢ faults.Write → left.begun ≡ false → OnLink Does Noted setup files left old old (Err f)
-  without_rows f old read noted failed whole no_write unbegun =
+      → f ≢ faults.Write → left.begun ≡ false → (f ≢ faults.Write → Counted old old (Err f)) → OnLink Does Counted Noted setup files left old old (Err f)
+  without_rows f old read noted failed whole no_write unbegun counted =
       record {
         rows = Err f;
         read = read;
@@ -15,13 +23,13 @@ module _ {T : Type 0} (Does : LinkCommand T) (Noted : Result Rows Fault → Type
         rows_failed = λ e. failed cc;
         rows_whole = λ e. whole (λ q. e (ap Err q));
         does = (no_write, (unbegun, refl, refl));
-        causes = record { no_read = λ e. refl; write_reported = λ e. absurd (no_write cc); no_write = λ e. (refl, refl) };
+        causes = counted no_write;
       }
 
   -- the command does this on the link of these rows, which were read before
-  pub on_rows : (rows : Rows) (link : Link) (old new : Streams) (ended : Result T Fault) → IfSome files.rows (λ text. rows_in (shape_in setup.mode) text ≡ Ok rows)
-      → Noted (Ok rows) → link ≡ link_of setup rows → left.rows_failed ≡ files.rows_failed → DoesOn Does (Ok link) left.begun old new ended → Causes old new ended
-      → OnLink Does Noted setup files left old new ended
+  pub on_rows : (rows : Rows) (link : Link) (old new : E) (ended : Result T Fault) → IfSome files.rows (λ text. rows_in (shape_in setup.mode) text ≡ Ok rows)
+      → Noted (Ok rows) → link ≡ link_of setup rows → left.rows_failed ≡ files.rows_failed → DoesOn Does (Ok link) left.begun old new ended → Counted old new ended
+      → OnLink Does Counted Noted setup files left old new ended
   on_rows rows link old new ended read noted linked whole does causes =
       record {
         rows = Ok rows;
@@ -34,11 +42,11 @@ module _ {T : Type 0} (Does : LinkCommand T) (Noted : Result Rows Fault → Type
       }
 
   -- there are rows, and no memory for the rest
-  pub without_memory : (rows : Rows) (link : Link) (old : Streams) → IfSome files.rows (λ text. rows_in (shape_in setup.mode) text ≡ Ok rows) → Noted (Ok rows)
-      → link ≡ link_of setup rows → left.rows_failed ≡ files.rows_failed → left.begun ≡ false → OnLink Does Noted setup files left old old (Err faults.NoMemory)
-  without_memory rows link old read noted linked whole unbegun =
-      on_rows rows link old old (Err faults.NoMemory) read noted linked whole (inr (unbegun, refl, refl))
-      (record { no_read = λ e. refl; write_reported = λ e. absurd cc; no_write = λ e. (refl, refl) })
+  pub without_memory : (rows : Rows) (link : Link) (old : E) → IfSome files.rows (λ text. rows_in (shape_in setup.mode) text ≡ Ok rows) → Noted (Ok rows)
+      → link ≡ link_of setup rows → left.rows_failed ≡ files.rows_failed → left.begun ≡ false → (faults.NoMemory ≢ faults.Write → Counted old old (Err faults.NoMemory))
+      → OnLink Does Counted Noted setup files left old old (Err faults.NoMemory)
+  without_memory rows link old read noted linked whole unbegun counted =
+      on_rows rows link old old (Err faults.NoMemory) read noted linked whole (inr (unbegun, refl, refl)) (counted (λ e. absurd cc))
 
 -- the rules of a new receiver of a link
 new_rules : (link : Link) (tuning : Tuning) (r : Receiver) → IsNew link tuning r → rules_for r ≡ link_rules link tuning max_symbols
@@ -49,9 +57,10 @@ told_transmitter : (link : Link) (dummy : ℕ) (made told : Transmitter) → mad
 told_transmitter link dummy made told new set = set ∙ ap {A = Transmitter} (λ t. record t { dummy_every = dummy }) new
 
 -- a new receiver of a link receives
-pub receives_on : (link : Link) (tuning : Tuning) (r : Receiver) → IsNew link tuning r → (begun : Bool) (old new : Streams) (ended : Result Received Fault)
-    → Begins (ReceivesToEnd (rules_for r)) begun old new ended → DoesOn (Demodulates tuning) (Ok link) begun old new ended
-receives_on link tuning r made begun old new ended h = inl (subst (λ rules. Begins (ReceivesToEnd rules) begun old new ended) (new_rules link tuning r made) h)
+pub receives_on : {K : Type 0} (takes fails : Taking K) (link : Link) (tuning : Tuning) (r : Receiver) → IsNew link tuning r → (begun : Bool) (old new : Ends K) (ended : Result Received Fault)
+    → BeginsWith (ReceivesToEnd takes fails (rules_for r)) begun old new ended → DoesOn (Demodulates takes fails tuning) (Ok link) begun old new ended
+receives_on takes fails link tuning r made begun old new ended h =
+    inl (subst (λ rules. BeginsWith (ReceivesToEnd takes fails rules) begun old new ended) (new_rules link tuning r made) h)
 
 -- a new transmitter on a link sends
 pub sends_on : (link : Link) (dummy : ℕ) (made told : Transmitter) → made ≡ new_transmitter link → told ≡ record made { dummy_every = dummy } → (begun : Bool) (old new : Streams) (ended : Result Exit Fault)
@@ -59,8 +68,8 @@ pub sends_on : (link : Link) (dummy : ℕ) (made told : Transmitter) → made �
 sends_on link dummy made told is set begun old new ended h = inl (subst (λ t. Begins (SendsBy t) begun old new ended) (told_transmitter link dummy made told is set) h)
 
 -- a new transmitter on a link sends, and a new receiver of it receives
-pub loops_on : (link : Link) (words : RunWords) (made told : Transmitter) (r : Receiver) → made ≡ new_transmitter link → told ≡ record made { dummy_every = words.dummy } → IsNew link words.tuning r
-    → (begun : Bool) (old new : Streams) (ended : Result Received Fault) → LoopsBy told (rules_for r) words.channel begun old new ended → DoesOn (Loops words) (Ok link) begun old new ended
-loops_on link words made told r is set new_is begun old new ended h =
-    let by_rules = subst (λ rules. LoopsBy told rules words.channel begun old new ended) (new_rules link words.tuning r new_is) h in
-    inl (subst (λ t. LoopsBy t (link_rules link words.tuning max_symbols) words.channel begun old new ended) (told_transmitter link words.dummy made told is set) by_rules)
+pub loops_on : {K : Type 0} (takes fails : Taking K) (link : Link) (words : RunWords) (made told : Transmitter) (r : Receiver) → made ≡ new_transmitter link → told ≡ record made { dummy_every = words.dummy } → IsNew link words.tuning r
+    → (begun : Bool) (old new : Ends K) (ended : Result Received Fault) → LoopsBy takes fails told (rules_for r) words.channel begun old new ended → DoesOn (Loops takes fails words) (Ok link) begun old new ended
+loops_on takes fails link words made told r is set new_is begun old new ended h =
+    let by_rules = subst (λ rules. LoopsBy takes fails told rules words.channel begun old new ended) (new_rules link words.tuning r new_is) h in
+    inl (subst (λ t. LoopsBy takes fails t (link_rules link words.tuning max_symbols) words.channel begun old new ended) (told_transmitter link words.dummy made told is set) by_rules)

@@ -5,3 +5,4 @@ pub mod AddingNoise
 pub mod Receptions
 pub mod Looping
 pub mod Making
+pub mod Ends

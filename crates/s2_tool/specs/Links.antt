@@ -21,12 +21,13 @@ link_on setup (Ok rows) = Ok (link_of setup rows)
 abbrev pub link_in : Setup → List ℕ → Result Link Fault
 link_in setup text = link_on setup (rows_in (shape_in setup.mode) text)
 
--- What a command does on a link: whether it begins its output, from which streams to which, and how it ends.
-abbrev pub LinkCommand : Type 0 → Type 1
-LinkCommand T = Link → (begun : Bool) → Streams → Streams → Result T Fault → Type 0
+-- What a command does on a link: whether it begins its output, what it makes of its ends, and how it ends. Its ends are
+-- its streams, with its sinks if it has any
+abbrev pub LinkCommand : (E T : Type 0) → Type 1
+LinkCommand E T = Link → (begun : Bool) → (old new : E) → Result T Fault → Type 0
 
 -- it does nothing but to report this fault
-abbrev pub OnlyFails : {T : Type 0} → Fault → (begun : Bool) → Streams → Streams → Result T Fault → Type 0
+abbrev pub OnlyFails : {E T : Type 0} → Fault → (begun : Bool) → (old new : E) → Result T Fault → Type 0
 OnlyFails f begun old new ended = (begun ≡ false) × (ended ≡ Err f) × (new ≡ old)
 
 -- its output cannot be truncated, and nothing is written
@@ -38,7 +39,7 @@ abbrev pub Begins : {T : Type 0} → (Streams → Streams → Result T Fault →
 Begins Does begun old new ended = (begun ≡ true) × (Does old new ended ⊎ CannotBegin old new ended)
 
 -- Without a link it only reports why there is none. On a link it does its work, unless memory runs out
-abbrev pub DoesOn : {T : Type 0} → LinkCommand T → Result Link Fault → (begun : Bool) → Streams → Streams → Result T Fault → Type 0
+abbrev pub DoesOn : {E T : Type 0} → LinkCommand E T → Result Link Fault → (begun : Bool) → (old new : E) → Result T Fault → Type 0
 DoesOn Does (Ok link) begun old new ended = Does link begun old new ended ⊎ OnlyFails faults.NoMemory begun old new ended
 DoesOn Does (Err f) begun old new ended = (f ≢ faults.Write) × OnlyFails f begun old new ended
 
@@ -47,16 +48,16 @@ abbrev pub Causes : {T : Type 0} → Streams → Streams → Result T Fault → 
 Causes old new ended = OnlyFailed (ended ≡ Err faults.Read) (ended ≡ Err faults.Write) old new
 
 -- the note on rows, on a writer known by its contents and its count of failed calls
-abbrev pub noted_by : {E : Type 0} → (E → Option (List ℕ)) → (E → ℕ) → Bool → Mode → E → E → Result Rows Fault → Type 0
-noted_by contents count quiet m old new rows = NotesRows quiet m (count old) (count new) (contents old) (contents new) rows
+abbrev pub noted_by : {E : Type 0} → (E → Option (List ℕ)) → (E → ℕ) → (old new : E) → (quiet : Bool) → Mode → Result Rows Fault → Type 0
+noted_by contents count old new quiet m rows = NotesRows quiet m (count old) (count new) (contents old) (contents new) rows
 
 -- A command on a setup and on these files. The row file determines whether there is a link, unless memory runs out or a
--- read of it fails, which is counted. It also determines the note on the rows
-pub record OnLink {T : Type 0} (Does : LinkCommand T) (Noted : Result Rows Fault → Type 0) (setup : Setup) (files left : Files) (old new : Streams) (ended : Result T Fault) : Type 0 where
+-- read of it fails, which is counted. It also determines the note on the rows. Only these failed calls are counted
+pub record OnLink {E T : Type 0} (Does : LinkCommand E T) (Counted : (old new : E) → Result T Fault → Type 0) (Noted : Result Rows Fault → Type 0) (setup : Setup) (files left : Files) (old new : E) (ended : Result T Fault) : Type 0 where
   pub rows : Result Rows Fault
   pub read : IfSome files.rows (λ text. Follows (λ r. r) rows (rows_in (shape_in setup.mode) text))
   pub noted : Noted rows
   pub rows_failed : rows ≡ Err faults.Read → left.rows_failed ≡ files.rows_failed + 1
   pub rows_whole : rows ≢ Err faults.Read → left.rows_failed ≡ files.rows_failed
   pub does : DoesOn Does (link_on setup rows) left.begun old new ended
-  pub causes : Causes old new ended
+  pub causes : Counted old new ended

@@ -21,7 +21,7 @@ use Rattle.s2_console.specs.Notes.{Remarks}
 use Rattle.s2_console.specs.Screens.{Screen}
 use Rattle.s2_table.specs.Wanted.{notes_on}
 use Rattle.s2_words.specs.declared.request.ModWords.{ModWords}
-use Rattle.s2_tool.specs.Links.{Begins, LinkCommand, OnLink}
+use Rattle.s2_tool.specs.Links.{Begins, Causes, LinkCommand, OnLink}
 
 abbrev pub sent_line : Counts → List ℕ
 sent_line counts = codes "packets " ++ decimal counts.packets ++ codes " frames " ++ decimal counts.frames ++ codes "\n"
@@ -49,12 +49,12 @@ abbrev pub transmitter_on : Link → ℕ → Transmitter
 transmitter_on link dummy = record (new_transmitter link) { dummy_every = dummy }
 
 -- `mod` on a link, with a dummy frame after every n-th frame
-abbrev pub Modulates : ℕ → LinkCommand Exit
+abbrev pub Modulates : ℕ → LinkCommand Streams Exit
 Modulates dummy link begun old new ended = Begins (SendsBy (transmitter_on link dummy)) begun old new ended
 
 -- `mod` has ended with this exit on its files; the note and the line of a fault are on the errors
 abbrev pub ModExits : Setup → ModWords → (Result Rows Fault → Type 0) → Files → Files → Screen → Screen → Exit → Type 0
 ModExits setup words Noted files left old new exit =
     (ended : Result Exit Fault) × (exit ≡ exit_of ended)
-    × OnLink (Modulates words.dummy) Noted setup files left (reporting files old) (reporting left new) ended
+    × OnLink (Modulates words.dummy) Causes Noted setup files left (reporting files old) (reporting left new) ended
     × Remarks (notes_on words.quiet setup.mode ended) ended old new

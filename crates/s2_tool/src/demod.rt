@@ -1,5 +1,5 @@
 //! `demod`: receives symbols.
-ghost use Rattle.std.specs.Prelude.{◌≡◌, ◌≢◌, Ok, false};
+ghost use Rattle.std.specs.Prelude.{◌≡◌, ◌≢◌, ◌+◌, ◌≤◌, Ok, false};
 ghost use Rattle.s2_mode.specs.Counts.{CanCount};
 ghost use Rattle.s2_mode.specs.Streams.{streams_by};
 ghost use Rattle.s2_link.specs.Link.{setup_of};
@@ -7,7 +7,8 @@ ghost use Rattle.s2_receive.specs.Receiving.{begun};
 ghost use Rattle.s2_modem.specs.Reception.{rules_for};
 ghost use Rattle.s2_console.specs.Files.{CanStart, reporting};
 ghost use Rattle.s2_console.specs.Screens.{CanNote};
-ghost use Rattle.s2_tool.specs.Links.{Begins, Causes, OnLink, noted_by};
+ghost use Rattle.s2_tool.specs.Ends.{BeginsWith, CausesWith, ends_of};
+ghost use Rattle.s2_tool.specs.Links.{OnLink, noted_by};
 ghost use Rattle.s2_tool.specs.Receptions.{ReceivesToEnd, Demodulates, DemodExits};
 
 use crate::link_files::LinkFiles;
@@ -17,34 +18,37 @@ use s2_files::{Destination, Output};
 use s2_link::{Link, LinkSetup, Tuning};
 use s2_mode::{CountedRead, CountedWrite, StreamFault};
 use s2_modem::Receiver;
-use s2_receive::Received;
+use s2_receive::{Received, Sink};
 use s2_table::read_noted;
 use s2_words::DemodWords;
 use std::alloc::Global;
 
-/// Truncates the packets' file, and receives to the end of the symbols. Packets and lines of the report are written frame
-/// by frame.
-pub(crate) fn receive_begun<S: CountedRead, W: Output, O: CountedWrite>(
+/// Truncates the packets' file, and receives to the end of the symbols. Frame by frame, the sinks take the frame, and then
+/// its packets and its line are written.
+pub(crate) fn receive_begun<K: Sink, S: CountedRead, W: Output, O: CountedWrite>(
     receiver: &mut Receiver<'_>,
     symbols: &mut S,
+    sinks: &mut K,
     packets: &mut Destination<W>,
     out: &mut O,
 ) -> Result<Received, Fault<'static>>
     requires symbols { CanCount (S.count symbols.old) }
+    requires sinks { CanCount (K.count sinks.old) }
     requires packets { CanCount (W.count packets.old.to) }
     requires unbegun { packets.old.begun ≡ false }
     requires out { CanCount (O.count out.old) }
     requires begun { receiver.old.state ≡ begun }
     ensures receives { let ends = streams_by S.remaining S.count W.contents W.count O.contents O.count in
-        Begins (ReceivesToEnd (rules_for receiver.old)) packets.new.begun
-        (ends symbols.old packets.old.to out.old) (ends symbols.new packets.new.to out.new) result }
+        BeginsWith (ReceivesToEnd K.takes K.fails (rules_for receiver.old)) packets.new.begun
+        (ends_of (ends symbols.old packets.old.to out.old) sinks.old) (ends_of (ends symbols.new packets.new.to out.new) sinks.new) result }
     ensures causes { let ends = streams_by S.remaining S.count W.contents W.count O.contents O.count in
-        Causes (ends symbols.old packets.old.to out.old) (ends symbols.new packets.new.to out.new) result }
+        CausesWith K.count (ends_of (ends symbols.old packets.old.to out.old) sinks.old) (ends_of (ends symbols.new packets.new.to out.new) sinks.new) result }
+    ensures few { K.count sinks.new ≤ K.count sinks.old + 1 }
 {
     if packets.truncate().is_err() {
         return Err(Fault::Write);
     }
-    match receiver.run(symbols, packets.writer(), out) {
+    match receiver.run_with(symbols, sinks, packets.writer(), out) {
         Ok(received) => Ok(received),
         Err(StreamFault::Read) => Err(Fault::Read),
         Err(StreamFault::Write) => Err(Fault::Write),
@@ -52,19 +56,24 @@ pub(crate) fn receive_begun<S: CountedRead, W: Output, O: CountedWrite>(
 }
 
 /// Reads rows, and receives on their link.
-fn receive_files<R: CountedRead, W: Output, O: CountedWrite, E: CountedWrite>(
+fn receive_files<K: Sink, R: CountedRead, W: Output, O: CountedWrite, E: CountedWrite>(
     alloc: Global,
     setup: LinkSetup,
     words: &DemodWords<'_>,
     files: &mut LinkFiles<R, W>,
+    sinks: &mut K,
     console: &mut Console<O, E>,
     notes: &mut E,
 ) -> Result<Received, Fault<'static>>
     requires files { CanStart files.old }
+    requires sinks { CanCount (K.count sinks.old) }
     requires console { CanNote console.old }
     requires notes { CanCount (E.count notes.old) }
     ensures errors { (console.new.errors ≡ console.old.errors) × (console.new.errors_failed ≡ console.old.errors_failed) }
-    ensures run { OnLink (Demodulates words.now.tuning) (noted_by E.contents E.count words.now.notes.quiet setup.mode notes.old notes.new) (setup_of setup) files.old files.new (reporting files.old console.old) (reporting files.new console.new) result }
+    ensures run { let noted = noted_by E.contents E.count notes.old notes.new words.now.notes.quiet setup.mode in
+        OnLink (Demodulates K.takes K.fails words.now.tuning) (CausesWith K.count) noted (setup_of setup) files.old files.new
+        (ends_of (reporting files.old console.old) sinks.old) (ends_of (reporting files.new console.new) sinks.new) result }
+    ensures few { K.count sinks.new ≤ K.count sinks.old + 1 }
 {
     let quiet = words.notes.quiet;
     let matrix = read_noted(alloc, &setup.mode, &mut files.rows, quiet, notes)?;
@@ -73,6 +82,7 @@ fn receive_files<R: CountedRead, W: Output, O: CountedWrite, E: CountedWrite>(
         Ok(mut receiver) => receive_begun(
             &mut receiver,
             &mut files.from,
+            sinks,
             &mut files.to,
             &mut console.output,
         ),
@@ -86,22 +96,25 @@ fn receive_files<R: CountedRead, W: Output, O: CountedWrite, E: CountedWrite>(
 /// known to be most likely; with `strict` also if something was lost. Notes on losses are written to the errors
 /// after the report, unless they are left out; the note on rows that are not the standard's is written to
 /// `notes` before it. The packets' file is begun when the rows are accepted and there is memory.
-pub fn demod_command<R: CountedRead, W: Output, O: CountedWrite, E: CountedWrite>(
+pub fn demod_command<K: Sink, R: CountedRead, W: Output, O: CountedWrite, E: CountedWrite>(
     alloc: Global,
     setup: LinkSetup,
     words: &DemodWords<'_>,
     files: &mut LinkFiles<R, W>,
+    sinks: &mut K,
     console: &mut Console<O, E>,
     notes: &mut E,
 ) -> Exit
     requires files { CanStart files.old }
+    requires sinks { CanCount (K.count sinks.old) }
     requires console { CanNote console.old }
     requires notes { CanCount (E.count notes.old) }
     ensures quiet { result ≢ Exit.Fault → console.new.errors_failed ≡ console.old.errors_failed }
     ensures whole { result ≢ Exit.Fault → console.new.output_failed ≡ console.old.output_failed }
-    ensures run { let noted = noted_by E.contents E.count words.now.notes.quiet setup.mode notes.old notes.new in
-        DemodExits (setup_of setup) words.now noted files.old files.new console.old console.new result }
+    ensures run { DemodExits K.takes K.fails K.count (setup_of setup) words.now (noted_by E.contents E.count notes.old notes.new)
+        files.old files.new sinks.old sinks.new console.old console.new result }
+    ensures few { K.count sinks.new ≤ K.count sinks.old + 1 }
 {
-    let reception = receive_files(alloc, setup, words, files, console, notes);
+    let reception = receive_files(alloc, setup, words, files, sinks, console, notes);
     conclude_reception(words.notes, &setup.mode, reception, console)
 }

@@ -6,14 +6,15 @@ ghost use Rattle.s2_console.specs.Screens.{CanNote};
 use crate::demod::demod_command;
 use crate::modulate::mod_command;
 use crate::opening::{open_link, show_on};
+use crate::records::{conclude_records, open_records};
 use crate::run::run_command;
 use crate::serve::mode_of;
 use s2_console::{Console, Exit, Fault};
-use s2_files::Disk;
+use s2_files::{Disk, Opener};
 use s2_link::LinkSetup;
 use s2_mode::{CountedWrite, Mode};
 use s2_progress::{Pace, Show, Terminal};
-use s2_words::{DemodWords, LinkWords, ModWords, Progress, RunWords};
+use s2_words::{DemodWords, LinkWords, ModWords, Progress, RecordWords, RunWords};
 use std::time::Clock;
 
 /// A request that works on a link, by its words.
@@ -40,6 +41,20 @@ impl<'w, 'a> LinkRequest<'w, 'a> {
             LinkRequest::Mod(words) => [words.rows, words.packets, words.symbols],
             LinkRequest::Demod(words) => [words.rows, words.symbols, words.packets],
             LinkRequest::Run(words) => [words.rows, words.packets, words.to],
+        }
+    }
+
+    /// The names of its files of records.
+    fn records(self) -> RecordWords<'a> {
+        match self {
+            LinkRequest::Mod(_) => RecordWords {
+                certificates: None,
+                values: None,
+                codewords: None,
+                bbframes: None,
+            },
+            LinkRequest::Demod(words) => words.records,
+            LinkRequest::Run(words) => words.records,
         }
     }
 
@@ -92,17 +107,22 @@ pub(crate) fn with_link<'a, R: Disk + Clock + AllocGlobal, O: CountedWrite, E: C
     requires notes { CanCount (E.count notes.old) }
     ensures { OnErr result (CanCount console.new.errors_failed) }
 {
-    let setup = setup_of(request.link())?;
+    let (alloc, setup) = (rt.alloc(), setup_of(request.link())?);
     let pace = request.pace(&setup.mode);
     let show = show_on(terminal, pace, request.progress());
     let unseen = Show::new(terminal, pace, false);
-    let mut files = open_link(rt, &show, &unseen, request.names(), request.is_buffered())?;
-    let alloc = rt.alloc();
+    let (names, buffered) = (request.names(), request.is_buffered());
+    let mut opener = Opener::new(rt);
+    let mut files = open_link(&mut opener, &show, &unseen, names, buffered)?;
+    let mut records = open_records(&mut opener, alloc, setup.mode, request.records())?;
+    let (open, sinks) = (&mut files, &mut records);
     let exit = match request {
-        LinkRequest::Mod(words) => mod_command(alloc, setup, words, &mut files, console, notes),
-        LinkRequest::Demod(words) => demod_command(alloc, setup, words, &mut files, console, notes),
-        LinkRequest::Run(words) => run_command(alloc, setup, words, &mut files, console, notes),
+        LinkRequest::Mod(words) => mod_command(alloc, setup, words, open, console, notes),
+        LinkRequest::Demod(words) => demod_command(
+            alloc, setup, words, open, sinks, console, notes,
+        ),
+        LinkRequest::Run(words) => run_command(alloc, setup, words, open, sinks, console, notes),
     };
     show.finish();
-    Ok(exit)
+    conclude_records(exit, files.to.is_begun(), records)
 }

@@ -8,12 +8,13 @@ mod losses;
 mod modulate;
 mod noise;
 mod opening;
+mod records;
 mod rows;
 mod run;
 mod serve;
 
 use crate::opening::{errors_of, screen_beside};
-use crate::serve::{explain, request_of, run_request, words_given, written_by};
+use crate::serve::{explain, request_of, run_request, takes_output, words_given};
 use s2_progress::Terminal;
 use std::process::ExitCode;
 
@@ -22,7 +23,7 @@ fn main(rt: HostRuntime) -> ExitCode {
     let words = words_given(&rt);
     let exit = match request_of(rt.alloc(), &words) {
         Ok(request) => {
-            let mut screen = screen_beside(&terminal, written_by(&request));
+            let mut screen = screen_beside(&terminal, takes_output(&request));
             let mut notes = errors_of(&terminal);
             run_request(&rt, &terminal, &request, &mut screen, &mut notes)
         }

@@ -81,7 +81,7 @@ fn send_files<R: CountedRead, W: Output, O: CountedWrite, E: CountedWrite>(
     requires console { CanNote console.old }
     requires notes { CanCount (E.count notes.old) }
     ensures errors { (console.new.errors ≡ console.old.errors) × (console.new.errors_failed ≡ console.old.errors_failed) }
-    ensures run { OnLink (Modulates words.now.dummy) (noted_by E.contents E.count words.now.quiet setup.mode notes.old notes.new) (setup_of setup) files.old files.new (reporting files.old console.old) (reporting files.new console.new) result }
+    ensures run { OnLink (Modulates words.now.dummy) Causes (noted_by E.contents E.count notes.old notes.new words.now.quiet setup.mode) (setup_of setup) files.old files.new (reporting files.old console.old) (reporting files.new console.new) result }
 {
     let matrix = read_noted(alloc, &setup.mode, &mut files.rows, words.quiet, notes)?;
     let link = Link::of(setup, &matrix);
@@ -116,7 +116,7 @@ pub fn mod_command<R: CountedRead, W: Output, O: CountedWrite, E: CountedWrite>(
     requires notes { CanCount (E.count notes.old) }
     ensures quiet { result ≢ Exit.Fault → console.new.errors_failed ≡ console.old.errors_failed }
     ensures whole { result ≢ Exit.Fault → console.new.output_failed ≡ console.old.output_failed }
-    ensures run { let noted = noted_by E.contents E.count words.now.quiet setup.mode notes.old notes.new in
+    ensures run { let noted = noted_by E.contents E.count notes.old notes.new words.now.quiet setup.mode in
         ModExits (setup_of setup) words.now noted files.old files.new console.old console.new result }
 {
     let ended = send_files(alloc, setup, words, files, console, notes);

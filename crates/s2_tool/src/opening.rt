@@ -8,7 +8,7 @@ use crate::link_files::LinkFiles;
 use either::{Either, Left, Right};
 use s2_console::{Console, Fault};
 use s2_evidence::JudgeFiles;
-use s2_files::{Destination, Disk, Opener, Reader, Role, StandardStreams, Target, is_standard};
+use s2_files::{Destination, Disk, Opener, Reader, StandardStreams, Target};
 use s2_mode::Counting;
 use s2_progress::{Clearing, Meter, Pace, Show, Terminal, Watched};
 use s2_words::{AuditWords, JoinWords, JudgeWords, Progress};
@@ -46,16 +46,17 @@ pub(crate) fn errors_of<'t, 'r, R: Disk>(terminal: &'t Terminal<'r, R>) -> Error
     Clearing::new(Counting::new(terminal.host().errors()), terminal)
 }
 
-/// The output of a command that writes a file of this name, or none.
+/// The output of a command. Its report goes to standard error if one of its files takes standard output.
 pub(crate) fn screen_beside<'t, 'r, R: Disk>(
     terminal: &'t Terminal<'r, R>,
-    written: Option<&str>,
+    taken: bool,
 ) -> Screen<'t, 'r, R>
     ensures { CanNote result }
 {
-    let report = match written {
-        Some(name) if is_standard(Role::Output, name) => Right(terminal.host().errors()),
-        _ => Left(terminal.host().output()),
+    let report = if taken {
+        Right(terminal.host().errors())
+    } else {
+        Left(terminal.host().output())
     };
     let output = Clearing::new(Counting::new(report), terminal);
     Console::new(output, errors_of(terminal))
@@ -133,16 +134,17 @@ pub(crate) fn open_judge<'a, R: Disk>(
 /// Opens the files of a command on a link: the row file, the input, with a buffer if one is wanted, and the output.
 /// The progress line does not count the rows' bytes.
 pub(crate) fn open_link<'a, 'm, 't, 'r, R: Disk + Clock + AllocGlobal>(
-    rt: &R,
+    opener: &mut Opener<'_, R>,
     show: &'m Show<'t, 'r, R>,
     unseen: &'m Show<'t, 'r, R>,
     names: [&'a str; 3],
     buffered: bool,
 ) -> Result<Watching<'m, 't, 'r, R>, Fault<'a>>
-    ensures { IfOk result CanStart }
+    requires first { opener.old ≡ [] }
+    ensures room { OnOk result (length opener.new ≡ 3) }
+    ensures start { IfOk result CanStart }
 {
     let [rows, from, to] = names;
-    let mut opener = Opener::new(rt);
     let rows = opener.read(rows)?;
     let from = if buffered {
         opener.read_buffered(from)?

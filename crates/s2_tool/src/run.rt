@@ -1,5 +1,5 @@
 //! `run`: sends packets, adds noise to their symbols, and receives the result. The symbols are kept in memory.
-ghost use Rattle.std.specs.Prelude.{◌≡◌, ◌≢◌, [], Ok, Some, false};
+ghost use Rattle.std.specs.Prelude.{◌≡◌, ◌≢◌, ◌+◌, ◌≤◌, [], Ok, Some, false};
 ghost use Rattle.s2_mode.specs.Counts.{CanCount};
 ghost use Rattle.s2_mode.specs.Streams.{streams_by};
 ghost use Rattle.s2_link.specs.Link.{setup_of};
@@ -7,7 +7,8 @@ ghost use Rattle.s2_receive.specs.Receiving.{begun};
 ghost use Rattle.s2_modem.specs.Reception.{rules_for};
 ghost use Rattle.s2_console.specs.Files.{CanStart, reporting};
 ghost use Rattle.s2_console.specs.Screens.{CanNote};
-ghost use Rattle.s2_tool.specs.Links.{Causes, OnLink, noted_by};
+ghost use Rattle.s2_tool.specs.Ends.{CausesWith, ends_of};
+ghost use Rattle.s2_tool.specs.Links.{OnLink, noted_by};
 ghost use Rattle.s2_tool.specs.Looping.{kept_fault, LoopsBy, Loops, RunExits};
 
 use crate::demod::receive_begun;
@@ -20,7 +21,7 @@ use s2_files::{Destination, Output};
 use s2_link::{Link, LinkSetup};
 use s2_mode::{CountedRead, CountedWrite, Counting, InMemory};
 use s2_modem::Receiver;
-use s2_receive::Received;
+use s2_receive::{Received, Sink};
 use s2_send::Transmitter;
 use s2_table::read_noted;
 use s2_words::{ChannelWords, RunWords};
@@ -37,25 +38,28 @@ fn kept_fault(fault: Fault<'static>) -> Fault<'static>
 }
 
 /// Sends packets into memory, adds noise to their symbols, and receives the result.
-fn loop_packets<S: CountedRead, W: Output, O: CountedWrite>(
+fn loop_packets<K: Sink, S: CountedRead, W: Output, O: CountedWrite>(
     alloc: Global,
     transmitter: &mut Transmitter<'_>,
     receiver: &mut Receiver<'_>,
     channel: ChannelWords,
     from: &mut S,
+    sinks: &mut K,
     to: &mut Destination<W>,
     out: &mut O,
 ) -> Result<Received, Fault<'static>>
     requires from { CanCount (S.count from.old) }
+    requires sinks { CanCount (K.count sinks.old) }
     requires to { CanCount (W.count to.old.to) }
     requires unbegun { to.old.begun ≡ false }
     requires out { CanCount (O.count out.old) }
     requires begun { receiver.old.state ≡ begun }
     ensures loops { let ends = streams_by S.remaining S.count W.contents W.count O.contents O.count in
-        LoopsBy transmitter.old (rules_for receiver.old) channel to.new.begun
-        (ends from.old to.old.to out.old) (ends from.new to.new.to out.new) result }
+        LoopsBy K.takes K.fails transmitter.old (rules_for receiver.old) channel to.new.begun
+        (ends_of (ends from.old to.old.to out.old) sinks.old) (ends_of (ends from.new to.new.to out.new) sinks.new) result }
     ensures causes { let ends = streams_by S.remaining S.count W.contents W.count O.contents O.count in
-        Causes (ends from.old to.old.to out.old) (ends from.new to.new.to out.new) result }
+        CausesWith K.count (ends_of (ends from.old to.old.to out.old) sinks.old) (ends_of (ends from.new to.new.to out.new) sinks.new) result }
+    ensures few { K.count sinks.new ≤ K.count sinks.old + 1 }
 {
     let mut symbols = Counting::new(Vec::new(alloc));
     if let Err(refusal) = transmitter.run(from, &mut symbols) {
@@ -64,25 +68,36 @@ fn loop_packets<S: CountedRead, W: Output, O: CountedWrite>(
     let symbols = symbols.into_inner();
     let mut noisy = Counting::new(Vec::new(alloc));
     match add_noise(channel, &mut InMemory::new(&symbols), &mut noisy) {
-        Ok(_) => receive_begun(receiver, &mut InMemory::new(&noisy.into_inner()), to, out),
+        Ok(_) => receive_begun(
+            receiver,
+            &mut InMemory::new(&noisy.into_inner()),
+            sinks,
+            to,
+            out,
+        ),
         Err(fault) => Err(kept_fault(fault)),
     }
 }
 
 /// Reads rows, sends packets on their link according to the options, and receives the result.
-fn loop_files<R: CountedRead, W: Output, O: CountedWrite, E: CountedWrite>(
+fn loop_files<K: Sink, R: CountedRead, W: Output, O: CountedWrite, E: CountedWrite>(
     alloc: Global,
     setup: LinkSetup,
     words: &RunWords<'_>,
     files: &mut LinkFiles<R, W>,
+    sinks: &mut K,
     console: &mut Console<O, E>,
     notes: &mut E,
 ) -> Result<Received, Fault<'static>>
     requires files { CanStart files.old }
+    requires sinks { CanCount (K.count sinks.old) }
     requires console { CanNote console.old }
     requires notes { CanCount (E.count notes.old) }
     ensures errors { (console.new.errors ≡ console.old.errors) × (console.new.errors_failed ≡ console.old.errors_failed) }
-    ensures run { OnLink (Loops words.now) (noted_by E.contents E.count words.now.notes.quiet setup.mode notes.old notes.new) (setup_of setup) files.old files.new (reporting files.old console.old) (reporting files.new console.new) result }
+    ensures run { let noted = noted_by E.contents E.count notes.old notes.new words.now.notes.quiet setup.mode in
+        OnLink (Loops K.takes K.fails words.now) (CausesWith K.count) noted (setup_of setup) files.old files.new
+        (ends_of (reporting files.old console.old) sinks.old) (ends_of (reporting files.new console.new) sinks.new) result }
+    ensures few { K.count sinks.new ≤ K.count sinks.old + 1 }
 {
     let quiet = words.notes.quiet;
     let matrix = read_noted(alloc, &setup.mode, &mut files.rows, quiet, notes)?;
@@ -98,6 +113,7 @@ fn loop_files<R: CountedRead, W: Output, O: CountedWrite, E: CountedWrite>(
             &mut receiver,
             words.channel,
             &mut files.from,
+            sinks,
             &mut files.to,
             &mut console.output,
         ),
@@ -109,22 +125,25 @@ fn loop_files<R: CountedRead, W: Output, O: CountedWrite, E: CountedWrite>(
 /// It adds the noise of a seed and a strength to their symbols, and receives the result. It prints the report of
 /// `demod`, and writes the packets that were received. The symbols are kept in memory. If a packet is refused, nothing
 /// is printed, and the output file is not begun. The note on rows that are not the standard's is written to `notes`.
-pub fn run_command<R: CountedRead, W: Output, O: CountedWrite, E: CountedWrite>(
+pub fn run_command<K: Sink, R: CountedRead, W: Output, O: CountedWrite, E: CountedWrite>(
     alloc: Global,
     setup: LinkSetup,
     words: &RunWords<'_>,
     files: &mut LinkFiles<R, W>,
+    sinks: &mut K,
     console: &mut Console<O, E>,
     notes: &mut E,
 ) -> Exit
     requires files { CanStart files.old }
+    requires sinks { CanCount (K.count sinks.old) }
     requires console { CanNote console.old }
     requires notes { CanCount (E.count notes.old) }
     ensures quiet { result ≢ Exit.Fault → console.new.errors_failed ≡ console.old.errors_failed }
     ensures whole { result ≢ Exit.Fault → console.new.output_failed ≡ console.old.output_failed }
-    ensures run { let noted = noted_by E.contents E.count words.now.notes.quiet setup.mode notes.old notes.new in
-        RunExits (setup_of setup) words.now noted files.old files.new console.old console.new result }
+    ensures run { RunExits K.takes K.fails K.count (setup_of setup) words.now (noted_by E.contents E.count notes.old notes.new)
+        files.old files.new sinks.old sinks.new console.old console.new result }
+    ensures few { K.count sinks.new ≤ K.count sinks.old + 1 }
 {
-    let reception = loop_files(alloc, setup, words, files, console, notes);
+    let reception = loop_files(alloc, setup, words, files, sinks, console, notes);
     conclude_reception(words.notes, &setup.mode, reception, console)
 }

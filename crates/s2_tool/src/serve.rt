@@ -14,7 +14,7 @@ use clap::error::ErrorKind;
 use s2_audit::audit_command;
 use s2_console::{Console, Exit, Fault};
 use s2_evidence::{check_command, check_each_command, judge_command, self_command};
-use s2_files::Disk;
+use s2_files::{Disk, Role, is_standard};
 use s2_join::join_command;
 use s2_mode::{CountedWrite, Counting, FaultText, Mode, Shape};
 use s2_names::modes_command;
@@ -22,8 +22,8 @@ use s2_progress::{Pace, Terminal};
 use s2_scan::scan_command;
 use s2_table::table_command;
 use s2_words::{
-    AuditWords, CheckWords, CodeWords, JoinWords, JudgeWords, ModesWords, NoiseWords, Request,
-    RowsWords, ScanWords, ShapeWords, TableWords, read_words,
+    AuditWords, CheckWords, CodeWords, JoinWords, JudgeWords, ModesWords, NoiseWords, RecordWords,
+    Request, RowsWords, ScanWords, ShapeWords, TableWords, read_words,
 };
 use std::alloc::{AllocError, Global};
 use std::env;
@@ -54,7 +54,7 @@ pub(crate) fn explain<R: Disk + Print + Eprint>(
     error: &Error,
 ) -> Exit {
     if error.kind() == ErrorKind::OutOfMemory {
-        return lacks_memory(&mut screen_beside(terminal, None));
+        return lacks_memory(&mut screen_beside(terminal, false));
     }
     match error.print(rt) {
         Ok(()) if !error.use_stderr() => Exit::Fine,
@@ -69,15 +69,31 @@ fn lacks_memory<O: CountedWrite, E: CountedWrite>(console: &mut Console<O, E>) -
     console.complain(Fault::NoMemory)
 }
 
-/// The name of the file that a request writes, if it writes one.
-pub(crate) fn written_by<'a>(request: &Request<'a>) -> Option<&'a str> {
+/// Whether a file of this name is standard output, if a name is given.
+fn is_output(name: Option<&str>) -> bool {
+    match name {
+        Some(name) => is_standard(Role::Output, name),
+        None => false,
+    }
+}
+
+/// Whether records are written to standard output.
+fn has_output(records: RecordWords<'_>) -> bool {
+    is_output(records.certificates)
+        || is_output(records.values)
+        || is_output(records.codewords)
+        || is_output(records.bbframes)
+}
+
+/// Whether a request writes a file to standard output.
+pub(crate) fn takes_output(request: &Request<'_>) -> bool {
     match request {
-        Request::Judge(words) => words.certificate,
-        Request::Mod(words) => Some(words.symbols),
-        Request::Demod(words) => Some(words.packets),
-        Request::Run(words) => Some(words.to),
-        Request::Join(words) => Some(words.packets),
-        _ => None,
+        Request::Judge(words) => is_output(words.certificate),
+        Request::Mod(words) => is_output(Some(words.symbols)),
+        Request::Demod(words) => is_output(Some(words.packets)) || has_output(words.records),
+        Request::Run(words) => is_output(Some(words.to)) || has_output(words.records),
+        Request::Join(words) => is_output(Some(words.packets)),
+        _ => false,
     }
 }
 
