@@ -79,10 +79,7 @@ fn is_output(name: Option<&str>) -> bool {
 
 /// Whether records are written to standard output.
 fn has_output(records: RecordWords<'_>) -> bool {
-    is_output(records.certificates)
-        || is_output(records.values)
-        || is_output(records.codewords)
-        || is_output(records.bbframes)
+    records.names().into_iter().any(is_output)
 }
 
 /// Whether a request writes a file to standard output.

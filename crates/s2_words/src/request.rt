@@ -123,6 +123,19 @@ pub struct RecordWords<'a> {
     pub bbframes: Option<&'a str>,
 }
 
+impl<'a> RecordWords<'a> {
+    /// The names of the files, in the order in which they are opened.
+    pub fn names(self) -> [Option<&'a str>; 4] {
+        let RecordWords {
+            certificates,
+            values,
+            codewords,
+            bbframes,
+        } = self;
+        [certificates, values, codewords, bbframes]
+    }
+}
+
 /// `demod`: a link, the tuning, the notes, whether progress is shown, the records, and the files.
 #[derive(Clone, Copy, PartialEq, Eq)]
 pub struct DemodWords<'a> {
