@@ -124,7 +124,8 @@ fn loop_files<K: Sink, R: CountedRead, W: Output, O: CountedWrite, E: CountedWri
 /// `run`: sends the packets of a stream on the link of a setup and a row file, with dummy frames if the options say so.
 /// It adds the noise of a seed and a strength to their symbols, and receives the result. It prints the report of
 /// `demod`, and writes the packets that were received. The symbols are kept in memory. If a packet is refused, nothing
-/// is printed, and the output file is not begun. The note on rows that are not the standard's is written to `notes`.
+/// is printed, the output file is not begun, and the sinks are unchanged. They take each frame that is received, as in
+/// `demod`. The note on rows that are not the standard's is written to `notes`.
 pub fn run_command<K: Sink, R: CountedRead, W: Output, O: CountedWrite, E: CountedWrite>(
     alloc: Global,
     setup: LinkSetup,
