@@ -5,6 +5,8 @@ the sum of its soft values at the bits that are 1."""
 from cases.common import FAULT, LINK, NO, Case, fault
 
 HEAD = 13
+# Seeds and levels for which at least one of the two frames is most likely and not sole; for the second one another is only `parity`.
+LIKELY = [(1, 300), (6, 400)]
 WORDS = f"audit {LINK} made symbols report certificates"
 
 
@@ -143,6 +145,12 @@ def cases(symbols, report, certificates):
     for text in ("cut at 5 symbols 90", "end", "cut", "end " + 251 * "x"):
         yield case("".join(rest[:-1]) + text + "\n", symbols, certificates, 0, "".join(lines) + last(report))
     yield case("".join(rest[:-1]), symbols, certificates, 0, "".join(lines) + last(report))
+    # each file from standard input
+    given = {"symbols": symbols, "report": report.encode(), "certificates": certificates}
+    for name, text in given.items():
+        others = {other: given[other] for other in given if other != name}
+        for stream in ("-", "/dev/stdin"):
+            yield Case(WORDS.replace(f" {name}", f" {stream}"), out="".join(lines) + last(report), reads=others, given=text)
     # an empty report
     yield case("", symbols, b"", 0, "audit frames 0 sole 0 most-likely 0\n")
     yield case("", b"", certificates, NO, "certificates left over\n")

@@ -1,5 +1,6 @@
 """Reads, writes and cuts that fail in turn."""
-from cases.common import LINK, LONG_ROWS, PAIR, TOY
+from cases import audit, records
+from cases.common import LINK, LONG_ROWS, PAIR, TOY, TWO
 
 READ, WRITE = "cannot read", "cannot write"
 MOD, DEMOD = f"mod {LINK} made packets out", f"demod {LINK} made two out"
@@ -59,4 +60,44 @@ FAILING = [
     (RUN, "printed", WRITE, FRAMES),
 ]
 # Commands whose first call on an existing `out` truncates it.
-CUTTING = [MOD, DEMOD, NOISE, RUN, f"judge {TOY} --cert out toy stored", f"judge {PAIR} --cert out pair odd"]
+JOIN = f"join {LINK} bbframes out"
+CUTTING = [MOD, DEMOD, NOISE, RUN, JOIN, f"judge {TOY} --cert out toy stored", f"judge {PAIR} --cert out pair odd"]
+
+
+def in_steps(lines):
+    """How many bytes are printed after each of these lines, and before the first."""
+    return [(0, sum(map(len, lines[:count]))) for count in range(len(lines) + 1)]
+
+
+def failing(two):
+    """The same of `scan`, `join`, `check --each` and `audit`, and of records: the symbols of two frames, their report, certificates and
+    BBFRAMEs are `two`, `report`, `certificates` and `bbframes`."""
+    written = records.records(two)
+    shown = audit.shown(TWO, audit.apart(written["--certificates"]))
+    audited, checked = in_steps(shown), in_steps([" ".join(line.split()[4:]) + "\n" for line in shown])
+    check, auditing = "check --each made certificates", f"audit {LINK} made two report certificates"
+    cases = [
+        ("scan two", "two", READ, NOTHING),
+        ("scan two", "printed", WRITE, NOTHING),
+        # both frames are in the buffer by the first read
+        (JOIN, "bbframes", READ, [(0, 0), (376, 0)]),
+        (JOIN, "out", WRITE, [(0, 0), (188, 0)]),
+        (JOIN, "printed", WRITE, [(376, 0)]),
+        (check, "made", READ, NOTHING),
+        (check, "certificates", READ, checked),
+        (check, "printed", WRITE, checked[:-1]),
+        (auditing, "made", READ, NOTHING),
+        (auditing, "two", READ, audited[:-1]),
+        # the whole report is in the buffer by the first read
+        (auditing, "report", READ, audited[::2]),
+        (auditing, "certificates", READ, audited),
+        (auditing, "printed", WRITE, audited),
+    ]
+    sizes = {option: len(text) for option, text in records.records(two[: 4 * records.FRAME]).items()}
+    cases += [(f"demod {LINK} {option} out made two received", "out", WRITE, recording(size)) for option, size in sizes.items()]
+    return cases
+
+
+def recording(first):
+    """Where a write of a record fails, the bytes before it stand, and the line of the first frame if its record is whole."""
+    return lambda moved, size, printed: (size, printed) == (moved, 26 if moved >= first else 0)

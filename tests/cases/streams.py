@@ -87,11 +87,15 @@ TWICE = [
             (f"{RUN} - - old", "-"),
             (f"judge {TOY} - -", "-"),
             ("check - -", "-"),
+            ("check --each - -", "-"),
+            (f"audit {LINK} - made - old", "-"),
+            (f"audit {LINK} made - old /dev/stdin", "/dev/stdin"),
         ]
     ),
     twice(f"mod {LINK} made - in", "in", reads={"in": PACKET}, given="in"),
     twice(f"{NOISE} in -", "-", reads={"in": SAMPLES}, to="in"),
     twice(f"{NOISE} - /dev/stdout", "/dev/stdout", reads={"in": SAMPLES}, given="in", to="in"),
+    Case(f"audit {LINK} made in in in", out="audit frames 0 sole 0 most-likely 0\n", reads={"in": b""}),
     # devices hold nothing
     Case(f"{NOISE} /dev/null /dev/null"),
 ]
