@@ -4,6 +4,7 @@ What a receiver meets is a function of the symbols. After a frame its search dep
 a frame, and holds no symbols. So two receivers that report a frame at one position report the same frames from there on. A new receiver
 is put in that state by a dummy frame before its first symbol. The packets and their counts come from `s2 join`, which reads the BBFRAMEs."""
 import collections
+import ctypes
 import itertools
 import os
 import re
@@ -20,6 +21,8 @@ TOP = os.path.dirname(os.path.dirname(os.path.realpath(__file__)))
 SYMBOL, HEADER, DUMMY, BLOCK = 4, 90, 3330, 1 << 20
 # A header of a BBFRAME; a packet's body; the SYNCD of a field in which no packet begins.
 BBHEADER, BODY, NO_PLACE = 10, 187, 65535
+# of Linux: the signal that a process gets when the one that began it ends
+PR_SET_PDEATHSIG = 1
 RECORDS = ("certificates", "values", "codewords", "bbframes")
 STANDARD = ("-", "/dev/stdout")
 CERTIFIED = ("sole", "most-likely")
@@ -30,7 +33,7 @@ FRAME = re.compile(rb"frame \d+ at (\d+) (([a-z-]+) (fixed \d+|lost).*)\n")
 CUT = re.compile(rb"cut at (\d+) symbols (\d+)\n")
 END = re.compile(rb"end frames (\d+) delivered (\d+) packets (\d+) bad (\d+)")
 PASSED_OVER = re.compile(rb"s2: note: (\d+) symbols? passed over in (\d+) places?, the first at (\d+)\n")
-NO_FRAME = re.compile(rb"s2: note: no frame of .*\n")
+NO_FRAME = re.compile(rb"(s2: note: no frame of .* in )\d+( symbols.*\n)")
 
 
 class Fault(Exception):
@@ -355,8 +358,8 @@ class Whole:
         # The position after the last frame, whether there is a frame, and the positions of the last frames.
         self.cursor, self.follows, self.known = 0, False, []
         self.count, self.first, self.certified, self.joiner = collections.Counter(), 0, True, Joiner()
-        # the symbols passed over after the last frame and before the cursor, and the first of them
-        self.passed = (0, 0)
+        # the symbols passed over after the last frame and before the cursor, and the first of them; the note of a stream without a frame
+        self.passed, self.no_frame = (0, 0), None
 
     def go_on(self, stop):
         """A receiver in the state of this one goes on up to a position. What it reported."""
@@ -427,6 +430,7 @@ class Whole:
     def add(self, reception):
         """Adds the frames of a reception. Until it meets this one, a receiver in the state of this one goes on."""
         self.known = [at for at in self.known if at >= reception.stretch.start]
+        self.no_frame = self.no_frame or NO_FRAME.search(reception.notes)
         ahead, tried = 1, self.cursor
         while (number := self.meets(reception)) is None:
             later = [frame.at + self.receiver.size for frame in reception.frames if frame.at >= self.cursor]
@@ -486,10 +490,10 @@ class Whole:
 
     def finish(self, total, strict, quiet):
         """The stream ends here: what is left of it, the end line, the notes, and the exit."""
-        notes, cut = b"", None
+        cut = None
         while self.cursor < total:
             reception = self.go_on(total)
-            notes, cut = reception.notes, reception.cut
+            self.no_frame, cut = self.no_frame or NO_FRAME.search(reception.notes), reception.cut
             if reception.frames:
                 continue
             symbols, _, first = reception.passed_over()
@@ -505,9 +509,9 @@ class Whole:
         _, _, packets, bad = self.outputs.joined()
         self.outputs.keep()
         self.outputs.tell(b"end frames %d delivered %d packets %d bad %d\n" % (self.count["frames"], self.count["delivered"], packets, bad))
-        no_frame = NO_FRAME.search(notes) if not self.follows else None
         count, torn = self.count, self.joiner.torn
-        lines = [no_frame[0]] if no_frame else []
+        is_empty = self.no_frame and not self.count["frames"] and not cut and total >= HEADER
+        lines = [self.no_frame.expand(rb"\g<1>%d\2" % total)] if is_empty else []
         if count["symbols"]:
             places = f"{counted(count['symbols'], 'symbol')} passed over in {counted(count['places'], 'place')}, the first at {self.first}"
             lines.insert(0, f"s2: note: {places}\n".encode())
@@ -577,9 +581,10 @@ def words_of(chosen):
 
 
 def end_at_once():
-    """In a process of a pool signals have their usual meaning again, and so in the s2 that it starts."""
+    """In a process of a pool signals have their usual meaning again, and so in the s2 that it starts. It ends with the process that began it."""
     for it in (signal.SIGINT, signal.SIGTERM):
         signal.signal(it, signal.SIG_DFL)
+    ctypes.CDLL(None).prctl(PR_SET_PDEATHSIG, signal.SIGTERM)
 
 
 def ending_of(name, main):
