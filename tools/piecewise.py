@@ -194,8 +194,12 @@ class Reception:
                     self.cut = int(found[1]) + self.offset, int(found[2])
         self.index = {frame.at: number for number, frame in enumerate(self.frames)}
         self.notes = text_of(f"{folder}/notes")
-        self.gaps, self.bounds = {}, {}
-        if os.path.exists(f"{folder}/bbframes"):
+        # If all that lies between frames is passed over, no dummy frame is there.
+        rest = (self.cut[0] if self.cut else stretch.stop) - before
+        between = [frame.at - frame.before for frame in self.frames]
+        self.has_dummies = sum(between) + rest * (self.cut is not None or rest >= HEADER) != self.passed_over()[0]
+        self.gaps = {number: distance > 0 for number, distance in enumerate(between)}
+        if self.has_dummies and os.path.exists(f"{folder}/bbframes"):
             self.find_gaps()
 
     def passed_over(self):
@@ -384,7 +388,7 @@ class Whole:
         """The symbols passed over before a frame: how many, and the first."""
         frame, follows = reception.frames[number], number > 0 or reception.stretch.follows
         distance = frame.at - frame.before
-        if reception.gaps[number] is False or distance < DUMMY:
+        if reception.gaps[number] is False or distance < DUMMY or not reception.has_dummies:
             return distance if reception.gaps[number] else 0, frame.before
         # With its header alone the frame is cut.
         _, symbols, first = self.counted(Stretch(frame.before, frame.at + HEADER, follows))
