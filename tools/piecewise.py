@@ -169,9 +169,10 @@ def receiver_of(chosen, program, rows, records):
     if tried.returncode:
         raise Refused
     sent = run([program, "mod", *link_words(chosen, ("modcod", "short", "pilots", "number")), "--dummy", "1", rows, "-", "-"], b"\x47" + bytes(BODY)).stdout
+    modcod = str(int(chosen.modcod)) if chosen.modcod.isdigit() else chosen.modcod.lower()
     for line in run([program, "modes"]).stdout.decode().splitlines():
         _, number, name, length, _, kbch, _, _, _, *symbols = line.split()
-        if chosen.modcod.lower() in (number, name) and (length == "short") == chosen.short:
+        if modcod in (number, name) and (length == "short") == chosen.short:
             known = sent[-SYMBOL * DUMMY :].hex(), sent[: SYMBOL * HEADER].hex()
             return Receiver(program, words, rows, list(records), int(symbols[chosen.pilots]), int(kbch) // 8, *known), tried.stderr
     raise Fault(f"s2 modes does not list the mode {chosen.modcod}")
@@ -596,8 +597,10 @@ def ending_of(name, main):
     signal.signal(signal.SIGTERM, signal.default_int_handler)
     try:
         return main()
-    except (Fault, OSError) as fault:
+    except Fault as fault:
         print(f"{name}: {fault}", file=sys.stderr)
+    except OSError as fault:
+        print(f"{name}: {f'{fault.filename}: ' if fault.filename else ''}{fault.strerror}", file=sys.stderr)
     except Told:
         pass
     except KeyboardInterrupt:
