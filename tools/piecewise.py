@@ -365,6 +365,8 @@ class Whole:
         self.count, self.first, self.certified, self.joiner = collections.Counter(), 0, True, Joiner()
         # the symbols passed over after the last frame and before the cursor, and the first of them; the note of a stream without a frame
         self.passed, self.no_frame = (0, 0), None
+        # the least distance from the cursor at which it is tried to move it on without a frame
+        self.least = 2 * DUMMY
 
     def go_on(self, stop):
         """A receiver in the state of this one goes on up to a position. What it reported."""
@@ -400,8 +402,9 @@ class Whole:
         """Moves the cursor on if no frame came, so that the symbols before it need not be kept. It moves if all symbols up to a position are
         passed over, or if they are dummy frames. A header that is put after them is found then, and shows which it is."""
         header, until = bytes.fromhex(self.receiver.header), Stretch(self.cursor, stop, self.follows)
-        if stop - self.cursor < 2 * DUMMY:
+        if stop - self.cursor < self.least:
             return
+        self.least = 2 * DUMMY
         cut, symbols, first = self.counted(until, header)
         if cut == (stop, HEADER) and symbols == stop - self.cursor:
             # the last 89 symbols may begin a header
@@ -415,6 +418,8 @@ class Whole:
         cut, symbols, _ = self.counted(until._replace(stop=stop), bytes(SYMBOL * (DUMMY - within)) + header)
         if cut == (stop + DUMMY - within, HEADER) and not symbols:
             self.cursor, self.follows = stop - within, True
+            return
+        self.least = 2 * (stop - self.cursor)
 
     def count_gap(self, symbols, first):
         if self.passed[0]:
@@ -462,7 +467,7 @@ class Whole:
             self.outputs.tell(b"frame %d at %d %b\n" % (self.count["frames"], frame.at, frame.words))
             self.known.append(frame.at)
         if frames:
-            self.cursor, self.follows = frames[-1].at + size, True
+            self.cursor, self.follows, self.least = frames[-1].at + size, True, 2 * DUMMY
             for name in self.receiver.records:
                 self.copy(reception, name, number)
             self.outputs.flush()
