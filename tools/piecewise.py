@@ -1,0 +1,613 @@
+"""What tools/pieces and tools/live share: receivers of s2 on stretches of a stream, and their frames put together as one receiver reports them.
+
+What a receiver meets is a function of the symbols. After a frame its search depends on the frame's position only: it stands right after
+a frame, and holds no symbols. So two receivers that report a frame at one position report the same frames from there on. A new receiver
+is put in that state by a dummy frame before its first symbol. The packets and their counts come from `s2 join`, which reads the BBFRAMEs."""
+import collections
+import ctypes
+import itertools
+import os
+import re
+import shutil
+import signal
+import stat
+import subprocess
+import sys
+import tempfile
+import typing
+
+TOP = os.path.dirname(os.path.dirname(os.path.realpath(__file__)))
+# Bytes of a symbol; symbols of a header and of a dummy frame; bytes that are copied at once.
+SYMBOL, HEADER, DUMMY, BLOCK = 4, 90, 3330, 1 << 20
+# A header of a BBFRAME; a packet's body; the SYNCD of a field in which no packet begins.
+BBHEADER, BODY, NO_PLACE = 10, 187, 65535
+# of Linux: the signal that a process gets when the one that began it ends
+PR_SET_PDEATHSIG = 1
+RECORDS = ("certificates", "values", "codewords", "bbframes")
+STANDARD = ("-", "/dev/stdout")
+CERTIFIED = ("sole", "most-likely")
+# The options of demod that are passed on, each with the name of its value if it has one.
+OPTIONS = {"modcod": "M", "short": None, "pilots": None, "number": "N", "ro": "R", "rounds": "K", "passes": "P", "uncertified": None}
+OPTIONS |= {"divisor": "D", "factor": "F", "lock": "H", "tuned": None}
+FRAME = re.compile(rb"frame \d+ at (\d+) (([a-z-]+) (fixed \d+|lost).*)\n")
+CUT = re.compile(rb"cut at (\d+) symbols (\d+)\n")
+END = re.compile(rb"end frames (\d+) delivered (\d+) packets (\d+) bad (\d+)")
+PASSED_OVER = re.compile(rb"s2: note: (\d+) symbols? passed over in (\d+) places?, the first at (\d+)\n")
+NO_FRAME = re.compile(rb"(s2: note: no frame of .* in )\d+( symbols.*\n)")
+
+
+class Fault(Exception):
+    """Why the work cannot go on, in one line."""
+
+
+class Refused(Exception):
+    """s2 refuses this by itself, with its own words."""
+
+
+class Told(Exception):
+    """The fault is printed already."""
+
+
+class Stretch(typing.NamedTuple):
+    """The symbols from one position of a stream up to another. `follows`: a receiver that begins here stands right after a frame."""
+
+    start: int
+    stop: int
+    follows: bool
+
+
+class Frame(typing.NamedTuple):
+    """A frame's line without its number, the position up to which the one before it reaches, and whether it is certified and delivered."""
+
+    at: int
+    words: bytes
+    before: int
+    certified: bool
+    delivered: bool
+
+
+def ending(code):
+    return f"ended with exit {code}" if code >= 0 else f"was ended by signal {-code}"
+
+
+def counted(number, noun):
+    return f"{number} {noun}{'s' * (number != 1)}"
+
+
+def text_of(path):
+    with open(path, "rb") as file:
+        return file.read()
+
+
+def feed(to, pieces):
+    """Writes all to a program that may end before it has read all."""
+    try:
+        with to:
+            for piece in pieces:
+                to.write(piece)
+    except BrokenPipeError:
+        pass
+
+
+def symbols_in(path, stretch):
+    """The bytes of a stretch of a symbol file."""
+    with open(path, "rb", 0) as file:
+        file.seek(SYMBOL * stretch.start)
+        left = SYMBOL * (stretch.stop - stretch.start)
+        while left and (piece := file.read(min(left, BLOCK))):
+            yield piece
+            left -= len(piece)
+
+
+class Receiver(typing.NamedTuple):
+    """How s2 is called on a stretch: program, options, row file, and the records that it writes. Also the symbols of a frame, the bytes of a
+    BBFRAME, and the bytes of a dummy frame and of a header of the mode, in hexadecimal."""
+
+    program: str
+    words: list
+    rows: str
+    records: list
+    size: int
+    bbframe: int
+    dummy: str
+    header: str
+
+    def call(self, stretch, symbols, folder, records):
+        """Runs s2 on a stretch. The folder gets its report, its notes and its records."""
+        named = [word for name in records for word in (f"--{name}", os.path.join(folder, name))]
+        words = [self.program, "demod", *self.words, *named, self.rows, "-", os.devnull]
+        before = [bytes.fromhex(self.dummy)] if stretch.follows else []
+        with open(f"{folder}/report", "wb") as report, open(f"{folder}/notes", "wb") as notes:
+            child = subprocess.Popen(words, stdin=subprocess.PIPE, stdout=report, stderr=notes)
+            try:
+                feed(child.stdin, itertools.chain(before, symbols))
+                code = child.wait()
+            finally:
+                child.kill()
+                child.wait()
+        if code not in (0, 2):
+            last = text_of(f"{folder}/notes").decode(errors="replace").strip().split("\n")[-1]
+            raise Fault(f"s2 {ending(code)}" + (f": {last}" if last else ""))
+
+    def receive(self, stretch, symbols, folder):
+        """Runs s2 with all records. The folder appears when it is whole."""
+        scratch = tempfile.mkdtemp(prefix=f"{os.path.basename(folder)}.", dir=os.path.dirname(folder))
+        try:
+            self.call(stretch, symbols, scratch, self.records)
+            os.rename(scratch, folder)
+        finally:
+            shutil.rmtree(scratch, ignore_errors=True)
+
+
+def run(words, given=b""):
+    return subprocess.run(words, input=given, capture_output=True, check=False)
+
+
+def program_of(chosen):
+    """The program: the one that is named, else that of this folder, which is built first if that can be done."""
+    front, built = os.path.join(TOP, "s2"), os.path.join(TOP, "crates/s2_tool/out/s2_tool")
+    if chosen:
+        return os.path.abspath(chosen)
+    if not os.path.exists(os.path.join(TOP, "crates.txt")):
+        # an archive has the program itself
+        return front
+    if (shutil.which("rt") or not os.path.exists(built)) and subprocess.run([front, "--build"], check=False).returncode:
+        raise Told
+    return built
+
+
+def link_words(chosen, names):
+    """The options with these names, as they are given."""
+    given = [(name, value) for name in names if (value := getattr(chosen, name)) not in (None, False)]
+    return [word for name, value in given for word in ([f"--{name}"] if value is True else [f"--{name}", value])]
+
+
+def receiver_of(chosen, program, rows, records):
+    """A receiver by the options of the command line, and the note on its rows. s2 refuses options and rows as it does by itself."""
+    words = link_words(chosen, OPTIONS)
+    tried = run([program, "demod", *words, rows, "-", os.devnull])
+    if tried.returncode:
+        raise Refused
+    sent = run([program, "mod", *link_words(chosen, ("modcod", "short", "pilots", "number")), "--dummy", "1", rows, "-", "-"], b"\x47" + bytes(BODY)).stdout
+    modcod = str(int(chosen.modcod)) if chosen.modcod.isdigit() else chosen.modcod.lower()
+    for line in run([program, "modes"]).stdout.decode().splitlines():
+        _, number, name, length, _, kbch, _, _, _, *symbols = line.split()
+        if modcod in (number, name) and (length == "short") == chosen.short:
+            known = sent[-SYMBOL * DUMMY :].hex(), sent[: SYMBOL * HEADER].hex()
+            return Receiver(program, words, rows, list(records), int(symbols[chosen.pilots]), int(kbch) // 8, *known), tried.stderr
+    raise Fault(f"s2 modes does not list the mode {chosen.modcod}")
+
+
+class Reception:
+    """What a receiver reported of a stretch, with positions of the whole stream, and its records."""
+
+    def __init__(self, receiver, stretch, folder):
+        self.receiver, self.stretch, self.folder = receiver, stretch, folder
+        self.offset = stretch.start - DUMMY * stretch.follows
+        self.frames, self.cut, before = [], None, stretch.start
+        with open(f"{folder}/report", "rb") as report:
+            for line in report:
+                if found := FRAME.fullmatch(line):
+                    at, verdict, outcome = int(found[1]) + self.offset, found[3].decode(), found[4]
+                    self.frames.append(Frame(at, found[2], before, verdict in CERTIFIED, outcome != b"lost"))
+                    before = at + receiver.size
+                elif found := CUT.fullmatch(line):
+                    self.cut = int(found[1]) + self.offset, int(found[2])
+        self.index = {frame.at: number for number, frame in enumerate(self.frames)}
+        self.notes = text_of(f"{folder}/notes")
+        # If all that lies between frames is passed over, no dummy frame is there.
+        rest = (self.cut[0] if self.cut else stretch.stop) - before
+        between = [frame.at - frame.before for frame in self.frames]
+        self.has_dummies = sum(between) + rest * (self.cut is not None or rest >= HEADER) != self.passed_over()[0]
+        self.gaps = {number: distance > 0 for number, distance in enumerate(between)}
+        if self.has_dummies and os.path.exists(f"{folder}/bbframes"):
+            self.find_gaps()
+
+    def passed_over(self):
+        """The number of symbols passed over, of their places, and the first one."""
+        found = PASSED_OVER.search(self.notes)
+        return (int(found[1]), int(found[2]), int(found[3]) + self.offset) if found else (0, 0, 0)
+
+    def find_gaps(self):
+        """For each frame whether symbols were passed over before it. Whole dummy frames can have the same length. Then the BBFRAMEs tell:
+        there is one of zeros more. If several lost frames leave open which one it is of, the gap is not known here."""
+        with open(f"{self.folder}/bbframes", "rb") as file:
+            headers = iter(lambda: file.read(self.receiver.bbframe)[:BBHEADER], b"")
+            number, lost = 0, 0
+            for part, frame in enumerate(self.frames):
+                lost += not frame.delivered
+                if not frame.delivered and part + 1 < len(self.frames):
+                    continue
+                zeros = sum(1 for _ in itertools.takewhile(lambda header: not any(header), headers))
+                self.settle(range(number, part + 1), zeros - lost)
+                number, lost = part + 1, 0
+
+    def settle(self, numbers, extra):
+        """So many of these frames have a gap before them."""
+        distances = {number: self.frames[number].at - self.frames[number].before for number in numbers}
+        open_ones = [number for number, distance in distances.items() if distance and distance % DUMMY == 0]
+        sure = [number for number, distance in distances.items() if distance % DUMMY]
+        self.gaps |= {number: number in sure for number in numbers}
+        left = extra - len(sure)
+        if not 0 <= left <= len(open_ones):
+            raise Fault(f"the BBFRAMEs in {self.folder} are not those of its report")
+        self.gaps |= {number: None if left < len(open_ones) else True for number in open_ones if left}
+
+
+
+class Output:
+    """A file that has its name only when it is whole. A device, a pipe and standard output are written at once."""
+
+    def __init__(self, name):
+        self.name, self.path = name, os.path.realpath(name)
+        self.standard = name in STANDARD
+        self.whole_only = not self.standard and (not os.path.exists(name) or os.path.isfile(name))
+        self.part = name
+        if self.whole_only:
+            number, self.part = tempfile.mkstemp(prefix=f".{os.path.basename(self.path)}.", dir=os.path.dirname(self.path))
+            os.close(number)
+            mask = os.umask(0)
+            os.umask(mask)
+            os.chmod(self.part, stat.S_IMODE(os.stat(name).st_mode) if os.path.exists(name) else 0o666 & ~mask)
+
+    def opened(self):
+        return open(1, "wb", closefd=False) if self.standard else open(self.part, "wb")
+
+    def keep(self):
+        if self.whole_only:
+            os.replace(self.part, self.path)
+
+    def drop(self):
+        if self.whole_only and os.path.exists(self.part):
+            os.remove(self.part)
+
+
+class Outputs:
+    """The packets, by `s2 join`; the records that are asked for; the report, which is on standard error if standard output has one of them."""
+
+    def __init__(self, receiver, mode, packets, records):
+        self.packets, self.records = Output(packets), {name: Output(file) for name, file in records.items()}
+        standard = any(it.standard for it in self.all())
+        self.report = open(2 if standard else 1, "wb", closefd=False)
+        target = "-" if self.packets.standard else self.packets.part
+        pipes = {"stdin": subprocess.PIPE, "stdout": None if self.packets.standard else subprocess.PIPE, "stderr": subprocess.PIPE}
+        self.join = subprocess.Popen([receiver.program, "join", *mode, "-", target], **pipes)
+        self.files = {name: it.opened() for name, it in self.records.items()}
+
+    def all(self):
+        return [self.packets, *self.records.values()]
+
+    def tell(self, text):
+        self.report.write(text)
+        self.report.flush()
+
+    def put(self, name, piece):
+        """Writes bytes of a record. All BBFRAMEs go to the join too."""
+        if name in self.files:
+            self.files[name].write(piece)
+        if name == "bbframes":
+            try:
+                self.join.stdin.write(piece)
+            except BrokenPipeError:
+                self.joined()
+                raise Fault("s2 join ended too early") from None
+
+    def flush(self):
+        try:
+            self.join.stdin.flush()
+        except BrokenPipeError:
+            self.joined()
+        for file in self.files.values():
+            file.flush()
+
+    def joined(self):
+        """The numbers of the end line of the join, after its end: frames, delivered, packets, bad."""
+        try:
+            printed = b"".join(filter(None, self.join.communicate()))
+        except BrokenPipeError:
+            printed = self.join.stderr.read()
+            self.join.wait()
+        found = END.search(printed)
+        if self.join.returncode in (0, 2) and found:
+            return [int(it) for it in found.groups()]
+        sys.stderr.buffer.write(printed)
+        raise Told if printed else Fault(f"s2 join {ending(self.join.returncode)}")
+
+    def keep(self):
+        for file in self.files.values():
+            file.close()
+        for it in self.all():
+            it.keep()
+
+    def drop(self):
+        """After a fault nothing is left."""
+        if self.join.poll() is None:
+            self.join.kill()
+        self.join.wait()
+        for it in self.all():
+            it.drop()
+
+
+class Joiner:
+    """The body that the joiner of packets holds, by its length, None if it holds none; and how many bodies it dropped that were begun. Only
+    SYNCD and DFL of a frame matter; a frame of zeros is a gap."""
+
+    def __init__(self):
+        self.held, self.torn = None, 0
+
+    def drop(self):
+        self.torn += bool(self.held)
+        self.held = None
+
+    def step(self, header):
+        if not any(header):
+            self.drop()
+            return
+        size, place = int.from_bytes(header[4:6], "big") // 8, int.from_bytes(header[7:9], "big")
+        if not size:
+            return
+        next_place = None if self.held is None else 8 * (BODY - self.held) if BODY - self.held < size else NO_PLACE
+        if place == next_place:
+            self.held = (self.held + size) % (BODY + 1)
+            return
+        self.drop()
+        if place != NO_PLACE:
+            self.held = max(0, size - place // 8 - 1) % (BODY + 1)
+
+
+class Whole:
+    """The frames so far, as one receiver reports them. `symbols` gives the bytes of a stretch."""
+
+    def __init__(self, receiver, symbols, room, outputs):
+        self.receiver, self.symbols, self.room, self.outputs = receiver, symbols, room, outputs
+        # The position after the last frame, whether there is a frame, and the positions of the last frames.
+        self.cursor, self.follows, self.known = 0, False, []
+        self.count, self.first, self.certified, self.joiner = collections.Counter(), 0, True, Joiner()
+        # the symbols passed over after the last frame and before the cursor, and the first of them; the note of a stream without a frame
+        self.passed, self.no_frame = (0, 0), None
+        # the least distance from the cursor at which it is tried to move it on without a frame
+        self.least = 2 * DUMMY
+
+    def go_on(self, stop):
+        """A receiver in the state of this one goes on up to a position. What it reported."""
+        reception = self.tried(Stretch(self.cursor, stop, self.follows), self.receiver.records)
+        self.take(reception, 0)
+        shutil.rmtree(reception.folder)
+        return reception
+
+    def tried(self, stretch, records=(), after=b""):
+        folder = tempfile.mkdtemp(prefix="more.", dir=self.room)
+        self.receiver.call(stretch, itertools.chain(self.symbols(stretch), [after]), folder, records)
+        return Reception(self.receiver, stretch, folder)
+
+    def counted(self, stretch, after=b""):
+        """The cut frame in a stretch without whole ones, the number of symbols passed over before it, and the first of them."""
+        reception = self.tried(stretch, after=after)
+        shutil.rmtree(reception.folder)
+        symbols, _, first = reception.passed_over()
+        return reception.cut, symbols, first
+
+    def gap(self, reception, number):
+        """The symbols passed over before a frame: how many, and the first."""
+        frame, follows = reception.frames[number], number > 0 or reception.stretch.follows
+        distance = frame.at - frame.before
+        if reception.gaps[number] is False or distance < DUMMY or not reception.has_dummies:
+            return distance if reception.gaps[number] else 0, frame.before
+        # With its header alone the frame is cut.
+        _, symbols, first = self.counted(Stretch(frame.before, frame.at + HEADER, follows))
+        reception.gaps[number] = symbols > 0
+        return symbols, first
+
+    def pass_over(self, stop):
+        """Moves the cursor on if no frame came, so that the symbols before it need not be kept. It moves if all symbols up to a position are
+        passed over, or if they are dummy frames. A header that is put after them is found then, and shows which it is."""
+        header, until = bytes.fromhex(self.receiver.header), Stretch(self.cursor, stop, self.follows)
+        if stop - self.cursor < self.least:
+            return
+        self.least = 2 * DUMMY
+        cut, symbols, first = self.counted(until, header)
+        if cut == (stop, HEADER) and symbols == stop - self.cursor:
+            # the last 89 symbols may begin a header
+            symbols -= HEADER - 1
+            self.passed = self.passed[0] + symbols, self.passed[1] if self.passed[0] else first
+            self.cursor, self.follows = self.cursor + symbols, False
+            return
+        # the last dummy frame has a whole header, and zeros in place of the symbols that it lacks
+        stop -= HEADER * ((stop - self.cursor) % DUMMY < HEADER)
+        within = (stop - self.cursor) % DUMMY
+        cut, symbols, _ = self.counted(until._replace(stop=stop), bytes(SYMBOL * (DUMMY - within)) + header)
+        if cut == (stop + DUMMY - within, HEADER) and not symbols:
+            self.cursor, self.follows = stop - within, True
+            return
+        self.least = 2 * (stop - self.cursor)
+
+    def count_gap(self, symbols, first):
+        if self.passed[0]:
+            symbols, first = symbols + self.passed[0], self.passed[1]
+            self.passed = (0, 0)
+        if symbols:
+            self.first = self.first if self.count["places"] else first
+            self.count["symbols"] += symbols
+            self.count["places"] += 1
+
+    def meets(self, reception):
+        """The number of the reception's first frame that comes next here, None if it is not known to be in the state of this receiver."""
+        if reception.stretch[::2] == (self.cursor, self.follows):
+            return 0
+        shared = next((at for at in reversed(self.known) if at in reception.index), None)
+        return None if shared is None else reception.index[shared] + 1
+
+    def add(self, reception):
+        """Adds the frames of a reception. Until it meets this one, a receiver in the state of this one goes on."""
+        self.known = [at for at in self.known if at >= reception.stretch.start]
+        self.no_frame = self.no_frame or NO_FRAME.search(reception.notes)
+        ahead, tried = 1, self.cursor
+        while (number := self.meets(reception)) is None:
+            later = [frame.at + self.receiver.size for frame in reception.frames if frame.at >= self.cursor]
+            if not later or tried == reception.stretch.stop:
+                return
+            tried = later[ahead - 1] if ahead <= len(later) else reception.stretch.stop
+            self.go_on(tried)
+            ahead *= 2
+        self.take(reception, number)
+
+    def take(self, reception, number):
+        """Reports the frames of a reception from this number on."""
+        frames, size = reception.frames[number:], self.receiver.size
+        if number:
+            # the gap is known from the frame before
+            self.passed = (0, 0)
+        elif frames and self.passed[0] and not self.gap(reception, 0)[0]:
+            self.put_bbframe(bytes(self.receiver.bbframe))
+        for place, frame in enumerate(frames, number):
+            self.count_gap(*self.gap(reception, place))
+            self.count["frames"] += 1
+            self.count["delivered"] += frame.delivered
+            self.certified &= frame.certified and frame.delivered
+            self.outputs.tell(b"frame %d at %d %b\n" % (self.count["frames"], frame.at, frame.words))
+            self.known.append(frame.at)
+        if frames:
+            self.cursor, self.follows, self.least = frames[-1].at + size, True, 2 * DUMMY
+            for name in self.receiver.records:
+                self.copy(reception, name, number)
+            self.outputs.flush()
+
+    def copy(self, reception, name, number):
+        """Copies the records of the frames from this number on."""
+        before, path = reception.frames[:number], f"{reception.folder}/{name}"
+        every, skipped = len(reception.frames), number
+        if name == "certificates":
+            every, skipped = sum(it.certified for it in reception.frames), sum(it.certified for it in before)
+        if name == "bbframes":
+            skipped += sum(self.gap(reception, it)[0] > 0 for it in range(number))
+        with open(path, "rb") as file:
+            if name == "values":
+                collections.deque(itertools.islice(file, number), 0)
+            elif name == "bbframes":
+                file.seek(skipped * self.receiver.bbframe)
+            else:
+                file.seek(skipped * (os.path.getsize(path) // max(1, every)))
+            size = self.receiver.bbframe if name == "bbframes" else BLOCK
+            while piece := file.read(size):
+                if name == "bbframes":
+                    self.put_bbframe(piece)
+                else:
+                    self.outputs.put(name, piece)
+
+    def put_bbframe(self, frame):
+        self.outputs.put("bbframes", frame)
+        self.joiner.step(frame[:BBHEADER])
+
+    def finish(self, total, strict, quiet):
+        """The stream ends here: what is left of it, the end line, the notes, and the exit."""
+        cut = None
+        while self.cursor < total:
+            reception = self.go_on(total)
+            self.no_frame, cut = self.no_frame or NO_FRAME.search(reception.notes), reception.cut
+            if reception.frames:
+                continue
+            symbols, _, first = reception.passed_over()
+            if self.passed[0] and not cut and not symbols:
+                # fewer than 90 are counted too
+                found, symbols, _ = self.counted(Stretch(self.cursor, total, self.follows), bytes.fromhex(self.receiver.header))
+                symbols *= bool(found)
+            self.count_gap(symbols, first)
+            break
+        if cut:
+            self.outputs.tell(b"cut at %d symbols %d\n" % cut)
+            self.joiner.drop()
+        _, _, packets, bad = self.outputs.joined()
+        self.outputs.keep()
+        self.outputs.tell(b"end frames %d delivered %d packets %d bad %d\n" % (self.count["frames"], self.count["delivered"], packets, bad))
+        count, torn = self.count, self.joiner.torn
+        is_empty = self.no_frame and not self.count["frames"] and not cut and total >= HEADER
+        lines = [self.no_frame.expand(rb"\g<1>%d\2" % total)] if is_empty else []
+        if count["symbols"]:
+            places = f"{counted(count['symbols'], 'symbol')} passed over in {counted(count['places'], 'place')}, the first at {self.first}"
+            lines.insert(0, f"s2: note: {places}\n".encode())
+        lines += [f"s2: note: {counted(torn, 'packet')} torn\n".encode()] if torn else []
+        if not quiet:
+            sys.stderr.buffer.write(b"".join(lines))
+            sys.stderr.buffer.flush()
+        return 2 if not self.certified or cut or strict and (lines or bad) else 0
+
+
+class Progress:
+    """A line on standard error that is written again."""
+
+    def __init__(self, name, chosen, of=""):
+        self.name, self.of, self.length = name, of, 0
+        self.shown = chosen.progress or sys.stderr.isatty() and not chosen.quiet
+
+    def tell(self, number):
+        if self.shown:
+            line = f"{self.name}: {number}{self.of}"
+            self.length = len(line)
+            os.write(2, f"\r{line}".encode())
+
+    def clear(self):
+        if self.length:
+            os.write(2, f"\r{' ' * self.length}\r".encode())
+            self.length = 0
+
+
+def add_options(words):
+    """The options of demod, and its row file."""
+    link = words.add_argument_group("options of s2 demod")
+    for name, value in OPTIONS.items():
+        how = {"metavar": value} if value else {"action": "store_true"}
+        link.add_argument(f"--{name}", required=name == "modcod", help="as for s2 demod", **how)
+    for name in ("strict", "quiet", "progress"):
+        link.add_argument(f"--{name}", action="store_true", help="as for s2 demod" if name != "progress" else "progress on standard error")
+    for name in RECORDS:
+        link.add_argument(f"--{name}", metavar="FILE", help="as for s2 demod")
+    words.add_argument("rows", metavar="ROWS", help="row file")
+
+
+def settle(words, chosen):
+    """The values that are not given, and those that are refused."""
+    for name in ("jobs", "frames"):
+        if (value := getattr(chosen, name)) is not None and value < 1:
+            words.error(f"--{name} is at least 1")
+    chosen.records = {name: file for name in RECORDS if (file := getattr(chosen, name))}
+    chosen.given_jobs, chosen.jobs = chosen.jobs, chosen.jobs or len(os.sched_getaffinity(0))
+
+
+def is_refused(inputs, outputs):
+    """Whether s2 refuses a file, or may do so: then it runs by itself, and says what is wrong."""
+    outputs = [*outputs]
+    named = [os.stat(it) for it in (*inputs, *outputs) if it not in STANDARD and os.path.exists(it)]
+    files = [(it.st_dev, it.st_ino) for it in named if stat.S_ISREG(it.st_mode)]
+    closed = [it for it in outputs if it != "-" and not os.access(it if os.path.exists(it) else os.path.dirname(os.path.abspath(it)), os.W_OK)]
+    unread = [it for it in inputs if not os.access(it, os.R_OK)]
+    twice = len({*files}) < len(files) or len([it for it in outputs if it in STANDARD]) > 1
+    return bool(closed or unread or twice or any(map(os.path.isdir, outputs)))
+
+
+def words_of(chosen):
+    """The same call of s2 itself, without the files."""
+    flags = [f"--{name}" for name in ("strict", "quiet", "progress") if getattr(chosen, name)]
+    return ["demod", *link_words(chosen, OPTIONS), *flags, *(word for name, file in chosen.records.items() for word in (f"--{name}", file))]
+
+
+def end_at_once():
+    """In a process of a pool signals have their usual meaning again, and so in the s2 that it starts. It ends with the process that began it."""
+    for it in (signal.SIGINT, signal.SIGTERM):
+        signal.signal(it, signal.SIG_DFL)
+    ctypes.CDLL(None).prctl(PR_SET_PDEATHSIG, signal.SIGTERM)
+
+
+def ending_of(name, main):
+    """The exit of a tool. An interrupt ends it in order."""
+    signal.signal(signal.SIGTERM, signal.default_int_handler)
+    try:
+        return main()
+    except Fault as fault:
+        print(f"{name}: {fault}", file=sys.stderr)
+    except OSError as fault:
+        print(f"{name}: {f'{fault.filename}: ' if fault.filename else ''}{fault.strerror}", file=sys.stderr)
+    except Told:
+        pass
+    except KeyboardInterrupt:
+        return 130
+    return 1
