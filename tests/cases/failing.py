@@ -94,10 +94,12 @@ def failing(two):
         (auditing, "printed", WRITE, audited),
     ]
     sizes = {option: len(text) for option, text in records.records(two[: 4 * records.FRAME]).items()}
-    cases += [(f"demod {LINK} {option} out made two received", "out", WRITE, recording(size)) for option, size in sizes.items()]
-    return cases
+    words = f"demod {LINK} {{}} out made two received"
+    cases.append((words.format("--certificates"), "out", WRITE, recording(sizes.pop("--certificates"))))
+    # of these each record is one write
+    return cases + [(words.format(option), "out", WRITE, [(0, 0), (size, 26)]) for option, size in sizes.items()]
 
 
 def recording(first):
-    """Where a write of a record fails, the bytes before it stand, and the line of the first frame if its record is whole."""
+    """Where a write of a certificate fails, the bytes before it stand, and the line of the first frame if its certificate is whole."""
     return lambda moved, size, printed: (size, printed) == (moved, 26 if moved >= first else 0)

@@ -155,6 +155,11 @@ def files(two):
         part = records(two[: 4 * FRAME])[option]
         left = {"out": PACKET, "record": part}
         cases += [fault(f"demod {LINK} {option} record made in out", "cannot write", reads=long, to="/dev/full", writes=left)]
+        # so they are if its packets cannot be written
+        cases += [fault(f"demod {LINK} {option} record made in /dev/full", "cannot write", reads=long, writes={"record": part})]
+        cases += [fault(f"{run} {option} record made packets /dev/full", "cannot write", writes={"record": part})]
+        # an old record is truncated with the packets, also if nothing comes
+        cases += [fault(f"demod {LINK} {option} old made . out", "cannot read", writes={"old": b"", "out": b""})]
     return cases
 
 
