@@ -8,21 +8,21 @@ _s2() {
   fi
   case "$before" in
     --divisor) COMPREPLY=($(compgen -W "4096 8192 16384 32768 65536" -- "$now")); return ;;
-    --rate|--modcod|--group|--groups|--q|--weight|--seed|--passes|--factor|--number|--ro|--dummy|--level|--esn0|--rounds|--lock) return ;;
+    --rate|--modcod|--group|--groups|--q|--weight|--seed|--passes|--factor|--number|--ro|--dummy|--level|--esn0|--rounds|--lock|--seeds) return ;;
   esac
   case "${COMP_WORDS[1]}" in
     modes) words="--rate --modcod --short --quiet --help" ;;
     rows) words="--group --groups --q --weight --seed --quiet --help" ;;
     table) words="--modcod --short --quiet --help" ;;
-    judge) words="--group --groups --q --modcod --short --hard --cert --passes --uncertified --factor --quiet --help" ;;
+    judge) words="--group --groups --q --modcod --short --each --hard --cert --passes --uncertified --factor --quiet --help" ;;
     check) words="--each --quiet --help" ;;
-    mod) words="--modcod --short --pilots --number --ro --dummy --quiet --progress --help" ;;
+    mod) words="--modcod --short --pilots --number --ro --dummy --quiet --progress --codewords --bbframes --help" ;;
     noise) words="--seed --level --esn0 --quiet --progress --help" ;;
-    demod) words="--modcod --short --pilots --number --ro --rounds --passes --uncertified --divisor --factor --lock --tuned --strict --quiet --progress --certificates --values --codewords --bbframes --help" ;;
-    run) words="--modcod --short --pilots --number --ro --dummy --rounds --passes --uncertified --divisor --factor --lock --tuned --seed --level --esn0 --strict --quiet --progress --certificates --values --codewords --bbframes --help" ;;
+    demod) words="--modcod --short --pilots --number --ro --rounds --passes --uncertified --divisor --factor --lock --tuned --figures --strict --quiet --progress --certificates --values --codewords --bbframes --help" ;;
+    run) words="--modcod --short --pilots --number --ro --dummy --rounds --passes --uncertified --divisor --factor --lock --tuned --seed --seeds --level --esn0 --figures --strict --quiet --progress --certificates --values --codewords --bbframes --help" ;;
     scan) words="--help" ;;
-    join) words="--modcod --short --quiet --help" ;;
-    audit) words="--modcod --short --pilots --number --ro --divisor --quiet --help" ;;
+    join) words="--modcod --short --help" ;;
+    audit) words="--modcod --short --pilots --number --ro --divisor --help" ;;
     help) words="modes rows table judge check mod noise demod run scan join audit" ;;
   esac
   if [[ $now == -* || ${COMP_WORDS[1]} == help ]]; then

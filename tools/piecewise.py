@@ -6,14 +6,17 @@ is put in that state by a dummy frame before its first symbol. The packets and t
 import collections
 import ctypes
 import itertools
+import math
 import os
 import re
 import shutil
 import signal
 import stat
+import struct
 import subprocess
 import sys
 import tempfile
+import time
 import typing
 
 TOP = os.path.dirname(os.path.dirname(os.path.realpath(__file__)))
@@ -23,17 +26,25 @@ SYMBOL, HEADER, DUMMY, BLOCK = 4, 90, 3330, 1 << 20
 BBHEADER, BODY, NO_PLACE = 10, 187, 65535
 # of Linux: the signal that a process gets when the one that began it ends
 PR_SET_PDEATHSIG = 1
+# Seconds for which the removal of a folder is tried again.
+REMOVAL = 5
 RECORDS = ("certificates", "values", "codewords", "bbframes")
 STANDARD = ("-", "/dev/stdout")
 CERTIFIED = ("sole", "most-likely")
 # The options of demod that are passed on, each with the name of its value if it has one.
 OPTIONS = {"modcod": "M", "short": None, "pilots": None, "number": "N", "ro": "R", "rounds": "K", "passes": "P", "uncertified": None}
-OPTIONS |= {"divisor": "D", "factor": "F", "lock": "H", "tuned": None}
+OPTIONS |= {"divisor": "D", "factor": "F", "lock": "H", "tuned": None, "figures": None}
 FRAME = re.compile(rb"frame \d+ at (\d+) (([a-z-]+) (fixed \d+|lost).*)\n")
 CUT = re.compile(rb"cut at (\d+) symbols (\d+)\n")
 END = re.compile(rb"end frames (\d+) delivered (\d+) packets (\d+) bad (\d+)")
+# Those figures of a frame's line that the end line has sums of, and the greatest sum.
+FIGURES = re.compile(rb" changed (\d+) rounds \d+ known (\d+) payload (\d+)$")
+GREATEST = (1 << 64) - 1
 PASSED_OVER = re.compile(rb"s2: note: (\d+) symbols? passed over in (\d+) places?, the first at (\d+)\n")
 NO_FRAME = re.compile(rb"(s2: note: no frame of .* in )\d+( symbols.*\n)")
+REFUSED = re.compile(rb"s2: note: of \d+ lost frames? (\d+) had a BCH word whose header is refused\n")
+# The amplitude of a sent symbol, the range that is not noted, and the greatest.
+AMPLITUDE, USUAL_AMPLITUDES, GREATEST_AMPLITUDE = 990, range(833, 1178), 46341
 
 
 class Fault(Exception):
@@ -79,6 +90,14 @@ def text_of(path):
         return file.read()
 
 
+def remove(folder):
+    """Removes a folder of our own. A process that was ended a moment ago may still write into it; then it is removed again."""
+    until = time.monotonic() + REMOVAL
+    while os.path.exists(folder) and time.monotonic() < until:
+        shutil.rmtree(folder, ignore_errors=True)
+        time.sleep(0.01)
+
+
 def feed(to, pieces):
     """Writes all to a program that may end before it has read all."""
     try:
@@ -100,14 +119,16 @@ def symbols_in(path, stretch):
 
 
 class Receiver(typing.NamedTuple):
-    """How s2 is called on a stretch: program, options, row file, and the records that it writes. Also the symbols of a frame, the bytes of a
-    BBFRAME, and the bytes of a dummy frame and of a header of the mode, in hexadecimal."""
+    """How s2 is called on a stretch: program, options, row file, and the records that it writes. Also the symbols of a frame, the symbols of its
+    payload and its bits, the bytes of a BBFRAME, and the bytes of a dummy frame and of a header of the mode, in hexadecimal."""
 
     program: str
     words: list
     rows: str
     records: list
     size: int
+    payload: int
+    bits: int
     bbframe: int
     dummy: str
     header: str
@@ -173,8 +194,10 @@ def receiver_of(chosen, program, rows, records):
     for line in run([program, "modes"]).stdout.decode().splitlines():
         _, number, name, length, _, kbch, _, _, _, *symbols = line.split()
         if modcod in (number, name) and (length == "short") == chosen.short:
+            payload = int(symbols[0]) - HEADER
+            sizes = int(symbols[chosen.pilots]), payload, payload * (2 if name.startswith("qpsk") else 3), int(kbch) // 8
             known = sent[-SYMBOL * DUMMY :].hex(), sent[: SYMBOL * HEADER].hex()
-            return Receiver(program, words, rows, list(records), int(symbols[chosen.pilots]), int(kbch) // 8, *known), tried.stderr
+            return Receiver(program, words, rows, list(records), *sizes, *known), tried.stderr
     raise Fault(f"s2 modes does not list the mode {chosen.modcod}")
 
 
@@ -207,6 +230,11 @@ class Reception:
         """The number of symbols passed over, of their places, and the first one."""
         found = PASSED_OVER.search(self.notes)
         return (int(found[1]), int(found[2]), int(found[3]) + self.offset) if found else (0, 0, 0)
+
+    def refused(self):
+        """The number of lost frames that have a BCH word, but with a refused header."""
+        found = REFUSED.search(self.notes)
+        return int(found[1]) if found else 0
 
     def find_gaps(self):
         """For each frame whether symbols were passed over before it. Whole dummy frames can have the same length. Then the BBFRAMEs tell:
@@ -363,6 +391,8 @@ class Whole:
         # The position after the last frame, whether there is a frame, and the positions of the last frames.
         self.cursor, self.follows, self.known = 0, False, []
         self.count, self.first, self.certified, self.joiner = collections.Counter(), 0, True, Joiner()
+        # the sums of figures; the lost frames with a refused header; until a frame is delivered, the energy of all headers
+        self.figures, self.refused, self.energy = [], 0, 0
         # the symbols passed over after the last frame and before the cursor, and the first of them; the note of a stream without a frame
         self.passed, self.no_frame = (0, 0), None
         # the least distance from the cursor at which it is tried to move it on without a frame
@@ -430,6 +460,40 @@ class Whole:
             self.count["symbols"] += symbols
             self.count["places"] += 1
 
+    def refused_from(self, reception, number):
+        """The refused headers of the frames from this number on. If some before it are lost, a receiver runs on these alone."""
+        count, before = reception.refused(), reception.frames[:number]
+        if not count or all(it.delivered for it in before):
+            return count
+        one = self.tried(reception.stretch._replace(stop=before[-1].at + self.receiver.size))
+        shutil.rmtree(one.folder)
+        return count - one.refused()
+
+    def energy_of(self, frame):
+        """The sum of I * I + Q * Q over a frame's header."""
+        header = b"".join(self.symbols(Stretch(frame.at, frame.at + HEADER, False)))
+        return sum(it * it for it in struct.unpack(f">{2 * HEADER}h", header))
+
+    def amplitude_note(self):
+        """The note on another amplitude, if no frame is delivered."""
+        frames = self.count["frames"]
+        root = min((math.isqrt(4 * self.energy // (HEADER * frames)) + 1) // 2, GREATEST_AMPLITUDE) if frames else AMPLITUDE
+        if self.count["delivered"] or root in USUAL_AMPLITUDES:
+            return []
+        gain = (20_000 * AMPLITUDE + root) // (2 * root)
+        gained = f"use --gain {gain // 10_000}.{gain % 10_000:04} of tools/convert"
+        return [f"s2: note: the headers' amplitude, noise included, is {root}, not {AMPLITUDE}: {gained}\n".encode()]
+
+    def count_figures(self, frame):
+        if found := FIGURES.search(frame.words):
+            self.figures = [min(GREATEST, one + int(other)) for one, other in zip(self.figures or [0, 0, 0], found.groups())]
+
+    def sums(self):
+        """What the end line has of the figures, if a frame had them."""
+        of, frames = self.receiver, self.count["frames"]
+        sizes = zip(("changed", "known", "payload"), self.figures, (of.bits, of.size - of.payload, of.payload))
+        return "".join(f" {name} {number} of {frames * size}" for name, number, size in sizes).encode()
+
     def meets(self, reception):
         """The number of the reception's first frame that comes next here, None if it is not known to be in the state of this receiver."""
         if reception.stretch[::2] == (self.cursor, self.follows):
@@ -464,9 +528,12 @@ class Whole:
             self.count["frames"] += 1
             self.count["delivered"] += frame.delivered
             self.certified &= frame.certified and frame.delivered
+            self.count_figures(frame)
             self.outputs.tell(b"frame %d at %d %b\n" % (self.count["frames"], frame.at, frame.words))
             self.known.append(frame.at)
         if frames:
+            self.refused += self.refused_from(reception, number)
+            self.energy = 0 if self.count["delivered"] else self.energy + sum(map(self.energy_of, frames))
             self.cursor, self.follows, self.least = frames[-1].at + size, True, 2 * DUMMY
             for name in self.receiver.records:
                 self.copy(reception, name, number)
@@ -518,7 +585,7 @@ class Whole:
             self.joiner.drop()
         _, _, packets, bad = self.outputs.joined()
         self.outputs.keep()
-        self.outputs.tell(b"end frames %d delivered %d packets %d bad %d\n" % (self.count["frames"], self.count["delivered"], packets, bad))
+        self.outputs.tell(b"end frames %d delivered %d packets %d bad %d%b\n" % (self.count["frames"], self.count["delivered"], packets, bad, self.sums()))
         count, torn = self.count, self.joiner.torn
         is_empty = self.no_frame and not self.count["frames"] and not cut and total >= HEADER
         lines = [self.no_frame.expand(rb"\g<1>%d\2" % total)] if is_empty else []
@@ -526,6 +593,9 @@ class Whole:
             places = f"{counted(count['symbols'], 'symbol')} passed over in {counted(count['places'], 'place')}, the first at {self.first}"
             lines.insert(0, f"s2: note: {places}\n".encode())
         lines += [f"s2: note: {counted(torn, 'packet')} torn\n".encode()] if torn else []
+        lost = counted(count["frames"] - count["delivered"], "lost frame")
+        lines += [f"s2: note: of {lost} {self.refused} had a BCH word whose header is refused\n".encode()] if self.refused else []
+        lines += self.amplitude_note()
         if not quiet:
             sys.stderr.buffer.write(b"".join(lines))
             sys.stderr.buffer.flush()

@@ -115,6 +115,11 @@ def noted(*notes):
     return "".join(f"s2: note: {note}\n" for note in notes)
 
 
+def refused_headers(lost, refused):
+    """The note on lost frames with a BCH word."""
+    return f"of {lost} lost frame{'s' * (lost != 1)} {refused} had a BCH word whose header is refused"
+
+
 def fault(words, text, *notes, **more):
     """A case that ends with the line of a fault, behind these notes, and prints nothing else."""
     return Case(words, FAULT, errors=noted(*notes) + f"s2: {text}\n", **more)

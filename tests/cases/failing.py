@@ -6,6 +6,7 @@ READ, WRITE = "cannot read", "cannot write"
 MOD, DEMOD = f"mod {LINK} made packets out", f"demod {LINK} made two out"
 DUMMY, ACROSS = f"mod {LINK} --dummy 1 made packets out", f"demod {LINK} made among out"
 NOISE, RUN = "noise --seed 1 --level 256 two out", f"run {LINK} --seed 1 --level 0 made packets out"
+RUNS, EACH = f"run {LINK} --seeds 1..2 --level 0 made packets out", f"judge {TOY} --each --cert out toy soft"
 NOTHING, FRAMES = [(0, 0)], [(188, 0), (376, 26), (376, 55)]
 
 
@@ -58,10 +59,24 @@ FAILING = [
     (RUN, "packets", READ, NOTHING),
     (RUN, "out", WRITE, [(0, 0), (188, 26)]),
     (RUN, "printed", WRITE, FRAMES),
+    # packets and lines of many runs, and the line of their sums
+    (RUNS, "packets", READ, NOTHING),
+    (RUNS, "out", WRITE, [(0, 0), (188, 26), (376, 96), (564, 122)]),
+    (RUNS, "printed", WRITE, [*FRAMES, (564, 96), (752, 122), (752, 151), (752, 192)]),
+    # three frames of soft values: lines of 14, 19 and 14 bytes, certificates of 128. The whole file is in the buffer by the first read
+    (EACH, "toy", READ, NOTHING),
+    (EACH, "soft", READ, [(0, 0), (384, 47)]),
+    (EACH, "out", WRITE, lambda moved, size, printed: (size, printed) == (moved, (0, 14, 33)[moved // 128])),
+    (EACH, "printed", WRITE, [(128, 0), (256, 14), (384, 33)]),
+    # each record of `mod` is one write, before the symbols of its frame
+    (f"mod {LINK} --codewords out made packets sent", "out", WRITE, [(0, 0), (2025, 0)]),
+    (f"mod {LINK} --bbframes out made packets sent", "out", WRITE, [(0, 0), (384, 0)]),
+    (f"mod {LINK} --codewords record --bbframes other made packets out", "out", WRITE, [(0, 0), (32_760, 0)]),
+    (f"mod {LINK} --bbframes out made packets sent", "packets", READ, [(0, 0), (384, 0)]),
 ]
 # Commands whose first call on an existing `out` truncates it.
 JOIN = f"join {LINK} bbframes out"
-CUTTING = [MOD, DEMOD, NOISE, RUN, JOIN, f"judge {TOY} --cert out toy stored", f"judge {PAIR} --cert out pair odd"]
+CUTTING = [MOD, DEMOD, NOISE, RUN, RUNS, JOIN, EACH, f"judge {TOY} --cert out toy stored", f"judge {PAIR} --cert out pair odd"]
 
 
 def in_steps(lines):

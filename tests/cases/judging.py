@@ -1,5 +1,5 @@
 """`judge`, and the program without a command."""
-from cases.common import CHAIN, FAULT, NO, PAIR, STORED, STORED_MOVED, TOY, WRONG, WRONG_MOVED, Case, fault, size
+from cases.common import CHAIN, FAULT, NO, PAIR, STORED, STORED_MOVED, TOY, WRONG, WRONG_MOVED, Case, fault, noted, size
 from cases.drawn import made_rows
 
 LIKELY, SOLE = "most-likely", "sole"
@@ -157,6 +157,15 @@ ZEROS = b"".join(b"-4 " if at % 1000 == 0 else b"10 " for at in range(64_800))
 NORMAL_SIZE = 13 + 2 * 64_800 + 8100 + 6 * 32_400
 
 
+HARD_NOTE = "these look like hard decisions: use --hard"
+
+
+def note_on(values):
+    """The note on a value file of nothing but 0 and 1."""
+    words = b" ".join(line for line in values.split(b"\n") if not line.startswith(b"#")).split()
+    return noted(HARD_NOTE) if words and {int(word) for word in words} <= {0, 1} else ""
+
+
 def uncertified(line):
     """The line without a certificate."""
     return line.replace(LIKELY, "parity").replace(SOLE, "parity")
@@ -170,12 +179,90 @@ def cut(values):
     return fault("", "values: not a number in line 1" if values.endswith(b"-") else "values: too few", given=values)
 
 
+# Value files of several frames under the toy code: of each frame the values, what it costs, its verdict, and its certificate.
+FRAMES = [(STORED, -45, SOLE, STORED_MOVED), (WRONG, 0, LIKELY, WRONG_MOVED)]
+# The same frames with other line ends, comments among them, and several frames in a line.
+SPLIT = [b"\n", b" ", b"\n\n# a frame\n \t", b"\r\n", b" \n#\n"]
+
+
+def each(values, count, code=0, text="", **more):
+    """`judge --each` on so many frames, in the order stored, wrong, stored and so on."""
+    order = [FRAMES[at % 2] for at in range(count)]
+    writes = {"certificates": b"".join(it[3] for it in order)} | more.pop("writes", {})
+    errors = f"s2: {text}\n" if text else ""
+    out = "".join(f"{word} cost {cost}\n" for _, cost, word, _ in order)
+    words = f"judge {TOY} --each --cert certificates toy values"
+    return Case(words, code, out, errors, reads={"values": values}, writes=writes, **more)
+
+
+def frames(count, between=b"\n"):
+    return b"".join(FRAMES[at % 2][0] + between for at in range(count))
+
+
+# After two whole frames: what comes then, and the fault. The lines before it are there, and so are their certificates.
+BAD_EACH = [
+    (b"7", "too few"),
+    (19 * b"7 ", "too few"),
+    (b"7 x", "not a number in line 3"),
+    (b"\n\n7\n512", "out of range in line 6"),
+    (b"-", "not a number in line 3"),
+    (19 * b"7 " + b"-512 7 7", "out of range in line 3"),
+]
+# Of the pair: values of one frame after another, the exit, and the lines.
+PAIRS_EACH = [
+    (b"-5 3 -5 5\n-5 3", NO, "most-likely cost -2\nbroken cost -5 check 0\nmost-likely cost -2\n"),
+    (b"-5 5", NO, "broken cost -5 check 0\n"),
+    (b"-5 3", 0, "most-likely cost -2\n"),
+    (b"0 0 1 1", 0, "most-likely cost 0\nsole cost 0\n"),
+    (b"0 0 2 1", 0, "most-likely cost 0\nsole cost 0\n"),
+    (b"", 0, ""),
+    (b"# nothing\n\n", 0, ""),
+]
+
+
+EACH = [
+    *(each(frames(count, between), count) for count in (1, 2, 3, 5) for between in SPLIT),
+    # each value in a line of its own
+    each(frames(3).replace(b" ", b"\n"), 3),
+    # many frames: the memory is that of one
+    each(frames(3000), 3000),
+    *(Case(f"judge {PAIR} --each pair values", code, lines, note_on(values), reads={"values": values}) for values, code, lines in PAIRS_EACH),
+    *(Case(f"judge {PAIR} --each --quiet pair values", code, lines, reads={"values": values}) for values, code, lines in PAIRS_EACH),
+    # without a frame the file of certificates is empty
+    *(Case(f"judge {PAIR} --each --cert old pair values", reads={"values": values}, writes={"old": b""}) for values, code, lines in PAIRS_EACH if not lines),
+    Case(f"judge {PAIR} --each --cert old pair odd", NO, "broken cost -5 check 0\n", writes={"old": b""}),
+    *(each(frames(2) + rest, 2, FAULT, f"values: {text}") for rest, text in BAD_EACH),
+    # a fault in the first frame: the file of certificates is unchanged
+    *(fault(f"judge {TOY} --each --cert old toy values", f"values: {text}", reads={"values": values}) for values, text in BAD_VALUES if text != "too many"),
+    # decided bits
+    Case(f"judge {TOY} --each --hard --cert out toy values", out=2 * "sole cost -9\n", reads={"values": 2 * (BITS + b"\n")}, writes={"out": 2 * BITS_CERTIFICATE}),
+    *(
+        fault(f"judge {TOY} --each --hard --cert old toy values", f"values: {text}", reads={"values": values})
+        for values, text in BAD_BITS
+        if text != "too many"
+    ),
+    fault(f"judge {TOY} --each --cert old none values", "cannot open none", reads={"values": STORED}),
+    *(fault(f"judge {TOY} --each --cert old rows values", f"rows: {text}", reads={"rows": rows, "values": STORED}) for rows, text in BAD_ROWS),
+    fault(f"judge {TOY} --each --cert old toy .", "cannot read"),
+    fault(f"judge {TOY} --each --cert /dev/full toy stored", "cannot write"),
+    fault(f"judge {TOY} --each --cert out toy stored", "cannot write", to="/dev/full", writes={"out": STORED_MOVED}),
+    Case(f"judge {TOY} --each --cert - toy values", out=STORED_MOVED + WRONG_MOVED, errors="sole cost -45\nmost-likely cost 0\n", reads={"values": frames(2)}),
+    *(Case(f"judge {TOY} --each toy {name}", out="sole cost -45\n") for name in ("-", "/dev/stdin")),
+    *(fault(f"judge {TOY} --each --cert {name} toy stored", f"{name} is used twice") for name in ("toy", "stored")),
+]
+
+
 CASES = [
+    *EACH,
     *(cut(whole[:size]) for whole in (STORED, LARGEST) for size in range(len(whole))),
     *(Case("", out=f"most-likely cost {cost}\n", given=values) for values, cost, _ in WELL),
-    *(Case(f"judge {TOY} toy values", out=f"{word} cost {cost}\n", reads={"values": values}) for values, cost, word in WELL),
+    *(Case(f"judge {TOY} toy values", out=f"{word} cost {cost}\n", errors=note_on(values), reads={"values": values}) for values, cost, word in WELL),
+    *(Case(f"judge {TOY} --quiet toy values", out=f"{word} cost {cost}\n", reads={"values": values}) for values, cost, word in WELL),
     # a hard decision and a repaired word keep their certificates, what min-sum finds has none
-    *(Case(f"judge {TOY} --uncertified toy values", out=f"{word} cost {cost}\n", reads={"values": values}) for values, cost, word in WELL),
+    *(
+        Case(f"judge {TOY} --uncertified toy values", out=f"{word} cost {cost}\n", errors=note_on(values), reads={"values": values})
+        for values, cost, word in WELL
+    ),
     Case(f"judge {TOY} --uncertified --cert out toy wrong", out="most-likely cost 0\n", writes={"out": WRONG_MOVED}),
     *(
         Case(f"judge {shape} --uncertified --cert old rows values", NO, uncertified(line), reads={"rows": rows, "values": values}, writes={"old": b""})

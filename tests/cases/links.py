@@ -1,7 +1,7 @@
 """`rows`, `mod`, `noise`, `demod` and `run`."""
 import functools
 
-from cases.common import ANY, DIVISORS, LINK, LONG_ROWS, NO, ONE, PACKET, PAIR, TOY, TWO, WANTED, Case, digest, ending, fault, noted, size
+from cases.common import ANY, DIVISORS, LINK, LONG_ROWS, NO, ONE, PACKET, PAIR, TOY, TWO, WANTED, Case, digest, Rule, ending, fault, noted, refused_headers, size
 from cases.drawn import gaussian, made_rows, spoilt
 from cases.plain_receiver import broken, checks_of, soft_value, weakened
 
@@ -26,6 +26,38 @@ ROWS = [
 ]
 
 
+# What a refused packet is noted to be: its position, and what to strip.
+HINTS = {192: ": 192-byte packets: strip the 4 bytes of the time code first", 204: ": 204-byte packets: strip the 16 Reed-Solomon bytes first", 0: ""}
+
+
+def no_sync(packet, size=0):
+    """The fault of a refused packet, and its note."""
+    return f"{NO_SYNC} {packet}", f"packet {packet} begins at byte {188 * (packet - 1)}{HINTS[size]}"
+
+
+def with_sync(packet, *places):
+    """A packet without a sync at its begin, and with others at these places."""
+    made = bytearray(188)
+    for place in places:
+        made[place] = 0x47
+    return (packet - 1) * PACKET + bytes(made)
+
+
+# Streams of packets with more bytes, the first packet that is refused, and the size that its note tells.
+SIZES = [
+    (3 * (PACKET + bytes(16)), 2, 204),
+    (3 * (bytes(4) + PACKET), 1, 192),
+    (3 * (PACKET + bytes(4)), 2, 192),
+    (with_sync(2, 4, 16), 2, 204),
+    (with_sync(1, 4, 16), 1, 192),
+    (with_sync(1, 16), 1, 0),
+    (with_sync(1, 3, 5, 15, 17), 1, 0),
+    (with_sync(2, 3, 5, 15, 17), 2, 0),
+    (with_sync(3, 4), 3, 0),
+    (with_sync(3, 16), 3, 0),
+]
+
+
 def sent(packets, line, symbols, words="--modcod 1 normal4"):
     return Case(f"mod {words} in out", out=line, reads={"in": packets}, writes={"out": symbols})
 
@@ -41,12 +73,14 @@ MOD = [
             (187 * b"\x47", NOT_WHOLE),
             (PACKET + b"\x47", NOT_WHOLE),
             (187 * b"\x48", NOT_WHOLE),
-            (188 * b"\x48", f"{NO_SYNC} 1"),
-            (PACKET + b"\x48" + bytes(187), f"{NO_SYNC} 2"),
         ]
     ),
+    fault("mod --modcod 1 normal4 in out", *no_sync(1), reads={"in": 188 * b"\x48"}, writes={"out": b""}),
+    *(fault("mod --modcod 1 normal4 in out", *no_sync(*said), reads={"in": packets}, writes={"out": b""}) for packets, *said in SIZES),
+    *(fault("mod --modcod 1 --quiet normal4 in out", no_sync(at)[0], reads={"in": packets}, writes={"out": b""}) for packets, at, _ in SIZES),
     # the frame that was full stands
-    fault(f"mod {LINK} made in out", f"{NO_SYNC} 3", reads={"in": 2 * PACKET + b"\x48" + bytes(187)}, writes={"out": size(32_760)}),
+    fault(f"mod {LINK} made in out", *no_sync(3), reads={"in": 2 * PACKET + b"\x48" + bytes(187)}, writes={"out": size(32_760)}),
+    fault(f"mod {LINK} made in -", *no_sync(1), reads={"in": bytes(188)}),
     fault(f"mod {LINK} toy packets out", "rows: too few rows", WANTED, writes={"out": b""}),
     *(fault(f"{words} --quiet {LINK} toy packets out", "rows: too few rows", writes={"out": b""}) for words in ("mod", "demod", "run --seed 1 --level 0")),
     fault(f"mod {LINK} made . out", "cannot read", writes={"out": b""}),
@@ -104,7 +138,8 @@ def demod(two, single):
         ),
         *(received(symbols, 0, NONE, b"") for symbols in (b"", b"1", b"12", b"123", bytes(359))),
         # behind its header the frame has lost its symbols: the word of zeros is decided, whose message is no header
-        received(two[:360] + bytes(32_400), NO, lost, b""),
+        received(two[:360] + bytes(32_400), NO, lost, b"", errors=noted(refused_headers(1, 1))),
+        received(two[:360] + bytes(32_400), NO, lost, b"", f"{LINK} --quiet made"),
         fault(f"demod {LINK} toy in out", "rows: too few rows", WANTED, reads={"in": two}, writes={"out": b""}),
         fault(f"demod {LINK} . in out", "cannot read", reads={"in": two}, writes={"out": b""}),
         fault(f"demod {LINK} made . out", "cannot read", writes={"out": b""}),
@@ -147,6 +182,36 @@ def losing(two):
     ]
 
 
+def loud(symbols, component):
+    """Symbols whose components have this size."""
+    return b"".join((component if symbols[at] < 128 else -component).to_bytes(2, "big", signed=True) for at in range(0, len(symbols), 2))
+
+
+def amplitude(root, gain):
+    return f"the headers' amplitude, noise included, is {root}, not 990: use --gain {gain} of tools/convert"
+
+
+# Sizes of components, and the amplitude and the gain that are noted, if they are.
+AMPLITUDES = {588: (832, "1.1899"), 589: None, 832: None, 833: (1178, "0.8404"), 7000: (9899, "0.1000"), 70: (99, "10.0000"), 32767: (46340, "0.0214")}
+
+
+def strong(two):
+    """Frames of another amplitude: noted if none is delivered, as by another scrambling number."""
+    lost = Rule("two lost frames", lambda got: got.endswith(b" delivered 0 packets 0 bad 0\n") and got.count(b" lost\n") == 2)
+    one, other, words = two[:32_760], two[32_760:], f"{LINK} --number 7"
+    cases = [
+        *(received(loud(two, size), NO, lost, b"", f"{words} made", noted(amplitude(*said)) if said else "") for size, said in AMPLITUDES.items()),
+        *(received(loud(two, size), NO, lost, b"", f"{words} --quiet made") for size in AMPLITUDES),
+        # the energy is that of all headers
+        received(one + loud(other, 7000), NO, lost, b"", f"{words} made", noted(amplitude(7035, "0.1407"))),
+        # one frame is delivered, or all are
+        received(one + loud(other[:360], 7000) + bytes(32_400), NO, ANY, PACKET, errors=noted("1 packet torn", refused_headers(1, 1))),
+        received(loud(two, 7000), 0, TWO, 2 * PACKET),
+    ]
+    no_bbframes = loud(one[:360], 7000) + bytes(32_400) + loud(other[:360], 7000) + bytes(32_400)
+    return [*cases, received(no_bbframes, NO, lost, b"", errors=noted(refused_headers(2, 2), amplitude(9899, "0.1000")))]
+
+
 def run(words, code, report, packets, taken=2 * PACKET):
     return Case(f"run {words} in out", code, report, reads={"in": taken}, writes={"out": packets})
 
@@ -172,10 +237,11 @@ RUN = [
         fault(f"run {LINK} --seed 1 --level 0 made in out", text, reads={"in": packets}, writes={"out": b""})
         for packets, text in [
             (187 * b"\x47", NOT_WHOLE),
-            (188 * b"\x48", f"{NO_SYNC} 1"),
-            (2 * PACKET + bytes(188), f"{NO_SYNC} 3"),
+            (2 * PACKET + b"\x47", NOT_WHOLE),
         ]
     ),
+    *(fault(f"run {LINK} --seed 1 --level 0 made in old", *no_sync(*said), reads={"in": packets}) for packets, *said in SIZES),
+    *(fault(f"run {LINK} --quiet --seeds 1..2 --level 0 made in old", no_sync(at)[0], reads={"in": packets}) for packets, at, _ in SIZES),
     fault(f"run {LINK} --seed 1 --level 0 toy packets out", "rows: too few rows", WANTED, writes={"out": b""}),
     fault(f"run {LINK} --seed 1 --level 0 made . out", "cannot read", writes={"out": b""}),
     fault(f"run {LINK} --seed 1 --level 0 . packets out", "cannot read", writes={"out": b""}),
@@ -216,7 +282,7 @@ def divided(two, report_by):
     nothing of them, which is the word of zeros; and with noise those of factors, and of what is best."""
     noisy, noise = spoilt(two, *NOISY), "--rounds 2 --seed {} --level {}".format(*NOISY)
     lost = TWO.replace("sole fixed 0", "most-likely lost").replace("delivered 2 packets 2", "delivered 0 packets 0")
-    usual = report_by(DIVISORS[0], 12)
+    usual, note = report_by(DIVISORS[0], 12), noted(refused_headers(2, 2))
     cases = [
         received(noisy, NO, usual, 2 * PACKET, f"{LINK} --rounds 2 made"),
         run(f"{LINK} {noise} made", NO, usual, 2 * PACKET),
@@ -230,8 +296,8 @@ def divided(two, report_by):
             run(f"{words} {noise} made", NO, report, 2 * PACKET),
         ]
         for component in WEAK:
-            ends = (0, TWO, 2 * PACKET) if soft_value((component, component), 0, divisor) else (NO, lost, b"")
-            cases.append(received(weakened(two, component), *ends, f"{words} made"))
+            ends = (0, TWO, 2 * PACKET, f"{words} made") if soft_value((component, component), 0, divisor) else (NO, lost, b"", f"{words} made", note)
+            cases.append(received(weakened(two, component), *ends))
     for words, divisor, factor in [*((f"--factor {factor}", DIVISORS[0], factor) for factor in FACTORS), *TUNED]:
         report = report_by(divisor, factor)
         cases += [
@@ -251,8 +317,8 @@ def among(two, dummies):
     return [
         *(sent(2 * PACKET, "packets 2 frames 2\n", symbols, f"{LINK} --dummy {every} made") for every, symbols in sent_so),
         *(
-            fault(f"mod {LINK} --dummy 1 made in out", text, reads={"in": 2 * PACKET + rest}, writes={"out": one + dummy})
-            for rest, text in [(bytes(188), f"{NO_SYNC} 3"), (b"\x47", NOT_WHOLE)]
+            fault(f"mod {LINK} --dummy 1 made in out", *said, reads={"in": 2 * PACKET + rest}, writes={"out": one + dummy})
+            for rest, said in [(bytes(188), no_sync(3)), (b"\x47", (NOT_WHOLE,))]
         ),
         *(received(one + each + other + each, 0, later, 2 * PACKET) for each in dummies),
         # the last one lacks symbols

@@ -58,7 +58,7 @@ USAGES = {
     "audit": "s2 audit [OPTIONS] --modcod <M> <ROWS> <SYMBOLS> <REPORT> <CERTIFICATES>",
     "mod": "s2 mod [OPTIONS] --modcod <M> <ROWS> <PACKETS> <SYMBOLS>",
     "demod": "s2 demod [OPTIONS] --modcod <M> <ROWS> <SYMBOLS> <PACKETS>",
-    "run": "s2 run [OPTIONS] --modcod <M> --seed <S> <--level <L>|--esn0 <DB>> <ROWS> <PACKETS> <OUT>",
+    "run": "s2 run [OPTIONS] --modcod <M> <--seed <S>|--seeds <A..B>> <--level <L>|--esn0 <DB>> <ROWS> <PACKETS> <OUT>",
 }
 REST = {
     "modes": "",

@@ -3,12 +3,12 @@
 import re
 from dataclasses import dataclass, field
 
-from cases import links, listing, progress, records
+from cases import figured, links, listing, progress, records
 from cases.common import (
     ANY, FINE, LINK, NO, PACKET, PAIR, STORED, STORED_CERTIFICATE, STORED_MOVED, TOY, TWO, WANTED, Case, Rule, digest, ending, first_line, noted,
 )  # fmt: skip
 from cases.drawn import gaussian, made_rows, spoilt
-from cases.judging import LEFT
+from cases.judging import HARD_NOTE, LEFT
 from cases.links import NOISY, NONE, PARITY, SAMPLES, wrong_headers
 from cases.modes import PACKETS, WORDS
 from cases.words import LACKS, WANTED_NORMAL
@@ -77,14 +77,16 @@ def judge_effects():
     for name, (usual, other, text) in shapes.items():
         words = TOY.replace(f"--{name} {usual}", "{}")
         yield Effect(f"--{name}", f"judge {words} toy stored", {"": lacks} | each(f"--{name}", (usual, other), (sole, refused(text))))
-    zero, many = ended("sole cost 0\n"), {"reads": {"values": 16_200 * b"10 "}}
-    yield Effect("--modcod", "judge {} --short made values", each("--modcod", (1, "qpsk1/4", 2), (zero, zero, refused(OTHER_SHORT[0]))), many)
-    yield Effect("--short", "judge --modcod 1 {} made values", {"": refused(TOO_FEW), "--short": zero}, many)
+    zero, long = ended("sole cost 0\n"), {"reads": {"values": 16_200 * b"10 "}}
+    yield Effect("--modcod", "judge {} --short made values", each("--modcod", (1, "qpsk1/4", 2), (zero, zero, refused(OTHER_SHORT[0]))), long)
+    yield Effect("--short", "judge --modcod 1 {} made values", {"": refused(TOO_FEW), "--short": zero}, long)
     # the bits of the stored word
     hard = {"reads": {"values": re.sub(rb"-5|7", lambda it: b"%d" % (it[0] == b"-5"), STORED)}}
-    as_soft = ended("most-likely cost 0\n")
+    as_soft, unnoted = ended("most-likely cost 0\n", errors=noted(HARD_NOTE)), ended("most-likely cost 0\n")
     yield Effect("--hard", f"judge {TOY} {{}} toy values", {"": as_soft, "--hard": ended("sole cost -9\n")}, hard)
-    yield Effect("--quiet", f"judge {TOY} {{}} toy stored", dict.fromkeys(("", "--quiet"), sole))
+    yield Effect("--quiet", f"judge {TOY} {{}} toy values", {"": as_soft, "--quiet": unnoted}, hard)
+    two, many = {"reads": {"values": 2 * (STORED + b"\n")}}, ended(2 * "sole cost -45\n")
+    yield Effect("--each", f"judge {TOY} {{}} toy values", {"": refused("values: too many"), "--each": many}, two)
     yield Effect("--cert", f"judge {TOY} {{}} toy stored", {"": sole, "--cert out": ended("sole cost -45\n", out=STORED_MOVED)})
     (shape, rows), passes, values, line, *_ = LEFT[0]
     ends, soft = (ended(line.replace("sole", "most-likely")), ended(line)), {"reads": {"rows": rows, "values": values}}
@@ -126,7 +128,6 @@ def join_effects():
     zeros = {"reads": {"in": bytes(listing.kbch(1, True, 3240) // 8)}}
     yield Effect("--modcod", "join {} --short in out", each("--modcod", (1, "QPSK1/4", 2), (lost, lost, cut)), zeros)
     yield Effect("--short", "join --modcod 1 {} in out", {"--short": lost, "": cut}, zeros)
-    yield Effect("--quiet", f"join {LINK} {{}} in out", dict.fromkeys(("", "--quiet"), lost), zeros)
 
 
 def audit_effects(two):
@@ -144,7 +145,6 @@ def audit_effects(two):
     # a receiver accepts any roll-off
     yield Effect("--ro", f"audit {LINK} {{}} {files}", dict.fromkeys(("", "--ro 0", "--ro 1", "--ro 2"), fine), reads)
     yield Effect("--divisor", f"audit {LINK} {{}} {files}", by_default("--divisor", 4096, 8192, fine, other), reads)
-    yield Effect("--quiet", f"audit {LINK} {{}} {files}", dict.fromkeys(("", "--quiet"), fine), reads)
 
 
 def mod_effects(two, dummy):
@@ -160,6 +160,8 @@ def mod_effects(two, dummy):
     yield Effect("--short", "mod --modcod 1 {} made packets out", {"--short": whole, "": refused(TOO_FEW, WANTED_NORMAL, out=b"")})
     yield Effect("--dummy", f"mod {LINK} {{}} made packets out", by_default("--dummy", 0, 1, whole, apart))
     yield Effect("--quiet", f"mod {LINK} {{}} made packets out", {"": ended(sent, FINE, noted(ROWS_NOTE), out=two), "--quiet": whole}, {"noted": True})
+    for option, text in records.sent(two).items():
+        yield Effect(option, f"mod {LINK} {{}} made packets out", {"": whole, f"{option} record": ended(sent, out=two, record=text)})
 
 
 def received(report, code=FINE, packets=2 * PACKET, notes=()):
@@ -190,7 +192,7 @@ def tuning_effects(two, report):
     yield from both("--factor", words, by_default("--factor", 12, 13, usual, by[4096, 13]), NOISY, noisy)
     yield from both("--tuned", words, {"": usual, "--tuned": by[8192, 15]}, NOISY, noisy)
     # the result of fifty rounds, the default, is only known to differ from those of one and two
-    many, one = ({"code": ANY, "out": ANY, "errors": "", "writes": {"out": ANY}} for _ in range(2))
+    many, one = ({"code": ANY, "out": ANY, "errors": errors, "writes": {"out": ANY}} for errors in ("", ANY))
     ends = {"": many, "--rounds 50": many, "--rounds 2": usual, "--rounds 1": one}
     yield from both("--rounds", f"{LINK} {{}}", ends, NOISY, noisy)
     hard, soft = {"reads": {"in": spoilt(two, 1, 500)}}, {"reads": {"in": spoilt(two, 1, 400)}}
@@ -206,6 +208,13 @@ def link_effects(two):
     yield from both("--short", "--modcod 1 {}", {"--short": WELL, "": few}, (1, 0), clean)
     yield Effect("--quiet", f"demod {LINK} {{}} made in out", {"": received(TWO, notes=[ROWS_NOTE]), "--quiet": WELL}, {**clean, "noted": True})
     yield Effect("--quiet", f"run {LINK} {{}} --seed 1 --level 0 made packets out", {"": received(TWO, notes=[ROWS_NOTE]), "--quiet": WELL}, {"noted": True})
+
+
+def figure_effects(two, made):
+    """The figures of frames without noise, and with noise."""
+    yield from both("--figures", f"{LINK} {{}}", {"": WELL, "--figures": received(figured.clean(TWO))}, (1, 0), {"reads": {"in": two}})
+    plain, with_figures = (received(text, NO) for text in figured.noisy(two, made))
+    yield from both("--figures", f"{LINK} --rounds 2 {{}}", {"": plain, "--figures": with_figures}, NOISY, {"reads": {"in": spoilt(two, *NOISY)}})
 
 
 def record_effects(two):
@@ -242,6 +251,9 @@ def run_effects(report, others):
     seed, decibels = links.GAUSSIAN
     yield Effect("--esn0", f"{words} --seed {seed} {{}} made packets out", each("--esn0", (decibels, 40), (gaussian_noise, WELL)))
     other = {"code": ANY, "out": ANY, "errors": "", "writes": {"out": ANY}}
+    one, three = (received(count * TWO + f"seeds {count} frames {2 * count} delivered {2 * count} packets {2 * count} bad 0\n", FINE, 2 * count * PACKET) for count in (1, 3))
+    ends = {"--seeds 1..1": one, "--seeds 5..5": one, "--seeds 0..2": three, f"--seeds {2**64 - 3}..{2**64 - 1}": three}
+    yield Effect("--seeds", f"run {LINK} --level 0 {{}} made packets out", ends)
     yield Effect("--seed", f"{words} --level {NOISY[1]} {{}} made packets out", each("--seed", (NOISY[0], 15), (usual, other)))
     yield Effect("--pilots", f"run {LINK} --seed 1 --level 0 {{}} made packets out", {"": WELL, "--pilots": received(TWO.replace("8190", "8370"))})
     apart = received(TWO.replace("8190", "11520"))
@@ -257,9 +269,10 @@ def run_effects(report, others):
     yield Effect("--lock", "run {} {{}} --seed {} --level {} made packets out".format(LINK, *links.LOCKED), by_default("--lock", 12, 30, one, both_found))
 
 
-def effects(two, pilots, dummy, report, others):
+def effects(two, made, pilots, dummy, report, others):
     found = [*rows_effects(), *judge_effects(), *few_effects(), *join_effects(), *mod_effects(two, dummy), *tuning_effects(two, report)]
-    return found + [*link_effects(two), *record_effects(two), *audit_effects(two), *demod_effects(two, pilots), *run_effects(report, others)]
+    found += [*link_effects(two), *figure_effects(two, made)]
+    return found + [*record_effects(two), *audit_effects(two), *demod_effects(two, pilots), *run_effects(report, others)]
 
 
 # Options with cases in progress.py.
@@ -294,7 +307,7 @@ def unshown(name, text, found):
 
 
 # Options without a visible effect: these commands write no notes, and a receiver accepts any roll-off.
-SAME = {("modes", "--quiet"), ("rows", "--quiet"), ("judge", "--quiet"), ("check", "--quiet"), ("join", "--quiet"), ("audit", "--quiet"), ("audit", "--ro"), ("demod", "--ro")}
+SAME = {("modes", "--quiet"), ("rows", "--quiet"), ("check", "--quiet"), ("audit", "--ro"), ("demod", "--ro")}
 
 
 def has_difference(effect):

@@ -87,17 +87,22 @@ def decisions(checks, soft, rounds, factor):
         yield [value < 0 for value in posteriors]
 
 
+def decided(checks, noisy, divisor, rounds, factor=12, number=0):
+    """Of each frame its soft values, and its words in the order in which they are tried: hard decision, repaired word, those of min-sum."""
+    for payload in payloads(noisy, number):
+        soft = soft_values(payload, divisor)
+        hard = [value < 0 for value in soft]
+        yield soft, [hard, repaired(checks, hard), *decisions(checks, soft, rounds, factor)]
+
+
 def broken(checks, sent, noisy, divisor, rounds, factor=12, number=0):
     """The report of frames of which no step finds a codeword, where outer coding corrects all: how many of the first bits of
     min-sum's last decision are not those sent."""
     lines = []
-    for number, (clean, payload) in enumerate(zip(payloads(sent, number), payloads(noisy, number))):
-        soft = soft_values(payload, divisor)
-        hard = [value < 0 for value in soft]
-        words = [hard, repaired(checks, hard), *decisions(checks, soft, rounds, factor)]
+    for at, (clean, (_, words)) in enumerate(zip(payloads(sent, number), decided(checks, noisy, divisor, rounds, factor, number))):
         fixed = sum((value < 0) != bit for value, bit in list(zip(soft_values(clean, 1), words[-1]))[: GROUP * GROUPS])
         assert all(odd(checks, word) for word in words) and fixed <= MAX_FIXED
-        lines.append(f"frame {number + 1} at {FRAME * number} broken fixed {fixed}\n")
+        lines.append(f"frame {at + 1} at {FRAME * at} broken fixed {fixed}\n")
     return "".join(lines) + f"end frames {len(lines)} delivered {len(lines)} packets {len(lines)} bad 0\n"
 
 

@@ -1,12 +1,14 @@
-"""The records of `demod` and `run`: what is wanted is computed from the symbols sent, as docs/formats.md describes the files."""
+"""The records of `demod`, `run` and `mod`: what is wanted is computed from the symbols sent, as docs/formats.md describes the files."""
 import re
 
-from cases.common import ANY, LINK, NO, PACKET, TWO, WANTED, Case, fault, noted
+from cases.common import ANY, LINK, NO, PACKET, TWO, WANTED, Case, fault, noted, refused_headers
 from cases.drawn import spoilt
 from cases.plain_checker import file_of
 from cases.plain_receiver import GROUP, GROUPS, Q, payloads, soft_values
 
 OPTIONS = ("--certificates", "--values", "--codewords", "--bbframes")
+# Those that `mod` has too.
+SENT = ("--codewords", "--bbframes")
 # Bits of a BBFRAME of LINK, and the symbols of a frame.
 KBCH, FRAME = 3072, 8190
 LOST = bytes(KBCH // 8)
@@ -45,6 +47,11 @@ def records(symbols):
         "--codewords": b"".join(packed(word) for _, word in frames),
         "--bbframes": b"".join(bbframe(word) for _, word in frames),
     }
+
+
+def sent(symbols):
+    """What `mod` writes of the frames that it sends: what `demod` writes of them without noise."""
+    return {option: text for option, text in records(symbols).items() if option in SENT}
 
 
 def both(option, text, words, code, report, packets, errors="", **more):
@@ -94,7 +101,7 @@ def zeros(two):
     }
     report = "frame 1 at 0 most-likely lost\nend frames 1 delivered 0 packets 0 bad 0\n"
     symbols = {"reads": {"in": two[:360] + bytes(32_400)}}
-    return [both(option, text, LINK, NO, report, b"", **symbols) for option, text in texts.items()]
+    return [both(option, text, LINK, NO, report, b"", noted(refused_headers(1, 1)), **symbols) for option, text in texts.items()]
 
 
 def uncertified(two):
@@ -163,8 +170,47 @@ def files(two):
     return cases
 
 
+def sending(two, dummy):
+    """The records of `mod`: beside dummy frames and refused packets, as standard output, and which files are truncated, refused and written."""
+    texts, first, line = sent(two), sent(two[: 4 * FRAME]), "packets 2 frames 2\n"
+    apart, long, words = two[: 4 * FRAME] + dummy + two[4 * FRAME :] + dummy, 1_000_000 * b"l", f"mod {LINK}"
+    cases = [
+        Case(f"{words} --codewords long --bbframes second made packets out", out=line, reads={"long": long}, writes={"out": two} | dict(zip(("long", "second"), texts.values()))),
+        *(fault(f"{words} {option} {name} made packets old", f"{name} is used twice") for option in SENT for name in ("made", "packets", "old")),
+        *(fault(f"{words} {option} seen made packets old", "seen is used twice", links={"seen": ("hard", "packets")}) for option in SENT),
+        fault(f"{words} --codewords old --bbframes old made packets out", "old is used twice", writes={"out": b""}),
+        fault(f"{words} --codewords - made packets -", "- is used twice"),
+        fault(f"{words} --codewords - --bbframes - made packets old", "- is used twice"),
+        # they are opened after the others, in the order of the table and not of the line
+        fault(f"{words} --bbframes none/b --codewords none/c made packets none/out", "cannot open none/out"),
+        fault(f"{words} --bbframes none/b --codewords none/c made packets old", "cannot open none/c"),
+        fault(f"{words} --bbframes none/b made packets old", "cannot open none/b"),
+    ]
+    for option, text in texts.items():
+        record = {"out": two, "record": text}
+        cases += [
+            Case(f"{words} {option} record --dummy 1 made packets out", out=line, writes={"out": apart, "record": text}),
+            *(Case(f"{words} {option} {name} made packets out", out=text, errors=line, writes={"out": two}) for name in ("-", "/dev/stdout")),
+            # nothing is left of a file that was longer, also if there are no frames
+            Case(f"{words} {option} long made packets out", out=line, reads={"long": long}, writes={"out": two, "long": text}),
+            Case(f"{words} {option} old made in out", out="packets 0 frames 0\n", reads={"in": b""}, writes={"out": b"", "old": b""}),
+            # the rows are refused before a record is truncated
+            fault(f"{words} {option} old toy packets out", "rows: too few rows", WANTED, writes={"out": b""}),
+            # of a stream with a packet that is refused there are the records of the frames that were full
+            fault(f"{words} {option} record made in out", "packets: not a whole packet", reads={"in": 2 * PACKET + b"\x47"}, writes={"out": two[: 4 * FRAME], "record": first[option]}),
+            fault(f"{words} {option} old made . out", "cannot read", writes={"out": b"", "old": b""}),
+            # a record that cannot be written: nothing of its frame is
+            fault(f"{words} {option} /dev/full made packets out", "cannot write", writes={"out": b""}),
+            fault(f"{words} {option} - made packets out", "cannot write", to="/dev/full", writes={"out": b""}),
+            # symbols or a line that cannot be written: the records are there
+            fault(f"{words} {option} record made packets /dev/full", "cannot write", writes={"record": first[option]}),
+            fault(f"{words} {option} record made packets out", "cannot write", to="/dev/full", writes=record),
+        ]
+    return cases
+
+
 def cases(two, dummy):
-    return [*losses(two, dummy), *zeros(two), *uncertified(two), *files(two)]
+    return [*losses(two, dummy), *zeros(two), *uncertified(two), *files(two), *sending(two, dummy)]
 
 
 # What is received for the laws: words of `demod`, and what they say to `judge`.

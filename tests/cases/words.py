@@ -84,6 +84,7 @@ The report, a line for each mode, the likeliest first:
 
 The last line:
   tools/convert .. | ./s2 demod ..    receives the first mode of the list that `demod` takes; rows is the mode's row file
+  ./s2 demod ..                       the same, where nothing is to be converted: an amplitude of 833 to 1177 needs no gain
   s2 demod receives none of these     16APSK, 32APSK or dummy frames alone
   nothing found                       no header came twice at its frame's distance: try a longer recording
 
@@ -111,6 +112,10 @@ def beyond(value, word, least, most):
     return invalid(value, word, f"{value} is not in {least}..={most}")
 
 
+def no_range(text):
+    return invalid(text, "seeds <A..B>", "it is two numbers of 64 bits with two points between them, the first at most the second, as 1..100")
+
+
 def no_ratio(text):
     return invalid(text, "esn0 <DB>", "it is -10 to 40, with at most two digits after the point")
 
@@ -125,6 +130,13 @@ RECORDS = {
     "--bbframes": "for the BBFRAMEs, as `join` reads them: zeros for a frame that is lost, and before one that follows a gap",
 }
 NOT_BOTH = "error: the argument '--uncertified' cannot be used with '--passes <P>'"
+# What is no range of seeds.
+RANGES = ["x", "1", "1..", "..2", "..", "2..1", "1.2", "1...2", "1..2..3", "1..=2", "-1..2", "1..-2", "0x1..2", f"1..{2**64}"]
+# The options of mod that name a file for records, and what each file takes.
+SENT = {
+    "--codewords": "for the codeword of each frame, eight bits to a byte, the first one highest, as `demod --codewords` writes it",
+    "--bbframes": "for the BBFRAME of each frame, not scrambled, as `join` reads it and `demod --bbframes` writes it",
+}
 # Words that no command has, and the first line on standard error.
 MISUSES = [
     ("send", "error: unrecognized subcommand 'send'"),
@@ -138,7 +150,6 @@ MISUSES = [
     ("judge --modcod 1 --q 3 toy stored", "error: the argument '--modcod <M>' cannot be used with '--q <Q>'"),
     ("judge --modcod 1 --groups 2 toy stored", "error: the argument '--modcod <M>' cannot be used with '--groups <N>'"),
     ("judge --modcod 18 toy stored", beyond(18, "modcod <M>", 1, 17)),
-    (f"judge {TOY} --each toy stored", "error: unexpected argument '--each' found"),
     ("check --hard toy certificate", "error: unexpected argument '--hard' found"),
     (f"judge {TOY} toy", LACKS),
     ("judge --group 361 --groups 2 --q 3 toy stored", beyond(361, "group <G>", 1, 360)),
@@ -186,7 +197,8 @@ MISUSES = [
     ("demod --modcod 1 --lock x made packets out", invalid("x", "lock <H>", "invalid digit found in string")),
     ("demod --modcod 1 --uncertified --passes 96 made packets out", NOT_BOTH),
     *((f"demod --modcod 1 made in out {option}", f"error: a value is required for '{option} <FILE>' but none was supplied") for option in RECORDS),
-    *((f"mod --modcod 1 made packets out {option} file", f"error: unexpected argument '{option}' found") for option in RECORDS),
+    *((f"mod --modcod 1 made packets out {option} file", f"error: unexpected argument '{option}' found") for option in RECORDS if option not in SENT),
+    *((f"mod --modcod 1 made packets out {option}", f"error: a value is required for '{option} <FILE>' but none was supplied") for option in SENT),
     ("demod --modcod 1 --values one --values two made in out", "error: the argument '--values <FILE>' cannot be used multiple times"),
     ("demod --modcod 1 --dummy 1 made packets out", "error: unexpected argument '--dummy' found"),
     ("demod --modcod 1 --seed 1 made packets out", "error: unexpected argument '--seed' found"),
@@ -194,6 +206,13 @@ MISUSES = [
     ("run --modcod 1 --level 1 made packets out", LACKS),
     ("run --modcod 1 --esn0 1 made packets out", LACKS),
     (f"{RUN} --esn0 1 made packets out", "error: the argument '--level <L>' cannot be used with '--esn0 <DB>'"),
+    (f"{RUN} --seeds 1..2 made packets out", "error: the argument '--seed <S>' cannot be used with '--seeds <A..B>'"),
+    ("run --modcod 1 --seeds 1..2 --seed 1 --level 1 made packets out", "error: the argument '--seeds <A..B>' cannot be used with '--seed <S>'"),
+    ("run --modcod 1 --seeds 1..2 made packets out", LACKS),
+    ("run --modcod 1 --seeds --level 1 made packets out", "error: a value is required for '--seeds <A..B>' but none was supplied"),
+    *((f"run --modcod 1 --seeds={text} --level 1 made packets out", no_range(text)) for text in RANGES),
+    ("demod --modcod 1 --seeds 1..2 made packets out", "error: unexpected argument '--seeds' found"),
+    ("noise --seeds 1..2 --level 1 packets out", "error: unexpected argument '--seeds' found"),
     *((f"run --modcod 1 --seed 1 --esn0 {text} made packets out", no_ratio(text)) for text in RATIOS),
     ("run --seed 1 --level 1 made packets out", LACKS),
     (f"{RUN} made packets", LACKS),
@@ -208,7 +227,6 @@ MISUSES = [
     (f"{RUN} --tuned=1 made packets out", "error: unexpected value '1' for '--tuned' found; no more were expected"),
     ("scan", LACKS),
     ("scan one other", "error: unexpected argument 'other' found"),
-    ("scan --quiet one", "error: unexpected argument '--quiet' found"),
     ("scan --modcod 1 one", "error: unexpected argument '--modcod' found"),
     ("join frames out", LACKS),
     ("join --modcod 1 frames", LACKS),
@@ -278,10 +296,19 @@ WORDS = [
     ("judge", "--modcod <M>", "as qpsk3/4 or 8PSK2/3: `s2 modes` lists them"),
     ("judge", "--short", "Frames of 16200 bits, and not of 64800"),
     ("judge", "--hard", "in the place of soft values: 0 is the value 1, and 1 is -1"),
+    ("judge", "--each", "one after the other: a line of the report for each, and all certificates in one file"),
+    ("judge", "these look like hard decisions: use --hard", "no value is other than 0 and 1"),
     *((name, f"{option} <FILE>", says) for name in ("demod", "run") for option, says in RECORDS.items()),
-    ("demod", "A frame's records", "A file keeps its contents until the rows are accepted."),
+    *(("mod", f"{option} <FILE>", says) for option, says in SENT.items()),
+    *((name, "A frame's records", "A file keeps its contents until the rows are accepted.") for name in ("mod", "demod")),
     ("run", "A frame's records", "A file keeps its contents until the rows are accepted, and the packets."),
     *((name, "--tuned", "words that stand beside it win") for name in ("demod", "run")),
+    *((name, "--figures", "at the end of each frame's line, and their sums at the end of the last line") for name in ("demod", "run")),
+    *((name, "header H", "symbols of the header that were decided wrongly, of 90") for name in ("demod", "run")),
+    *((name, "changed B of T known E of N payload P of M", "N symbols of headers and pilots, and M of payloads") for name in ("demod", "run")),
+    *((name, "packet I begins at byte B", "and what to strip of packets of 192 or 204 bytes") for name in ("mod", "run")),
+    ("run", "--seeds <A..B>", "one run for each seed from A to B, both among them, and a last line of sums"),
+    ("run", "seeds N frames F delivered D packets P bad B", "behind the lines of all N runs: the sums of their last lines"),
     ("modes", "--rate <R>", "also as 27.5M, 27.5e6 or 27500k: adds the bits a second of the transport stream"),
     ("modes", "--modcod <M>", "as qpsk3/4 or 8PSK2/3: `s2 modes` lists them"),
     ("modes", "--short", "Frames of 16200 bits, and not of 64800"),
@@ -311,7 +338,7 @@ LINES = {
     "audit": f"audit {LINK} made empty empty empty",
 }
 # The commands that take --quiet.
-QUIET = [name for name in LINES if name != "scan"]
+QUIET = [name for name in LINES if name not in ("scan", "join", "audit")]
 
 
 def refused(word, name):
@@ -370,6 +397,8 @@ MISSING = [
     ("demod --modcod 1 /dev/null none none", "none"),
     *((f"{command} {option} none/file made packets old", "none/file") for command in RECEIVING for option in RECORDS),
     *((f"{command} {option} file none packets old", "none") for command in RECEIVING for option in RECORDS),
+    *((f"mod --modcod 1 {option} none/file made packets old", "none/file") for option in SENT),
+    *((f"mod --modcod 1 {option} file none packets old", "none") for option in SENT),
     ("scan none", "none"),
     ("join --modcod 1 none old", "none"),
     *((f"audit --modcod 1 {' '.join(files)}", "none") for files in itertools.permutations(["none", "made", "packets", "stored"])),
@@ -426,7 +455,8 @@ CASES = [
     ),
     *(Case(f"{name} --help", out=option("--progress", "a line that is rewritten once a second")) for name in SHOWING),
     *(Case(f"{name} --help", out=option("--strict", "or no frame was found in 90 symbols or more")) for name in STRICT),
-    *(taken("--quiet", name) for name in ENDED),
+    *(taken("--quiet", name) for name in ENDED if name in QUIET),
+    *(refused("--quiet", name) for name in LINES if name not in QUIET),
     *(taken(word, name) for name in SHOWING for word in ("--progress", "--quiet --progress")),
     *(taken(word, name) for name in STRICT for word in ("--strict", "--lock 40", "--tuned", "--tuned --uncertified", "--tuned --passes 0 --lock 12")),
     *(taken(word, name) for name in DECIDING for word in ("--uncertified", "--factor 8", "--uncertified --factor 16")),
@@ -434,6 +464,8 @@ CASES = [
     *(refused(word, name) for name in LINES if name not in STRICT for word in ("--strict", "--tuned")),
     *(refused("--uncertified", name) for name in LINES if name not in DECIDING),
     *(refused("--rate", name) for name in LINES if name != "modes"),
+    *(refused("--figures", name) for name in LINES if name not in STRICT),
+    *(refused("--each", name) for name in LINES if name not in ("judge", "check")),
     Case("--help", FAULT, to="/dev/full"),
     Case("check toy", FAULT, errors=NO_CERT),
     Case("join", FAULT, errors=NO_BBFRAMES),

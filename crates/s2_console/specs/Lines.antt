@@ -4,7 +4,7 @@ use Rattle.s2_console.specs.declared.line.TheConstants.{LINE_ROOM}
 
 -- the most bytes of a line
 abbrev pub line_room : ℕ
-line_room = 256
+line_room = 512
 
 -- the room that the code has is this
 abbrev pub LimitsLaw : Type 0

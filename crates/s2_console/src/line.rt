@@ -7,7 +7,7 @@ use itoa::{Buffer, Integer};
 use std::marker::Model;
 
 /// The most bytes of a line.
-pub const LINE_ROOM: usize = 256;
+pub const LINE_ROOM: usize = 512;
 
 /// A line in the making. Its value is its bytes. It takes no memory, so a command that has done its work can
 /// always report it.

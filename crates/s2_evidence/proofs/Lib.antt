@@ -8,3 +8,8 @@ pub mod PieceLemmas
 pub mod EachLemmas
 pub mod CheckEachLemmas
 pub mod ValueRange
+pub mod Spelling
+pub mod WordByWord
+pub mod FrameLemmas
+pub mod JudgeEachLemmas
+pub mod NoteLemmas

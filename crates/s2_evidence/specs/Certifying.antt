@@ -1,5 +1,5 @@
 -- What `judge` writes to its certificate's file, if there is one (own).
-use Rattle.std.specs.Prelude.{◌≡◌, ◌≢◌, ◌⊎◌, ℕ, ◌+◌, ℤ, Bool, List, Option, Some, None, Result, Ok, Err, OnErr}
+use Rattle.std.specs.Prelude.{◌≡◌, ◌≢◌, ◌⊎◌, ℕ, ◌+◌, ℤ, Bool, List, Option, Some, None, Result, Ok, Err, IfOk, OnErr}
 use Rattle.std.specs.Io.KnownBytes.{Appends}
 use Rattle.s2_mode.specs.Pieces.{AppendsPart}
 use Rattle.s2_mode.specs.Shape.{Shape}
@@ -11,9 +11,11 @@ use Rattle.s2_judge.specs.Deciding.{decided, IsShown}
 use Rattle.s2_console.specs.declared.exit.Exit.{Exit}
 use Rattle.s2_console.specs.declared.fault.Fault.{Fault}
 use Rattle.s2_console.specs.declared.fault.Fault.TheVariants as faults
-use Rattle.s2_console.specs.Exits.{exit_of, CommandRuns, CommandCounts, Complains}
+use Rattle.s2_console.specs.Exits.{CommandRuns, CommandCounts}
 use Rattle.s2_console.specs.Screens.{Screen}
+use Rattle.s2_evidence.specs.declared.hard_note.Ran.{Ran}
 use Rattle.s2_evidence.specs.Files.{Written, JudgeFiles}
+use Rattle.s2_evidence.specs.HardNotes.{exit_in, LooksHard, Concludes}
 use Rattle.s2_evidence.specs.Inputs.{AreInputsBy}
 use Rattle.s2_evidence.specs.Judging.{IsJudged}
 
@@ -62,12 +64,13 @@ pub record LeavesCertificate {T : Type 0} (tuning : Tuning) (IsInput : Result (R
   pub other : OnErr ended (ended ≢ Err faults.Write → new ≡ old)
 
 -- `judge` has ended. The verdict on its files' input is printed, and the certificate written before it. Only failed
--- calls were counted, and the line of a fault is on the errors
-abbrev pub JudgeExits : (hard : Bool) → Tuning → Shape → JudgeFiles → JudgeFiles → Screen → Screen → Exit → Type 0
-JudgeExits hard tuning shape files files_after old new exit =
-    (ended : Result Exit Fault) × (exit ≡ exit_of ended)
-    × CommandRuns (IsJudgedAndCertified tuning files.certificate files_after.certificate) (AreInputsBy hard shape files.rows files.soft) ended old.output new.output
-    × LeavesCertificate tuning (AreInputsBy hard shape files.rows files.soft) ended files.certificate files_after.certificate
-    × CommandCounts ended (files.rows_failed + files.soft_failed) (files_after.rows_failed + files_after.soft_failed)
+-- calls were counted, and the note or the line of a fault is on the errors
+abbrev pub JudgeExits : (hard quiet : Bool) → Tuning → Shape → JudgeFiles → JudgeFiles → Screen → Screen → Exit → Type 0
+JudgeExits hard quiet tuning shape files files_after old new exit =
+    (ran : Result Ran Fault)
+    × CommandRuns (IsJudgedAndCertified tuning files.certificate files_after.certificate) (AreInputsBy hard shape files.rows files.soft) (exit_in ran) old.output new.output
+    × IfOk ran (LooksHard (AreInputsBy hard shape files.rows files.soft))
+    × LeavesCertificate tuning (AreInputsBy hard shape files.rows files.soft) (exit_in ran) files.certificate files_after.certificate
+    × CommandCounts (exit_in ran) (files.rows_failed + files.soft_failed) (files_after.rows_failed + files_after.soft_failed)
     (files.certificate.failed + old.output_failed) (files_after.certificate.failed + new.output_failed)
-    × Complains ended old new
+    × Concludes hard quiet ran exit old new

@@ -8,3 +8,7 @@ pub mod Checking
 pub mod Pieces
 pub mod Each
 pub mod CheckingEach
+pub mod Frames
+pub mod Bytewise
+pub mod HardNotes
+pub mod JudgingEach

@@ -1,5 +1,5 @@
 //! The decision on soft values: its line, its exit and its certificate.
-ghost use Rattle.std.specs.Prelude.{◌≡◌, ◌≢◌, IsTrue, All, IfOk, OnOk, OnErr, length, true, false};
+ghost use Rattle.std.specs.Prelude.{◌≡◌, ◌≢◌, ℕ, List, IsTrue, All, IfOk, OnOk, OnErr, None, length, true, false};
 ghost use Rattle.s2_mode.specs.Counts.{CanCount, CountsFault};
 ghost use Rattle.s2_matrix.specs.Code.{code_of, IsCodeword};
 ghost use Rattle.s2_check.specs.Cost.{IsMostLikely};
@@ -7,12 +7,11 @@ ghost use Rattle.s2_check.specs.Strict.{IsSole};
 ghost use Rattle.s2_check.specs.Verdicts.{is_certified};
 ghost use Rattle.s2_check.specs.Views.{IsSoft};
 ghost use Rattle.s2_judge.specs.Deciding.{decided, IsShown};
-ghost use Rattle.s2_evidence.specs.Files.{written, CanBegin};
+ghost use Rattle.s2_evidence.specs.Files.{written};
 ghost use Rattle.s2_evidence.specs.Judging.{Says, SaysDecided, SaysOwn, IsJudged, own_verdict};
 ghost use Rattle.s2_evidence.specs.Certifying.{Writes, WritesPart, Wrote, WrotePart};
 
 use crate::lines::{broken_line, most_likely_line, parity_line, sole_line};
-use crate::reading::Judged;
 use s2_bits::Bits;
 use s2_check::{CertView, Verdict, cost};
 use s2_console::{Exit, Printed};
@@ -63,6 +62,7 @@ fn decision(matrix: &Matrix, judge: &mut Judge<'_>, soft: &[i16]) -> Printed
     ensures says { SaysDecided (decided matrix.now judge.old.tuning soft.now) matrix.now soft.now result.exit result.text }
     ensures certificate { judge.new.certificate ≡ (decided matrix.now judge.old.tuning soft.now).certificate }
     ensures shown { IsShown matrix.now soft.now (decided matrix.now judge.old.tuning soft.now) }
+    ensures same { (judge.new.rows ≡ judge.old.rows) × (judge.new.tuning ≡ judge.old.tuning) }
 {
     let verdict = judge.judge(soft);
     judgement(matrix, soft, judge.word(), verdict)
@@ -90,20 +90,34 @@ pub(crate) fn own_decision(matrix: &Matrix, judge: &mut Judge<'_>, soft: &[i16])
     judgement(matrix, soft, judge.word(), own_verdict(verdict))
 }
 
-/// Truncates a file, and writes a certificate, if there is one. If a write fails, a part of the certificate was
-/// written. If the file cannot be truncated, nothing is written.
+/// Truncates a file, unless it is begun.
+fn begin_file<C: Output>(file: &mut Destination<C>) -> Result<(), WriteFault>
+    requires count { CanCount (C.count file.old.to) }
+    ensures begun { file.new.begun ≡ true }
+    ensures kept { C.contents file.new.to ≡ C.contents file.old.to }
+    ensures cause { CountsFault (C.count file.old.to) (C.count file.new.to) result }
+    ensures once { OnErr result (file.old.begun ≡ false) }
+{
+    if file.is_begun() {
+        return Ok(());
+    }
+    file.truncate()
+}
+
+/// Truncates a file, unless it is begun, and writes a certificate, if there is one. If a write fails, a part of the
+/// certificate was written. If the file cannot be truncated, nothing is written.
 fn write_certificate<C: Output>(
     view: Option<CertView<'_>>,
     file: &mut Destination<C>,
 ) -> Result<(), WriteFault>
-    requires once { file.old.begun ≡ false }
     requires count { CanCount (C.count file.old.to) }
     ensures begun { file.new.begun ≡ true }
     ensures bytes { OnOk result (Writes view.entry (C.contents file.old.to) (C.contents file.new.to)) }
     ensures part { OnErr result (WritesPart view.entry (C.contents file.old.to) (C.contents file.new.to)) }
     ensures cause { CountsFault (C.count file.old.to) (C.count file.new.to) result }
+    ensures once { view.entry ≡ None → OnErr result (file.old.begun ≡ false) }
 {
-    file.truncate()?;
+    begin_file(file)?;
     match view {
         Some(view) => view.write(file.writer()),
         None => Ok(()),
@@ -111,13 +125,14 @@ fn write_certificate<C: Output>(
 }
 
 /// The same, if there is a file.
-fn certify<C: Output>(
+pub(crate) fn certify<C: Output>(
     view: Option<CertView<'_>>,
     certificate: &mut Option<Destination<C>>,
 ) -> Result<(), WriteFault>
-    requires { CanBegin (written C.contents C.count certificate.old) }
+    requires { CanCount (written C.contents C.count certificate.old).failed }
     ensures whole { OnOk result (Wrote view.entry (written C.contents C.count certificate.old) (written C.contents C.count certificate.new)) }
     ensures part { OnErr result (WrotePart view.entry (written C.contents C.count certificate.old) (written C.contents C.count certificate.new)) }
+    ensures once { view.entry ≡ None → OnErr result (((written C.contents C.count certificate.old).asked ≡ true) × ((written C.contents C.count certificate.old).begun ≡ false)) }
 {
     match (view, certificate) {
         (view, Some(file)) => write_certificate(view, file),
@@ -128,22 +143,25 @@ fn certify<C: Output>(
 
 /// A judge's decision. Its certificate, if there is one, is written to the file, if there is one.
 pub(crate) fn decide_by<C: Output>(
-    judged: &Judged,
+    matrix: &Matrix,
     judge: &mut Judge<'_>,
+    soft: &[i16],
     certificate: &mut Option<Destination<C>>,
 ) -> Result<Printed, WriteFault>
-    requires rows { judge.old.rows ≡ judged.now.matrix }
-    requires long { length judged.now.soft.items ≡ (code_of judged.now.matrix).bits }
-    requires range { All IsSoft judged.now.soft.items }
-    requires certificate { CanBegin (written C.contents C.count certificate.old) }
-    ensures says { IfOk result (λ p. IsJudged judge.old.tuning (judged.now.matrix, judged.now.soft.items) p.exit p.text) }
-    ensures shown { IsShown judged.now.matrix judged.now.soft.items (decided judged.now.matrix judge.old.tuning judged.now.soft.items) }
-    ensures whole { OnOk result (Wrote (decided judged.now.matrix judge.old.tuning judged.now.soft.items).certificate
+    requires rows { judge.old.rows ≡ matrix.now }
+    requires long { length soft.now ≡ (code_of matrix.now).bits }
+    requires range { All IsSoft soft.now }
+    requires certificate { CanCount (written C.contents C.count certificate.old).failed }
+    ensures same { (judge.new.rows ≡ judge.old.rows) × (judge.new.tuning ≡ judge.old.tuning) }
+    ensures says { IfOk result (λ p. IsJudged judge.old.tuning (matrix.now, soft.now) p.exit p.text) }
+    ensures said { (exit : Exit) × (text : List ℕ) × IsJudged judge.old.tuning (matrix.now, soft.now) exit text }
+    ensures shown { IsShown matrix.now soft.now (decided matrix.now judge.old.tuning soft.now) }
+    ensures whole { OnOk result (Wrote (decided matrix.now judge.old.tuning soft.now).certificate
         (written C.contents C.count certificate.old) (written C.contents C.count certificate.new)) }
-    ensures part { OnErr result (WrotePart (decided judged.now.matrix judge.old.tuning judged.now.soft.items).certificate
+    ensures part { OnErr result (WrotePart (decided matrix.now judge.old.tuning soft.now).certificate
         (written C.contents C.count certificate.old) (written C.contents C.count certificate.new)) }
 {
-    let printed = decision(&judged.matrix, judge, &judged.soft);
+    let printed = decision(matrix, judge, soft);
     certify(judge.certificate(), certificate)?;
     Ok(printed)
 }

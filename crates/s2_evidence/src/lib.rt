@@ -1,11 +1,14 @@
 //! The commands `judge` and `check`, over any readers and writers.
 //!
 //! [`judge_command`] reads a row file and a value file, which has soft values or hard decisions, and prints the verdict
-//! on the bits that a receiver decides. It writes their certificate, if there is a file for it. [`check_command`] reads
-//! a row file and a certificate, and prints the checker's result. [`check_each_command`] does so for each certificate
-//! of a file, one after another. The exit is that of the verdict or of the result. If a file is refused, a reader or a
-//! writer fails, or memory runs out, one line on the errors reports it. Only failed calls are counted. The
-//! certificate's file is begun after the input was accepted, if there is memory to judge it; otherwise it is unchanged.
+//! on the bits that a receiver decides. It writes their certificate, if there is a file for it. [`judge_each_command`]
+//! does so for each frame of a value file, one after another, in the memory of one. [`check_command`] reads a row file
+//! and a certificate, and prints the checker's result. [`check_each_command`] does so for each certificate of a file.
+//!
+//! The exit is that of the verdict or of the result. If a file is refused, a reader or a writer fails, or memory runs
+//! out, one line on the errors reports it. Only failed calls are counted. The certificate's file is begun after the
+//! input or its first frame was accepted, if there is memory to judge it; otherwise it is unchanged. If soft values look
+//! like hard decisions, a note on the errors says so.
 //!
 //! [`self_command`] judges its input under the toy rows, and prints most likely also if the bits are sole. The files of
 //! `judge` are one value ([`JudgeFiles`]). [`read_matrix`] reads rows for other commands too.
@@ -14,7 +17,7 @@
 //!
 //! ```text
 //! let mut files = JudgeFiles { rows, soft, certificate: Some(Destination::new(file)) };
-//! let exit = judge_command(alloc, shape, false, Tuning::new(50, 0)?, &mut files, &mut console);
+//! let exit = judge_command(alloc, shape, false, false, Tuning::new(50, 0)?, &mut files, &mut console);
 //! ```
 #![tactic(auto)]
 
@@ -22,17 +25,25 @@ mod check;
 mod check_each;
 mod decision;
 mod files;
+mod frames;
 mod hard;
+mod hard_note;
 mod judge;
+mod judge_each;
 mod lines;
 mod next;
 mod own;
 mod reading;
 mod sizes;
+mod words;
 
 pub use check::check_command;
 pub use check_each::check_each_command;
 pub use files::JudgeFiles;
 pub use judge::judge_command;
+pub use judge_each::judge_each_command;
 pub use own::{TOY_ROWS, self_command};
 pub use reading::{MAX_BYTES, read_matrix};
+
+#[cfg(test)]
+mod tests;

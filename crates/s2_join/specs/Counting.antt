@@ -47,10 +47,23 @@ counted counts frame =
 abbrev pub summary_of : Mode → List ℕ → Summary
 summary_of m bytes = record { counts = counts_of m (frames_in m bytes); cut = cut_in m bytes }
 
--- these counts among the totals of a report; a join knows no symbols
+-- these counts among the totals of a report; a join knows no symbols, and has no figures
 abbrev pub totals_of : Counts → Totals
 totals_of counts =
-    record { frames = counts.frames; delivered = counts.delivered; packets = counts.packets; bad = counts.bad; incomplete = 0; cut = false; skipped = 0; places = 0; first = 0 }
+    record {
+      frames = counts.frames;
+      delivered = counts.delivered;
+      packets = counts.packets;
+      bad = counts.bad;
+      incomplete = 0;
+      cut = false;
+      skipped = 0;
+      places = 0;
+      first = 0;
+      refused = 0;
+      energy = 0;
+      sums = None;
+    }
 
 -- cut at BYTE bytes COUNT
 unfoldable pub cut_line : ℕ → ℕ → List ℕ

@@ -1,6 +1,7 @@
 -- The ways in which is decided, and what holds of what is decided.
 use Rattle.std.proofs.Common.{◌≡◌, ◌↔◌, IsTrue, ℕ, zero, suc, ◌+◌, ◌%◌, ◌==◌, ◌<◌, ◌≤◌, eq-eqb, eqb-true, Bool, true, false, cond, List, [], ◌∷◌, length, map, get_or, ℤ, pos, int_lt, ◌≤ℤ◌, Option, None, Some, inl, inr, refl, sym, ap, subst, ◌∙◌, arith}
 use Rattle.std.specs.List.{find, range_with_len}
+use Rattle.std.specs.Option.{unwrap_or}
 use Rattle.std.proofs.lemmas.Bool.{cases_Bool, both_ways, false_from_ne_true}
 use Rattle.std.proofs.lemmas.Int.{ints}
 use Rattle.std.proofs.lemmas.List.FromFn.{length-range_with_len, get_or-range_with_len, length-map-range_with_len}
@@ -16,7 +17,7 @@ use Rattle.s2_check.specs.Checking.{split_in}
 use Rattle.s2_check.specs.Strict.{AreStrict}
 use Rattle.s2_check.specs.Verdicts.{is_certified}
 use Rattle.s2_split.specs.Scattered.{repaired}
-use Rattle.s2_judge.specs.Deciding.{Decided, is_strict, verdict_by, certified, satisfies, decoded_bits, first_codeword, without_certificate, with_made, min_sum_view, by_min_sum, repair_view, by_repair, decided, view_for}
+use Rattle.s2_judge.specs.Deciding.{Decided, is_strict, verdict_by, certified, satisfies, decoded_bits, first_codeword, without_certificate, with_made, min_sum_view, by_min_sum, repair_view, by_repair, decided, view_for, rounds_by, rounds_run}
 use Rattle.s2_link.specs.Tuning.{Tuning}
 
 -- ---- the test of every check
@@ -95,6 +96,19 @@ pub first_later : (r : Rows) (factor : ℕ) (soft : List ℤ) (a n : ℕ) → sa
 first_later r factor soft a n e =
     ap (λ b. cond b (Some (decoded_bits r factor soft (a + 1))) (first_from r factor soft (a + 1) n)) e
 
+-- the first round from a + 1 on after which every check is satisfied, or all rounds
+abbrev pub until_from : Rows → ℕ → List ℤ → ℕ → ℕ → ℕ → ℕ
+until_from r factor soft rounds a n =
+    unwrap_or (find (λ k. satisfies (code_of r) (decoded_bits r factor soft k)) (range_with_len (a + 1) n)) rounds
+
+pub until_now : (r : Rows) (factor : ℕ) (soft : List ℤ) (rounds a n : ℕ) → satisfies (code_of r) (decoded_bits r factor soft (a + 1)) ≡ true → until_from r factor soft rounds a (suc n) ≡ a + 1
+until_now r factor soft rounds a n e =
+    ap (λ b. unwrap_or (cond b (Some (a + 1)) (find (λ k. satisfies (code_of r) (decoded_bits r factor soft k)) (range_with_len (a + 1 + 1) n))) rounds) e
+
+pub until_later : (r : Rows) (factor : ℕ) (soft : List ℤ) (rounds a n : ℕ) → satisfies (code_of r) (decoded_bits r factor soft (a + 1)) ≡ false → until_from r factor soft rounds a (suc n) ≡ until_from r factor soft rounds (a + 1) n
+until_later r factor soft rounds a n e =
+    ap (λ b. unwrap_or (cond b (Some (a + 1)) (find (λ k. satisfies (code_of r) (decoded_bits r factor soft k)) (range_with_len (a + 1 + 1) n))) rounds) e
+
 pub length-decoded : (r : Rows) (factor : ℕ) (soft : List ℤ) (k : ℕ) → length (decoded_bits r factor soft k) ≡ (code_of r).bits
 unfolding decoded_bits
 length-decoded r factor soft k = length-map-range_with_len _ 0 (code_of r).bits
@@ -126,6 +140,15 @@ module _ (r : Rows) (tuning : Tuning) (soft : List ℤ) where
   unfolding decided
   not_hard e =
       ap (λ b. cond b (certified r (hard_decision soft) (unsplit_view r soft (hard_decision soft))) (by_repair r tuning soft (repair_view r tuning.passes soft))) e
+
+  -- no rounds are run
+  pub rounds_hard : satisfies (code_of r) (hard_decision soft) ≡ true → rounds_run r tuning soft ≡ 0
+  unfolding rounds_run
+  rounds_hard e = ap (λ b. cond b 0 (rounds_by r tuning soft (repair_view r tuning.passes soft))) e
+
+  pub rounds_later : satisfies (code_of r) (hard_decision soft) ≡ false → rounds_run r tuning soft ≡ rounds_by r tuning soft (repair_view r tuning.passes soft)
+  unfolding rounds_run
+  rounds_later e = ap (λ b. cond b 0 (rounds_by r tuning soft (repair_view r tuning.passes soft))) e
 
   pub repair_made : satisfies (code_of r) (repaired (code_of r) soft) ≡ true → repair_view r tuning.passes soft ≡ view_for r tuning.passes soft (repaired (code_of r) soft)
   repair_made e = ap (λ b. cond b (view_for r tuning.passes soft (repaired (code_of r) soft)) None) e

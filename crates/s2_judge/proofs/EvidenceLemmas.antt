@@ -17,10 +17,10 @@ use Rattle.s2_minsum.specs.Decoding.{AreWithin, Decoding, decoded}
 use Rattle.s2_link.specs.Tuning.{Tuning}
 use Rattle.s2_judge.specs.declared.evidence.Evidence.{Evidence}
 use Rattle.s2_judge.specs.declared.evidence.Evidence.TheVariants.{HardDecision, Found, Checks, Nothing}
-use Rattle.s2_judge.specs.Deciding.{Decided, is_strict, verdict_by, certified, uncertified, satisfies, after_rounds, decoded_bits, first_codeword, with_made, by_min_sum, repair_view, by_repair, decided, min_sum_view}
+use Rattle.s2_judge.specs.Deciding.{Decided, is_strict, verdict_by, certified, uncertified, satisfies, after_rounds, decoded_bits, first_codeword, with_made, by_min_sum, repair_view, by_repair, decided, min_sum_view, rounds_until, rounds_by, rounds_run}
 use Rattle.s2_judge.specs.Judging.{shown_by, verdict_of, view_by}
 use Rattle.s2_settle.proofs.StrictTests.{strict_is}
-use Rattle.s2_judge.proofs.Decisions.{by_hard, not_hard}
+use Rattle.s2_judge.proofs.Decisions.{by_hard, not_hard, rounds_later}
 
 -- ---- rounds
 
@@ -79,6 +79,16 @@ step_two r tuning soft bits rep found strict odd rep_is same some view is =
 pub past_two : (r : Rows) (tuning : Tuning) (soft : List ℤ) → satisfies (code_of r) (hard_decision soft) ≡ false → repair_view r tuning.passes soft ≡ None → decided r tuning soft ≡ by_min_sum r tuning soft (first_codeword r tuning.factor tuning.rounds soft)
 past_two r tuning soft odd none =
     not_hard r tuning soft odd ∙ ap (by_repair r tuning soft) none
+
+-- the rounds that are run with a certificate for the repair, and without one
+pub rounds_two : (r : Rows) (tuning : Tuning) (soft : List ℤ) (rep : List Bool) (found : Option Shared) → satisfies (code_of r) (hard_decision soft) ≡ false → found ≢ None → repair_view r tuning.passes soft ≡ shared_views r soft rep found → rounds_run r tuning soft ≡ 0
+rounds_two r tuning soft rep (Some s) odd some view =
+    rounds_later r tuning soft odd ∙ ap (rounds_by r tuning soft) view
+rounds_two r tuning soft rep None odd some view = absurd (some refl)
+
+pub rounds_past : (r q : Rows) (tuning : Tuning) (soft : List ℤ) → satisfies (code_of r) (hard_decision soft) ≡ false → repair_view r tuning.passes soft ≡ None → q ≡ r → rounds_run r tuning soft ≡ rounds_until q tuning.factor tuning.rounds soft
+rounds_past r q tuning soft odd none rows =
+    rounds_later r tuning soft odd ∙ ap (rounds_by r tuning soft) none ∙ sym (ap (λ (q : Rows). rounds_until q tuning.factor tuning.rounds soft) rows)
 
 -- over the same rows
 pub by_same : (r q : Rows) (tuning : Tuning) (soft : List ℤ) (bits : List Bool) (found : Option Shared) (evidence : Evidence) → q ≡ r → by_min_sum q tuning soft (first_codeword q tuning.factor tuning.rounds soft) ≡ shown_by q soft bits found evidence → by_min_sum r tuning soft (first_codeword r tuning.factor tuning.rounds soft) ≡ shown_by r soft bits found evidence

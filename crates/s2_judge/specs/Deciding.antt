@@ -1,7 +1,8 @@
 -- What the receiver decides on the soft values of one frame (own): the bits, a verdict on them, and a certificate where
 -- they are shown to be sole or most likely. The first of four steps that succeeds decides.
 use Rattle.std.specs.Prelude.{◌≡◌, ◌≢◌, ℕ, ◌+◌, ◌%◌, ◌==◌, ◌≤◌, ◌↔◌, IsTrue, Bool, if◌then◌else◌, List, length, map, fold, ℤ, pos, int_lt, Option, None, Some, IfSome}
-use Rattle.std.specs.List.{list_all, find}
+use Rattle.std.specs.List.{list_all, find, range_with_len}
+use Rattle.std.specs.Option.{unwrap_or}
 use Rattle.s2_rows.specs.Rows.{Rows}
 use Rattle.s2_matrix.specs.Total.{upto}
 use Rattle.s2_matrix.specs.Code.{Code, code_of, ones_in, IsCodeword}
@@ -115,6 +116,23 @@ by_repair r tuning soft None = by_min_sum r tuning soft (first_codeword r tuning
 unfoldable pub decided : Rows → Tuning → List ℤ → Decided
 decided r tuning soft =
     if satisfies (code_of r) (hard_decision soft) then certified r (hard_decision soft) (unsplit_view r soft (hard_decision soft)) else by_repair r tuning soft (repair_view r tuning.passes soft)
+
+-- ---- rounds
+
+-- the rounds of min-sum until its hard decision satisfies every check, or all of them if it never does
+abbrev pub rounds_until : Rows → ℕ → ℕ → List ℤ → ℕ
+rounds_until r factor rounds soft =
+    unwrap_or (find (λ k. satisfies (code_of r) (decoded_bits r factor soft k)) (range_with_len 1 rounds)) rounds
+
+-- none if the repair has a certificate
+abbrev pub rounds_by : Rows → Tuning → List ℤ → Option View → ℕ
+rounds_by r tuning soft (Some view) = 0
+rounds_by r tuning soft None = rounds_until r tuning.factor tuning.rounds soft
+
+-- the rounds of min-sum that the decision runs: none if one of the first two steps decides
+unfoldable pub rounds_run : Rows → Tuning → List ℤ → ℕ
+rounds_run r tuning soft =
+    if satisfies (code_of r) (hard_decision soft) then 0 else rounds_by r tuning soft (repair_view r tuning.passes soft)
 
 -- ---- laws
 

@@ -1,5 +1,5 @@
 -- A judge's value, and the invariants of its parts (own).
-use Rattle.std.specs.Prelude.{◌≡◌, ◌≤◌, Bool, List, All, length, ℤ, Option, None, Some, IfSome}
+use Rattle.std.specs.Prelude.{◌≡◌, ◌≤◌, ℕ, Bool, List, All, length, ℤ, Option, None, Some, IfSome}
 use Rattle.s2_rows.specs.Rows.{Rows}
 use Rattle.s2_matrix.specs.Code.{code_of}
 use Rattle.s2_check.specs.Views.{View, IsSoft, unsplit_view}
@@ -13,13 +13,15 @@ use Rattle.s2_judge.specs.declared.evidence.Evidence.TheVariants.{HardDecision, 
 use Rattle.s2_judge.specs.Deciding.{Decided, verdict_by}
 use Rattle.s2_judge.specs.Certifying.{Certifying}
 
--- the rows of its matrix, its tuning, its soft values, the bits that were last decided, and their certificate
+-- the rows of its matrix, its tuning, its soft values, the bits that were last decided, their certificate, and the
+-- rounds of min-sum that this took
 pub record Judging : Type 0 where
   pub rows : Rows
   pub tuning : Tuning
   pub soft : List ℤ
   pub bits : List Bool
   pub certificate : Option View
+  pub rounds : ℕ
 
 -- the verdict on some evidence
 abbrev pub verdict_of : Evidence → Verdict

@@ -14,6 +14,7 @@ with_soft j written = record {
   soft = refill (length j.soft) j.soft written;
   bits = j.bits;
   certificate = None;
+  rounds = j.rounds;
 }
 
 -- the judge then has the values that the borrower left in the slice

@@ -8,7 +8,7 @@ ghost use Rattle.s2_check.specs.Strict.{IsSole};
 ghost use Rattle.s2_check.specs.Verdicts.{is_certified};
 ghost use Rattle.s2_check.specs.Views.{IsSoft};
 ghost use Rattle.s2_split.specs.Scattered.{IsScattered};
-ghost use Rattle.s2_judge.specs.Deciding.{decided, IsShown};
+ghost use Rattle.s2_judge.specs.Deciding.{decided, rounds_run, IsShown};
 ghost use Rattle.s2_judge.specs.Lending.{LendsSoft};
 
 use crate::certifier::Certifier;
@@ -37,8 +37,8 @@ use std::marker::Model;
 /// no certificate of min-sum's codeword if the tuning leaves these uncertified. If a certificate is strict, the verdict
 /// is sole instead of most likely: every other codeword costs more. In step 1 it is strict if no soft value is 0.
 ///
-/// In contracts a judge is its matrix's rows, its tuning, its soft values, the bits that were last decided, and their
-/// certificate.
+/// In contracts a judge is its matrix's rows, its tuning, its soft values, the bits that were last decided, their
+/// certificate, and the rounds of min-sum that were run for them.
 pub struct Judge<'a> {
     tuning: Tuning,
     certifier: Certifier<'a>,
@@ -47,6 +47,7 @@ pub struct Judge<'a> {
     repair: Bits,
     bits: Bits,
     evidence: Evidence,
+    rounds: u32,
 }
 
 impl<'a> Drop for Judge<'a> {
@@ -59,6 +60,7 @@ impl<'a> Drop for Judge<'a> {
             repair: _,
             bits: _,
             evidence: _,
+            rounds: _,
         } = self;
     }
 }
@@ -74,6 +76,7 @@ impl<'a> Model for Judge<'a> {
       soft = j.soft.items;
       bits = j.bits;
       certificate = view_by j.certifier.rows j.soft.items j.bits j.certifier.found j.evidence;
+      rounds = j.rounds;
     } };
 
     ghost invariant = { λ j. IsJudge j.tuning j.certifier j.decoder j.soft.items j.repair j.bits j.evidence };
@@ -87,6 +90,7 @@ impl<'a> Judge<'a> {
         ensures soft { IfOk result (λ j. j.soft ≡ replicate (code_of matrix.now).bits (pos 0)) }
         ensures bits { IfOk result (λ j. j.bits ≡ replicate (code_of matrix.now).bits false) }
         ensures none { IfOk result (λ j. j.certificate ≡ None) }
+        ensures rounds { IfOk result (λ j. j.rounds ≡ 0) }
     {
         // its postcondition on the rounds is part of a judge's invariant
         let _rounds = tuning.rounds();
@@ -104,6 +108,7 @@ impl<'a> Judge<'a> {
             repair,
             bits,
             evidence: Evidence::Nothing,
+            rounds: 0,
         })
     }
 
@@ -136,6 +141,7 @@ impl<'a> Judge<'a> {
         ensures verdict { result ≡ (decided self.old.rows self.old.tuning self.old.soft).verdict }
         ensures bits { self.new.bits ≡ (decided self.old.rows self.old.tuning self.old.soft).bits }
         ensures certificate { self.new.certificate ≡ (decided self.old.rows self.old.tuning self.old.soft).certificate }
+        ensures rounds { self.new.rounds ≡ rounds_run self.old.rows self.old.tuning self.old.soft }
         ensures likely { IsTrue (is_certified result)
             → IsMostLikely (code_of self.old.rows) self.old.soft self.new.bits }
         ensures sole { result ≡ Verdict.Sole → IsSole (code_of self.old.rows) self.old.soft self.new.bits }
@@ -148,7 +154,7 @@ impl<'a> Judge<'a> {
         ensures clean { IsCodeword (code_of self.old.rows) (hard_decision self.old.soft) → IsTrue (is_certified result)
             × (self.new.bits ≡ hard_decision self.old.soft) × ((result ≡ Verdict.Sole) ↔ NoneIsZero self.old.soft) }
     {
-        self.evidence = decide_by_steps(
+        let (evidence, rounds) = decide_by_steps(
             &mut self.certifier,
             &mut self.decoder,
             &self.soft,
@@ -156,6 +162,8 @@ impl<'a> Judge<'a> {
             &mut self.repair,
             &mut self.bits,
         );
+        self.evidence = evidence;
+        self.rounds = rounds;
         self.evidence.verdict()
     }
 
@@ -170,6 +178,7 @@ impl<'a> Judge<'a> {
         ensures verdict { result ≡ (decided self.old.rows self.old.tuning soft.now).verdict }
         ensures bits { self.new.bits ≡ (decided self.old.rows self.old.tuning soft.now).bits }
         ensures certificate { self.new.certificate ≡ (decided self.old.rows self.old.tuning soft.now).certificate }
+        ensures rounds { self.new.rounds ≡ rounds_run self.old.rows self.old.tuning soft.now }
         ensures likely { IsTrue (is_certified result) → IsMostLikely (code_of self.old.rows) soft.now self.new.bits }
         ensures sole { result ≡ Verdict.Sole → IsSole (code_of self.old.rows) soft.now self.new.bits }
         ensures certified { IsShown self.old.rows soft.now
@@ -207,5 +216,13 @@ impl<'a> Judge<'a> {
             Evidence::Found(_) => self.certifier.held(&self.soft, &self.bits),
             Evidence::Checks | Evidence::Nothing => None,
         }
+    }
+
+    /// The rounds of min-sum that the last decision ran: 0 before the first one, and if the hard decision or its repair
+    /// was decided without min-sum.
+    pub fn rounds(&self) -> u32
+        ensures { result ≡ self.now.rounds }
+    {
+        self.rounds
     }
 }

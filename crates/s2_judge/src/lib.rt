@@ -6,7 +6,7 @@
 //! the address rows, the tuning and the soft values, whatever was decided before. Bits that are called sole or
 //! most likely satisfy every check, and no bits that satisfy every check cost less. If they are called sole, all others
 //! cost more. These bits, and only these, have a certificate, and the checker accepts it. Bits that are not called
-//! broken are a codeword, and broken ones are not ([`laws`]).
+//! broken are a codeword, and broken ones are not ([`laws`]). It also says how many rounds of min-sum it ran.
 //!
 //! In the literature, soft values are quantized LLRs, rounds are iterations of min-sum, and a certificate is an ML
 //! certificate.

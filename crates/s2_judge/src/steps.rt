@@ -7,7 +7,7 @@ ghost use Rattle.s2_check.specs.Hard.{hard_decision};
 ghost use Rattle.s2_check.specs.Views.{IsSoft};
 ghost use Rattle.s2_split.specs.Making.{shared_view, shared_views};
 ghost use Rattle.s2_split.specs.Scattered.{repaired};
-ghost use Rattle.s2_judge.specs.Deciding.{is_strict, satisfies, decoded_bits, first_codeword, repair_view, by_min_sum, decided};
+ghost use Rattle.s2_judge.specs.Deciding.{is_strict, satisfies, decoded_bits, first_codeword, repair_view, by_min_sum, decided, rounds_until, rounds_run};
 ghost use Rattle.s2_judge.specs.Judging.{shown_by, IsEvidence};
 
 use crate::certifier::Certifier;
@@ -71,7 +71,7 @@ fn is_decoded(matrix: &Matrix, decoder: &Decoder<'_>, bits: &mut Bits) -> bool
 }
 
 /// Runs at most `rounds` rounds of min-sum with a factor, until its hard decision satisfies every check. Returns
-/// whether it does. The bits are its last hard decision.
+/// whether it does, and how many rounds were run. The bits are its last hard decision.
 fn decode(
     matrix: &Matrix,
     decoder: &mut Decoder<'_>,
@@ -79,29 +79,31 @@ fn decode(
     rounds: u32,
     factor: Factor,
     bits: &mut Bits,
-) -> bool
+) -> (bool, u32)
     requires decoder { decoder.old.rows ≡ matrix.now }
     requires soft { length soft.now ≡ (code_of matrix.now).bits }
     requires range { All IsSoft soft.now }
     requires rounds { 1 ≤ rounds }
     requires bits { length bits.old ≡ (code_of matrix.now).bits }
     ensures rows { decoder.new.rows ≡ matrix.now }
-    ensures first { first_codeword matrix.now factor rounds soft.now ≡ (if result then Some bits.new else None) }
-    ensures last { result ≡ false → bits.new ≡ decoded_bits matrix.now factor soft.now rounds }
+    ensures first { first_codeword matrix.now factor rounds soft.now ≡ (if result.0 then Some bits.new else None) }
+    ensures last { result.0 ≡ false → bits.new ≡ decoded_bits matrix.now factor soft.now rounds }
+    ensures rounds { rounds_until matrix.now factor rounds soft.now ≡ result.1 }
     ensures long { length bits.new ≡ (code_of matrix.now).bits }
 {
     decoder.load(soft);
     'decoding: for round in 0..rounds {
         decoder.round(factor);
         if is_decoded(matrix, decoder, bits) {
-            return true;
+            return (true, round + 1);
         }
     }
     decoder.hard_into(bits);
-    false
+    (false, rounds)
 }
 
-/// Steps 3 and 4, if there is no certificate for the repair. `is_even`: the repair satisfies every check.
+/// Steps 3 and 4, if there is no certificate for the repair. `is_even`: the repair satisfies every check. Returns the
+/// evidence, and how many rounds of min-sum were run.
 fn decide_by_min_sum(
     certifier: &mut Certifier<'_>,
     decoder: &mut Decoder<'_>,
@@ -110,7 +112,7 @@ fn decide_by_min_sum(
     is_even: bool,
     repair: &Bits,
     bits: &mut Bits,
-) -> Evidence
+) -> (Evidence, u32)
     requires decoder { decoder.old.rows ≡ certifier.old.rows }
     requires soft { length soft.now ≡ (code_of certifier.old.rows).bits }
     requires range { All IsSoft soft.now }
@@ -122,27 +124,29 @@ fn decide_by_min_sum(
     ensures passes { certifier.new.passes ≡ certifier.old.passes }
     ensures decoder { decoder.new.rows ≡ certifier.old.rows }
     ensures long { length bits.new ≡ (code_of certifier.old.rows).bits }
-    ensures evidence { IsEvidence soft.now bits.new certifier.new result }
-    ensures decided { by_min_sum certifier.old.rows tuning soft.now (first_codeword certifier.old.rows tuning.factor tuning.rounds soft.now) ≡ shown_by certifier.old.rows soft.now bits.new certifier.new.found result }
+    ensures evidence { IsEvidence soft.now bits.new certifier.new result.0 }
+    ensures decided { by_min_sum certifier.old.rows tuning soft.now (first_codeword certifier.old.rows tuning.factor tuning.rounds soft.now) ≡ shown_by certifier.old.rows soft.now bits.new certifier.new.found result.0 }
+    ensures rounds { rounds_until certifier.old.rows tuning.factor tuning.rounds soft.now ≡ result.1 }
 {
     let (rounds, factor) = (tuning.rounds(), tuning.factor());
-    if decode(certifier.matrix(), decoder, soft, rounds, factor, bits) {
+    let (is_codeword, run) = decode(certifier.matrix(), decoder, soft, rounds, factor, bits);
+    if is_codeword {
         if tuning.is_uncertified() {
-            return Evidence::Checks;
+            return (Evidence::Checks, run);
         }
         if certifier.certify_decoded(soft, bits) {
-            return Evidence::Found(certifier.is_strict());
+            return (Evidence::Found(certifier.is_strict()), run);
         }
-        return Evidence::Checks;
+        return (Evidence::Checks, run);
     }
     if is_even {
         bits.copy_prefix(repair, repair.len());
-        return Evidence::Checks;
+        return (Evidence::Checks, run);
     }
-    Evidence::Nothing
+    (Evidence::Nothing, run)
 }
 
-/// The four steps. The first two are here.
+/// The four steps. The first two are here. Returns the evidence, and how many rounds of min-sum were run.
 pub(crate) fn decide_by_steps(
     certifier: &mut Certifier<'_>,
     decoder: &mut Decoder<'_>,
@@ -150,7 +154,7 @@ pub(crate) fn decide_by_steps(
     tuning: Tuning,
     repair: &mut Bits,
     bits: &mut Bits,
-) -> Evidence
+) -> (Evidence, u32)
     requires decoder { decoder.old.rows ≡ certifier.old.rows }
     requires soft { length soft.now ≡ (code_of certifier.old.rows).bits }
     requires range { All IsSoft soft.now }
@@ -162,16 +166,17 @@ pub(crate) fn decide_by_steps(
     ensures decoder { decoder.new.rows ≡ certifier.old.rows }
     ensures repair { length repair.new ≡ (code_of certifier.old.rows).bits }
     ensures long { length bits.new ≡ (code_of certifier.old.rows).bits }
-    ensures evidence { IsEvidence soft.now bits.new certifier.new result }
-    ensures decided { decided certifier.old.rows tuning soft.now ≡ shown_by certifier.old.rows soft.now bits.new certifier.new.found result }
+    ensures evidence { IsEvidence soft.now bits.new certifier.new result.0 }
+    ensures decided { decided certifier.old.rows tuning soft.now ≡ shown_by certifier.old.rows soft.now bits.new certifier.new.found result.0 }
+    ensures rounds { rounds_run certifier.old.rows tuning soft.now ≡ result.1 }
 {
     if judge_unsplit(certifier.matrix(), soft, bits) {
-        return Evidence::HardDecision(none_is_zero(soft));
+        return (Evidence::HardDecision(none_is_zero(soft)), 0);
     }
     let (is_certified, is_even) = try_repair(certifier, soft, bits, repair);
     if is_certified {
         bits.copy_prefix(repair, repair.len());
-        return Evidence::Found(certifier.is_strict());
+        return (Evidence::Found(certifier.is_strict()), 0);
     }
     decide_by_min_sum(certifier, decoder, soft, tuning, is_even, repair, bits)
 }

@@ -10,7 +10,8 @@ use Rattle.s2_link.specs.Limits.{max_rounds, max_passes}
 
 -- The parameters of a receiver: rounds of min-sum, passes of settling, the divisor of soft values, and the factor of
 -- min-sum's messages. Then the most bits of a header that may be wrong right after a frame, and whether what min-sum
--- finds stays uncertified. With no passes a certificate comes from greedy amounts and spreading
+-- finds stays uncertified. With no passes a certificate comes from greedy amounts and spreading. Last, whether there are
+-- figures of each frame
 pub record Tuning : Type 0 where
   pub rounds : ℕ
   pub passes : ℕ
@@ -18,11 +19,13 @@ pub record Tuning : Type 0 where
   pub factor : ℕ
   pub max_header_errors : ℕ
   pub uncertified : Bool
+  pub figures : Bool
 
--- these rounds and passes, and the default divisor, factor and limit of wrong header bits, with certificates
+-- these rounds and passes, and the default divisor, factor and limit of wrong header bits, with certificates and without
+-- figures
 abbrev pub tuning_of : ℕ → ℕ → Tuning
 tuning_of rounds passes =
-    record { rounds = rounds; passes = passes; divisor = default_divisor; factor = default_factor; max_header_errors = header_threshold; uncertified = false }
+    record { rounds = rounds; passes = passes; divisor = default_divisor; factor = default_factor; max_header_errors = header_threshold; uncertified = false; figures = false }
 
 -- At least one round of min-sum, and rounds and passes within their limits. A divisor, a factor and a limit of
 -- wrong header bits in their ranges. No passes if min-sum's words stay uncertified

@@ -7,7 +7,8 @@
 //!
 //! A [`Tuning`] has the parameters of a receiver: the rounds (iterations) of min-sum, the passes of settling, and the
 //! divisor of soft values (LLRs). It also has the factor of min-sum's messages, and how many bits of a header may be
-//! wrong right after a frame. Settling looks for a certificate by dual coordinate ascent, layer by layer.
+//! wrong right after a frame. Settling looks for a certificate by dual coordinate ascent, layer by layer. Figures of each
+//! frame are measured only if the tuning asks for them.
 //!
 //! ```text
 //! let link = Link::new(Setup { mode, number: 0, roll_off: 0 }, &matrix)?;

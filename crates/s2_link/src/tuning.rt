@@ -24,7 +24,8 @@ pub const MAX_PASSES: u32 = 1000;
 /// How a receiver is tuned: the rounds of min-sum, 1 to 200, the passes of settling, 0 to 1000, and the divisor of soft
 /// values. The factor of min-sum's messages is in sixteenths of the least magnitude. The lock is how many bits of a
 /// header may be wrong right after a frame. If it is uncertified, there are no passes, and no certificate is looked for
-/// when min-sum finds a codeword.
+/// when min-sum finds a codeword. With figures a receiver measures each frame that it decides; what it decides is
+/// unchanged.
 #[derive(Clone, Copy, Debug, PartialEq, Eq)]
 pub struct Tuning {
     rounds: u32,
@@ -33,6 +34,7 @@ pub struct Tuning {
     factor: Factor,
     max_header_errors: Lock,
     uncertified: bool,
+    figures: bool,
 }
 
 impl Model for Tuning {
@@ -47,6 +49,7 @@ impl Model for Tuning {
       factor = t.factor;
       max_header_errors = t.max_header_errors;
       uncertified = t.uncertified;
+      figures = t.figures;
     } };
 
     ghost invariant = { λ t. IsTuning (record {
@@ -56,6 +59,7 @@ impl Model for Tuning {
       factor = t.factor;
       max_header_errors = t.max_header_errors;
       uncertified = t.uncertified;
+      figures = t.figures;
     }) };
 
     ghost inverse = { λ v. record {
@@ -65,13 +69,14 @@ impl Model for Tuning {
       factor = v.factor;
       max_header_errors = v.max_header_errors;
       uncertified = v.uncertified;
+      figures = v.figures;
     } };
 }
 
 impl Tuning {
     /// These rounds and passes, the usual divisor, 4096, and the usual factor, 12. At most 12 bits of a header may be
-    /// wrong right after a frame. Certificates are looked for. If there are two refusals, it returns the first:
-    /// `BadRounds` if the rounds are not 1 to 200, `BadPasses` if the passes are over 1000.
+    /// wrong right after a frame. Certificates are looked for, and there are no figures. If there are two refusals, it
+    /// returns the first: `BadRounds` if the rounds are not 1 to 200, `BadPasses` if the passes are over 1000.
     pub fn new(rounds: u32, passes: u32) -> Result<Tuning, SetupFault>
         ensures is { IfOk result (λ t. t ≡ tuning_of rounds passes) }
         ensures tuned { IfOk result (λ _. IsTuning (tuning_of rounds passes)) }
@@ -90,6 +95,7 @@ impl Tuning {
             factor: Factor::usual(),
             max_header_errors: Lock::usual(),
             uncertified: false,
+            figures: false,
         })
     }
 
@@ -104,6 +110,7 @@ impl Tuning {
             factor: self.factor,
             max_header_errors: self.max_header_errors,
             uncertified: self.uncertified,
+            figures: self.figures,
         }
     }
 
@@ -118,6 +125,7 @@ impl Tuning {
             factor,
             max_header_errors: self.max_header_errors,
             uncertified: self.uncertified,
+            figures: self.figures,
         }
     }
 
@@ -132,6 +140,7 @@ impl Tuning {
             factor: self.factor,
             max_header_errors,
             uncertified: self.uncertified,
+            figures: self.figures,
         }
     }
 
@@ -146,6 +155,22 @@ impl Tuning {
             factor: self.factor,
             max_header_errors: self.max_header_errors,
             uncertified: true,
+            figures: self.figures,
+        }
+    }
+
+    /// The same, but with figures of each frame.
+    pub fn with_figures(self) -> Tuning
+        ensures { result ≡ record self { figures = true } }
+    {
+        Tuning {
+            rounds: self.rounds,
+            passes: self.passes,
+            divisor: self.divisor,
+            factor: self.factor,
+            max_header_errors: self.max_header_errors,
+            uncertified: self.uncertified,
+            figures: true,
         }
     }
 
@@ -201,5 +226,12 @@ impl Tuning {
         ensures { result ≡ self.uncertified }
     {
         self.uncertified
+    }
+
+    /// Whether figures of each frame are wanted.
+    pub fn has_figures(self) -> bool
+        ensures { result ≡ self.figures }
+    {
+        self.figures
     }
 }

@@ -332,6 +332,19 @@ pub(crate) fn hear_locked(
     }
 }
 
+/// The results of five calls of a new receiver with figures, on symbols in memory.
+pub(crate) fn hear_figured(alloc: Global, link: &Sides, symbols: &[u8]) -> Result<Heard, Fail> {
+    match receiver_tuned(alloc, link, Tuning::new(ROUNDS, 0)?.with_figures()) {
+        Ok(mut receiver) => Ok(heard_by(
+            alloc,
+            &mut receiver,
+            Source::Slice(symbols),
+            [ALL, ALL, ALL],
+        )),
+        Err(fault) => Err(fault),
+    }
+}
+
 /// The values that a receiver returns for a frame.
 pub(crate) struct Shown {
     pub(crate) soft: Vec<i16>,

@@ -439,6 +439,7 @@ fn told() -> Steps {
         at: 0,
         verdict: Verdict::Sole,
         outcome: Outcome::BadHeader(HeaderFault::BadLengths),
+        figures: None,
     });
     let end = Ok(Step::End);
     [Ok(lost), Ok(frame(2, 8190)), end, end, end]

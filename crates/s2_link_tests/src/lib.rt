@@ -9,6 +9,8 @@ mod divisor_tests;
 #[cfg(test)]
 mod dummy_tests;
 #[cfg(test)]
+mod figures_tests;
+#[cfg(test)]
 mod hearing;
 #[cfg(test)]
 mod hostile_tests;

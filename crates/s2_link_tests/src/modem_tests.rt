@@ -24,6 +24,7 @@ pub(crate) fn frame(number: u64, at: u64) -> Step {
         at,
         verdict: Verdict::Sole,
         outcome: Outcome::Delivered { fixed: 0 },
+        figures: None,
     })
 }
 
@@ -36,7 +37,7 @@ fn one_packet_arrives(rt: HostRuntime) -> Result<(), Fail> {
     Ok(())
 }
 
-/// The totals of this number of frames with a packet each.
+/// The totals of this number of frames without noise, with a packet each. A symbol has 2 * 700 * 700.
 fn totals(frames: u64, cut: bool) -> Totals {
     Totals {
         frames,
@@ -48,6 +49,9 @@ fn totals(frames: u64, cut: bool) -> Totals {
         skipped: 0,
         places: 0,
         first: 0,
+        refused: 0,
+        energy: frames.wrapping_mul(90 * 980_000),
+        sums: None,
     }
 }
 

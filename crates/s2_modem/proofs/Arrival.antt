@@ -1,9 +1,10 @@
 -- What is sent arrives.
-use Rattle.s2_modem.proofs.Names.{⊤, nat_eq, if◌then◌else◌, ◌≡◌, ℕ, ◌+◌, ◌*◌, IsTrue, Bool, true, false, List, [], ◌∷◌, ◌++◌, All, Option, Some, None, length, refl, sym, ap, ap₂, ◌∙◌, subst, append_assoc, append-nil, length-append, arith, All-nil, All-cons, Appends, Consumes, IsAtEnd, Mode, IsMode, HasCodeSizes, symbols_of, symbol_bytes, bytes_of_symbols, Symbol, field_bytes, stream_of, fields_of, dummy_frame, Link, sent_behind, Transmitter, is_due, AreUnits, Met, frame, ended, no_gap, met_from, Meets, Rules, State, Standing, at_start, with_gap, begun, left_in, left_known, after, after_all, all_packets, all_lines, frame_line, end_line, Piece, coded, dummy, joined, stream_symbols, SpellSymbols, AreReceived, frames_at, SkippedNone, Report, Totals, Verdict, is_certified, Delivered, Outcome, gives, after-append, packets-append, lines-append, symbols-append, AreBytes, ReceivesAll, certified_lines, run_places, totals_of, sent_symbols, places_in, max_symbols, ArrivalLaw, link_rules}
+use Rattle.s2_modem.proofs.Names.{⊤, nat_eq, if◌then◌else◌, ◌≡◌, ℕ, ◌+◌, ◌*◌, IsTrue, Bool, true, false, List, [], ◌∷◌, ◌++◌, All, Option, Some, None, length, refl, sym, ap, ap₂, ◌∙◌, subst, append_assoc, append-nil, length-append, arith, All-nil, All-cons, Appends, Consumes, IsAtEnd, Mode, IsMode, HasCodeSizes, symbols_of, symbol_bytes, bytes_of_symbols, Symbol, field_bytes, stream_of, fields_of, dummy_frame, Link, sent_behind, Transmitter, is_due, AreUnits, Met, frame, ended, no_gap, met_from, Meets, Rules, State, Standing, at_start, with_gap, begun, left_in, left_known, after, after_all, all_packets, all_lines, frame_line, end_line, Piece, coded, dummy, joined, stream_symbols, SpellSymbols, AreReceived, frames_at, SkippedNone, Report, Totals, Verdict, is_certified, Delivered, Outcome, gives, after-append, packets-append, lines-append, symbols-append, AreBytes, ReceivesAll, certified_lines, run_places, totals_of, sent_symbols, places_in, max_symbols, ArrivalLaw, link_rules, FramePlace, Figures, IsCodeword, code_of, zero, suc, saturated, sums_after, refused_in, energy_over, sums_over, clean_energy, clean_figures_by}
 use Rattle.s2_modem.proofs.Names.phases
 use Rattle.s2_modem.proofs.SymbolsBack.{frame_read, dummy_read}
 use Rattle.s2_modem.proofs.ByteStreams.{AreFields, front_fields}
 use Rattle.s2_modem.proofs.CleanFrames.{receives_all_law}
+use Rattle.s2_modem.proofs.CleanFigures.{clean_measures}
 
 length_bytes : (symbols : List Symbol) → length (bytes_of_symbols symbols) ≡ 4 * length symbols
 length_bytes [] = refl
@@ -28,33 +29,42 @@ AllCoded holds [] = ⊤
 AllCoded holds (coded symbols ∷ pieces) = holds symbols × AllCoded holds pieces
 AllCoded holds (dummy symbols ∷ pieces) = AllCoded holds pieces
 
-module _ (t : Transmitter) (rules : Rules) (receives_all : ReceivesAll t.link rules) where
+-- a frame that is delivered with no place changed, with these figures, and whose header has this energy
+record IsMeasured (rules : Rules) (figures : Option Figures) (energy : ℕ) (symbols : List Symbol) : Type 0 where
+  outcome : (rules.decide symbols).outcome ≡ Delivered 0
+  figures_are : (rules.decide symbols).figures ≡ figures
+  energy_is : (rules.decide symbols).energy ≡ energy
+
+module _ (t : Transmitter) (rules : Rules) (receives_all : ReceivesAll t.link rules) (figures : Option Figures) (energy : ℕ)
+    (measures : (codeword : List Bool) → IsCodeword (code_of t.link.rows) codeword → ((rules.decide (sent_symbols t.link codeword)).figures ≡ figures) × ((rules.decide (sent_symbols t.link codeword)).energy ≡ energy)) where
   abbrev link : Link
   link = t.link
 
   -- what was sent for some fields, as pieces of a stream
-  record Heard (at : ℕ) (fields : List (List ℕ)) (bytes : List ℕ) (places : ℕ → List (ℕ × Verdict)) : Type 0 where
+  record Heard (at : ℕ) (fields : List (List ℕ)) (bytes : List ℕ) (places : ℕ → List FramePlace) : Type 0 where
     pieces : List Piece
     are : (b : Bool) → AreReceived rules link.setup.roll_off b at pieces fields
     certified : AllCoded (IsCertifiedFrame rules) pieces
+    measured : AllCoded (IsMeasured rules figures energy) pieces
     places_are : (place : ℕ) → places_in rules place pieces ≡ places place
     symbols : (rest : List ℕ) → symbols_of (bytes ++ rest) ≡ stream_symbols pieces ++ symbols_of rest
 
   -- and a dummy frame before them, where one is due
-  dummy_before : (due : Bool) (at : ℕ) (fields : List (List ℕ)) (bytes : List ℕ) (places : ℕ → List (ℕ × Verdict)) → Heard at fields bytes places
+  dummy_before : (due : Bool) (at : ℕ) (fields : List (List ℕ)) (bytes : List ℕ) (places : ℕ → List FramePlace) → Heard at fields bytes places
       → Heard at fields (sent_behind link due ++ bytes) (λ place. places (if due then place + 3330 else place))
   dummy_before false at fields bytes places h = h
   dummy_before true at fields bytes places h = record {
     pieces = dummy (dummy_frame link.setup.number) ∷ h.pieces;
     are = λ b. (receives_all.dummies b, h.are true);
     certified = h.certified;
+    measured = h.measured;
     places_are = λ place. h.places_are (place + 3330);
     symbols = λ rest. frame_before (dummy_frame link.setup.number) (stream_symbols h.pieces) bytes rest (dummy_read link.setup.number) (h.symbols rest);
   }
 
   heard : (number at : ℕ) (fields units : List (List ℕ)) → AreFields (field_bytes link.setup.mode) at fields → AreUnits t number at fields units
-      → Heard at fields (joined units) (λ place. run_places rules.size t.dummy_every number place (length fields))
-  heard number at [] [] each sent = record { pieces = []; are = λ b. tt; certified = tt; places_are = λ place. refl; symbols = λ rest. refl }
+      → Heard at fields (joined units) (λ place. run_places figures rules.size t.dummy_every number place (length fields))
+  heard number at [] [] each sent = record { pieces = []; are = λ b. tt; certified = tt; measured = tt; places_are = λ place. refl; symbols = λ rest. refl }
   heard number at [] (u ∷ us) each sent = absurd sent
   heard number at (f ∷ fs) [] each sent = absurd sent
   heard number at (f ∷ fs) (u ∷ us) each sent =
@@ -64,12 +74,14 @@ module _ (t : Transmitter) (rules : Rules) (receives_all : ReceivesAll t.link ru
       let s = sent_symbols link codeword in
       let (bytes, place, fits) = each.0 in
       let one = receives_all.frames at f codeword bytes place fits unit.is_frame.is_codeword in
+      let seen = measures codeword unit.is_frame.is_codeword.is_codeword.in_code in
       let more = dummy_before (is_due t.dummy_every number) (at + length f) fs (joined us) _ (heard (number + 1) (at + length f) fs us each.1 sent.1) in
       record {
         pieces = coded s ∷ more.pieces;
         are = λ b. (one.0 b, more.are true);
         certified = (record { verdict = one.1.verdict; outcome = one.1.delivered.outcome }, more.certified);
-        places_are = λ place. ap₂ (λ (v : Verdict) (l : List (ℕ × Verdict)). (place, v) ∷ l) one.2 (more.places_are (place + rules.size));
+        measured = (record { outcome = one.1.delivered.outcome; figures_are = seen.0; energy_is = seen.1 }, more.measured);
+        places_are = λ place i. record { at = place; verdict = one.2 i; figures = seen.0 i } ∷ more.places_are (place + rules.size) i;
         symbols = λ rest.
             ap (λ l. symbols_of ((l ++ joined us) ++ rest)) (unit.spelt ∙ ap (λ l. l ++ behind) unit.is_frame.spelt)
             ∙ ap (λ l. symbols_of (l ++ rest)) (append_assoc (bytes_of_symbols s) behind (joined us))
@@ -79,16 +91,40 @@ module _ (t : Transmitter) (rules : Rules) (receives_all : ReceivesAll t.link ru
 -- their lines, and what they are called
 pub called : (rules : Rules) (at : ℕ) (pieces : List Piece) (s : Standing) → AllCoded (IsCertifiedFrame rules) pieces
     → (all_lines rules s (frames_at rules.size at pieces) ≡ certified_lines s.totals.frames (places_in rules at pieces))
-    × All (λ (place : ℕ × Verdict). IsTrue (is_certified place.1)) (places_in rules at pieces)
-called rules at [] s c = (refl, All-nil (λ (place : ℕ × Verdict). IsTrue (is_certified place.1)))
+    × All (λ (place : FramePlace). IsTrue (is_certified place.verdict)) (places_in rules at pieces)
+called rules at [] s c = (refl, All-nil (λ (place : FramePlace). IsTrue (is_certified place.verdict)))
 called rules at (coded l ∷ ps) s c =
     let verdict = (rules.decide l).verdict in
-    let report : Outcome → Report = λ o. record { number = s.totals.frames + 1; at = at; verdict = verdict; outcome = o } in
+    let figures = (rules.decide l).figures in
+    let report : Outcome → Report = λ o. record { number = s.totals.frames + 1; at = at; verdict = verdict; outcome = o; figures = figures } in
     let more = called rules (at + rules.size) ps (after rules s (frame at no_gap l)) c.1 in (
       ap₂ (λ (o : Outcome) (lines : List ℕ). frame_line (report o) ++ lines) c.0.outcome more.0,
-      All-cons (λ (place : ℕ × Verdict). IsTrue (is_certified place.1)) (at, verdict) (places_in rules (at + rules.size) ps) c.0.verdict more.1,
+      All-cons (λ (place : FramePlace). IsTrue (is_certified place.verdict)) (record { at = at; verdict = verdict; figures = figures }) (places_in rules (at + rules.size) ps) c.0.verdict more.1,
     )
 called rules at (dummy l ∷ ps) s c = called rules (at + 3330) ps s c
+
+-- what n frames with the same figures, and headers of the same energy, add to totals
+record AreMeasured (figures : Option Figures) (energy n : ℕ) (before now : Totals) : Type 0 where
+  refused : before.refused ≡ 0 → now.refused ≡ 0
+  energies : now.energy ≡ energy_over energy before.energy n
+  sums : now.sums ≡ sums_over figures before.sums n
+
+measured_all : (rules : Rules) (figures : Option Figures) (energy at : ℕ) (pieces : List Piece) (s : Standing) → AllCoded (IsMeasured rules figures energy) pieces
+    → AreMeasured figures energy (length (places_in rules at pieces)) s.totals (after_all rules s (frames_at rules.size at pieces)).totals
+measured_all rules figures energy at [] s m = record { refused = λ none. none; energies = refl; sums = refl }
+measured_all rules figures energy at (coded l ∷ ps) s m =
+    let more = measured_all rules figures energy (at + rules.size) ps (after rules s (frame at no_gap l)) m.1 in
+    let n = length (places_in rules (at + rules.size) ps) in
+    record {
+      refused = λ none. more.refused (ap₂ (λ (r : ℕ) (o : Outcome). saturated r (refused_in o)) none m.0.outcome);
+      energies = more.energies ∙ ap (λ e. energy_over energy (saturated s.totals.energy e) n) m.0.energy_is;
+      sums = more.sums ∙ ap (λ f. sums_over figures (sums_after s.totals.sums f) n) m.0.figures_are;
+    }
+measured_all rules figures energy at (dummy l ∷ ps) s m = measured_all rules figures energy (at + 3330) ps s m
+
+length-run_places : (figures : Option Figures) (size every number at n : ℕ) → length (run_places figures size every number at n) ≡ n
+length-run_places figures size every number at zero = refl
+length-run_places figures size every number at (suc n) = ap suc (length-run_places figures size every (number + 1) _ n)
 
 -- all that was read
 all_read : (source bytes : List ℕ) (left : Option (List ℕ)) → Consumes (Some source) left bytes → IsAtEnd left → source ≡ bytes
@@ -118,7 +154,8 @@ arrival_law m valid sizes t tuning count_old count_new source written counts tot
     all_read source (joined runs.packets ++ runs.rest) source_left runs.read runs.ends ∙ ap (λ l. joined runs.packets ++ l) runs.outcome.1 ∙ append-nil (joined runs.packets) in
     let all_fields : runs.fields ++ [] ≡ fields_of size (stream_of runs.packets) = append-nil runs.fields ∙ runs.outcome.2 in
     let fields = front_fields size runs.packets runs.fields [] receives_all.field_least runs.each_is_packet (subst AreBytes from are_bytes) all_fields in
-    let h = heard t rules receives_all 1 0 runs.fields runs.units fields runs.are_units in
+    let figures = clean_figures_by tuning t.link.setup.mode in
+    let h = heard t rules receives_all figures clean_energy (clean_measures m valid sizes t.link linked tuning known) 1 0 runs.fields runs.units fields runs.are_units in
     let g = gives rules t.link.setup.roll_off size runs.packets runs.fields [] h.pieces [] receives_all.least receives_all.field_least runs.each_is_packet all_fields (h.are false) in
     let just = frames_at rules.size 0 h.pieces in
     let sent : symbols_of written ≡ stream_symbols h.pieces ++ [] = ap symbols_of (runs.written ∙ ap (λ l. joined runs.units ++ l) runs.begins) ∙ h.symbols [] in
@@ -129,15 +166,19 @@ arrival_law m valid sizes t tuning count_old count_new source written counts tot
     let all = g.all refl in
     let framed = sym runs.outcome.4 in
     let over = passed_at_end end.totals g.skipped in
-    let counted : last ≡ totals_of counts =
-    λ i. record { frames = (g.frames_count ∙ framed) i; delivered = (g.delivered ∙ framed) i; packets = (g.packets_count ∙ ap length all ∙ sym runs.outcome.3) i; bad = g.bad i; incomplete = g.incomplete_none i; cut = g.cut i; skipped = over.0 i; places = over.1 i; first = over.2 i } in
+    let places = h.places_are 0 ∙ ap (run_places figures rules.size t.dummy_every 1 0) framed in
+    let n : length (places_in rules 0 h.pieces) ≡ counts.frames = ap length places ∙ length-run_places figures rules.size t.dummy_every 1 0 counts.frames in
+    let sums = measured_all rules figures clean_energy 0 h.pieces at_start h.measured in
+    let counted : last ≡ totals_of figures clean_energy counts =
+    λ i. record { frames = (g.frames_count ∙ framed) i; delivered = (g.delivered ∙ framed) i; packets = (g.packets_count ∙ ap length all ∙ sym runs.outcome.3) i; bad = g.bad i; incomplete = g.incomplete_none i; cut = g.cut i; skipped = over.0 i; places = over.1 i; first = over.2 i; refused = sums.refused refl i; energy = (sums.energies ∙ ap (energy_over clean_energy 0) n) i; sums = (sums.sums ∙ ap (sums_over figures None) n) i } in
+    let totals_are = got.totals_are ∙ ap (λ (x : Standing). x.totals) (processed.standing ∙ ap (after_all rules at_start) met_is ∙ after-append rules just (ended no_gap ∷ []) at_start) in
     let packets : all_packets rules at_start met ≡ source =
     ap (all_packets rules at_start) met_is ∙ packets-append rules just (ended no_gap ∷ []) at_start ∙ append-nil (all_packets rules at_start just) ∙ g.written ∙ ap joined all ∙ sym from in
-    let lines : all_lines rules at_start met ≡ certified_lines 0 (run_places rules.size t.dummy_every 1 0 counts.frames) ++ end_line (totals_of counts) =
+    let lines : all_lines rules at_start met ≡ certified_lines 0 (run_places figures rules.size t.dummy_every 1 0 counts.frames) ++ end_line totals =
     ap (all_lines rules at_start) met_is ∙ lines-append rules just (ended no_gap ∷ []) at_start
-    ∙ ap₂ (λ (a : List ℕ) (b : List ℕ). a ++ b) ((called rules 0 h.pieces at_start h.certified).0 ∙ ap (certified_lines 0) (h.places_are 0 ∙ ap (run_places rules.size t.dummy_every 1 0) framed)) (append-nil (end_line last) ∙ ap end_line counted) in
+    ∙ ap₂ (λ (a : List ℕ) (b : List ℕ). a ++ b) ((called rules 0 h.pieces at_start h.certified).0 ∙ ap (certified_lines 0) places) (append-nil (end_line last) ∙ ap end_line (sym totals_are)) in
     record {
       packets = subst (Appends before.given behind.given) packets processed.packets;
-      totals_are = got.totals_are ∙ ap (λ (x : Standing). x.totals) (processed.standing ∙ ap (after_all rules at_start) met_is ∙ after-append rules just (ended no_gap ∷ []) at_start) ∙ counted;
+      totals_are = totals_are ∙ counted;
       lines = subst (Appends before.out behind.out) lines processed.lines;
     }

@@ -1,5 +1,5 @@
 -- A frame without noise is delivered, certified, with nothing changed.
-use Rattle.s2_modem.proofs.Names.{ap₂, xor_same, number, or_right, ◌≡◌, ℕ, zero, suc, ◌+◌, ◌-◌, ◌*◌, ◌/◌, ◌%◌, ◌<◌, ◌≤◌, Bool, true, false, List, [], ◌∷◌, ◌++◌, length, take, drop, map, get_or, Option, Some, None, Result, Ok, Err, refl, sym, ap, subst, ◌∙◌, arith, length-append, length-take, length-drop, ℤ, pos, int_lt, le-leb, eq-eqb, length-map, ext_get_or, get_or-take, get_or-drop, take_at, drop_at, take_all, fill_by_all, length-map-range_with_len, All-head, All-tail, All-append, All-from_recursion, Mode, IsMode, HasCodeSizes, k_of, kbch_of, n_of, t_of, slots_of, symbols_in, Symbol, symbols_least, Rows, bit_at, bits_of_byte, bits_of_bytes, byte_at, byte_of, bytes_from, differences, byte_back, code_of, IsCodeword, hard_decision, NoneIsZero, is_certified, IsSole, HeaderFault, Decision, header_bytes, has_valid_lengths, header_of_bytes, signalling, header_at, to_place, field_bytes, header_of_bytes-header_bytes, divided, scrambled, scrambled-scrambled, IsWithin, nearest, within_is_nearest, nearest_is_within, no_nearest, payload_symbol, payload_of, frame_symbol, frame_symbols, decision, found, clean_behind, IsDivisor, soft_bit, soft_values, DecidesTo, clean_says, payload_again, clean_passes, IsCleanFrame, IsReceived, Link, padded_bits, baseband_frame, IsCodewordFor, found_as, Decided, decided, IsShown, Tuning, frame_soft, received_word, message_of, header_in, field_in, outcome_by, delivered_by, decision_by, frame_decision, AllAsLikely, AllTold, IsCertifiedBy, IsCorrected, link_rules, IsLinkOf, IsByte, AreBytes, sent_symbols, IsDelivered, IsDeliveredCertified, ReceivesAllLaw, ScatteredFrameLaw, BothCodesLaw, IsSent, IsMostLikely, received_payload, Sole, clean_lem, certified_lem, likely_lem, sole_lem, scattered_lem, decided_long, length-baseband_frame, length-bch_word, symbol, Header, count_of, cond, is_delivered}
+use Rattle.s2_modem.proofs.Names.{ap₂, xor_same, number, or_right, ◌≡◌, ℕ, zero, suc, ◌+◌, ◌-◌, ◌*◌, ◌/◌, ◌%◌, ◌<◌, ◌≤◌, Bool, true, false, List, [], ◌∷◌, ◌++◌, length, take, drop, map, get_or, Option, Some, None, Result, Ok, Err, refl, sym, ap, subst, ◌∙◌, arith, length-append, length-take, length-drop, ℤ, pos, int_lt, le-leb, eq-eqb, length-map, ext_get_or, get_or-take, get_or-drop, take_at, drop_at, take_all, fill_by_all, length-map-range_with_len, All-head, All-tail, All-append, All-from_recursion, Mode, IsMode, HasCodeSizes, k_of, kbch_of, n_of, t_of, slots_of, symbols_in, Symbol, symbols_least, Rows, bit_at, bits_of_byte, bits_of_bytes, byte_at, byte_of, bytes_from, differences, byte_back, code_of, IsCodeword, hard_decision, NoneIsZero, is_certified, IsSole, HeaderFault, Decision, header_bytes, has_valid_lengths, header_of_bytes, signalling, header_at, to_place, field_bytes, header_of_bytes-header_bytes, divided, scrambled, scrambled-scrambled, IsWithin, nearest, within_is_nearest, nearest_is_within, no_nearest, payload_symbol, payload_of, frame_symbol, frame_symbols, decision, found, clean_behind, IsDivisor, soft_bit, soft_values, DecidesTo, clean_says, payload_again, clean_passes, IsCleanFrame, IsReceived, Link, padded_bits, baseband_frame, IsCodewordFor, found_as, Decided, decided, IsShown, Tuning, frame_soft, received_word, message_of, header_in, field_in, outcome_by, delivered_by, decision_by, frame_decision, AllAsLikely, AllTold, IsCertifiedBy, IsCorrected, link_rules, IsLinkOf, IsByte, AreBytes, sent_symbols, IsDelivered, IsDeliveredCertified, ReceivesAllLaw, ScatteredFrameLaw, BothCodesLaw, IsSent, IsMostLikely, received_payload, Sole, clean_lem, certified_lem, likely_lem, sole_lem, scattered_lem, decided_long, length-baseband_frame, length-bch_word, symbol, Header, count_of, cond, is_delivered, Figures, Outcome, Delivered, NoWord, BadHeader, figures_by, measured, energy_of}
 use Rattle.s2_modem.proofs.Names.founds
 use Rattle.s2_modem.proofs.DecisionLemmas.{code_is}
 use Rattle.s2_modem.proofs.Dummies.{dummy_is}
@@ -56,7 +56,7 @@ valid_header m roll_off at field sizes place fits =
 
 -- ---- decisions
 
-differences_none : (n : ℕ) (a : List Bool) → differences n a a ≡ 0
+pub differences_none : (n : ℕ) (a : List Bool) → differences n a a ≡ 0
 differences_none zero a = refl
 differences_none (suc n) a = ap₂ (λ (d : ℕ) (e : ℕ). d + e) (differences_none n a) (ap number (xor_same (bit_at a n)))
 
@@ -83,9 +83,26 @@ decision_is_of : (r : Rows) (m : Mode) (soft : List ℤ) (d : Decided) (o : Opti
 decision_is_of r m soft d (Some word) = record { soft_is = refl; verdict = refl; bits = refl; certified = λ h. h }
 decision_is_of r m soft d None = record { soft_is = refl; verdict = refl; bits = refl; certified = λ h. h }
 
+-- figures and energy change nothing of that
+measured_is_of : (r : Rows) (soft : List ℤ) (d : Decided) (x : Decision) (figures : Option Figures) (energy : ℕ) → IsOf r soft d x → IsOf r soft d (measured x figures energy)
+measured_is_of r soft d x figures energy is = record { soft_is = is.soft_is; verdict = is.verdict; bits = is.bits; certified = is.certified }
+
+measured_corrected : (m : Mode) (x : Decision) (figures : Option Figures) (energy : ℕ) (o : Outcome) → IsCorrected m x o → IsCorrected m (measured x figures energy) o
+measured_corrected m x figures energy (Delivered fixed) h = h
+measured_corrected m x figures energy (BadHeader fault) h = h
+measured_corrected m x figures energy NoWord h = h
+
+measured_delivers : (x : Decision) (figures : Option Figures) (energy fixed : ℕ) (message : List Bool) (header : Header) (field : List ℕ) → IsDelivered x fixed message header field
+    → IsDelivered (measured x figures energy) fixed message header field
+measured_delivers x figures energy fixed message header field h = record { outcome = h.outcome; message_is = h.message_is; delivered = h.delivered }
+
 pub frame_is : (link : Link) (tuning : Tuning) (symbols : List Symbol) → IsOf link.rows (frame_soft link tuning symbols) (decided link.rows tuning (frame_soft link tuning symbols)) (frame_decision link tuning symbols)
 unfolding frame_decision
-frame_is link tuning symbols = decision_is_of link.rows link.setup.mode (frame_soft link tuning symbols) (decided link.rows tuning (frame_soft link tuning symbols)) _
+frame_is link tuning symbols =
+    let soft = frame_soft link tuning symbols in
+    let d = decided link.rows tuning soft in
+    let o = nearest link.setup.mode (received_word link.setup.mode d.bits) in
+    measured_is_of link.rows soft d (decision_by link.setup.mode soft d o) (figures_by link tuning symbols) (energy_of (take 90 symbols)) (decision_is_of link.rows link.setup.mode soft d o)
 
 -- what is delivered is counted as its outcome says
 counts_by : (fixed : ℕ) (bits : List Bool) (r : Result Header HeaderFault) → count_of (delivered_by bits r) ≡ cond (is_delivered (outcome_by fixed r)) 1 0
@@ -137,7 +154,11 @@ module _ (m : Mode) (valid : IsMode m) (sizes : HasCodeSizes m) (link : Link) (l
       let soft = frame_soft link tuning symbols in
       record {
         certified = (frame_is link tuning symbols).certified (certified_lem link.rows tuning soft (length_soft tuning symbols));
-        within = decision_corrected mode is_mode has_sizes soft (decided link.rows tuning soft) _ (length_received tuning symbols) refl;
+        within =
+            let d = decided link.rows tuning soft in
+            let o = nearest mode (received_word mode d.bits) in
+            let x = decision_by mode soft d o in
+            measured_corrected mode x (figures_by link tuning symbols) (energy_of (take 90 symbols)) x.outcome (decision_corrected mode is_mode has_sizes soft d o (length_received tuning symbols) refl);
       }
 
   module _ (at : ℕ) (field : List ℕ) (codeword : List Bool) (sent : IsSent m link at field codeword) where
@@ -193,11 +214,15 @@ module _ (m : Mode) (valid : IsMode m) (sizes : HasCodeSizes m) (link : Link) (l
         let near : differences (length r) r word ≤ t_of mode =
         subst (λ n. differences n r word ≤ t_of mode) (sym long) (subst (λ b. differences (k_of mode) (received_word mode b) word ≤ t_of mode) (frame_is link tuning symbols).bits few) in
         let nearest_is = within_is_nearest mode is_mode has_sizes r long word (record { word = record { size = long_word; multiple = sent.codeword_is.is_bch_word.multiple }; near = near }) in
+        let x = decision_by mode soft d (nearest mode r) in
+        let fixed = differences (k_of mode) (received_word mode x.bits) word in
+        let given : IsDelivered x fixed message header field =
         subst (λ o. IsDelivered (decision_by mode soft d o) (differences (k_of mode) (received_word mode (decision_by mode soft d o).bits) word) message header field) (sym nearest_is) (record {
           outcome = ap (outcome_by (differences (k_of mode) r word)) header_back;
           message_is = refl;
           delivered = ap (delivered_by (scrambled message)) header_back ∙ ap (λ f. Some (header, f)) field_back;
-        })
+        }) in
+        measured_delivers x (figures_by link tuning symbols) (energy_of (take 90 symbols)) fixed message header field given
 
     -- and where the codeword that was sent was decided, it differs nowhere
     pub differs_nowhere : (bits : List Bool) → bits ≡ codeword → differences (k_of mode) (received_word mode bits) word ≡ 0

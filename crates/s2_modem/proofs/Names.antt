@@ -66,7 +66,8 @@ pub use Rattle.s2_check.specs.declared.verdict.Verdict.TheVariants.{Broken, Sole
 pub use Rattle.s2_check.proofs.Lists.{refilled}
 pub use Rattle.s2_link.specs.Link.{Link, link_of, setup_of}
 pub use Rattle.s2_link.specs.Tuning.{Tuning}
-pub use Rattle.s2_judge.specs.Deciding.{Decided, IsShown, decided}
+pub use Rattle.s2_judge.specs.Deciding.{Decided, IsShown, decided, rounds_run}
+pub use Rattle.s2_judge.proofs.Decisions.{codeword_satisfied, rounds_hard}
 pub use Rattle.s2_judge.proofs.DecidedLengths.{decided_long}
 pub use Rattle.s2_judge.proofs.DecidingLemmas.{certified_lem, clean_lem, likely_lem, sole_lem}
 pub use Rattle.s2_judge.proofs.Scattering.{scattered_lem}
@@ -76,6 +77,9 @@ pub use Rattle.s2_send.specs.Sending.{AreUnits, is_due}
 pub use Rattle.s2_send.specs.Transmitter.{Transmitter}
 pub use Rattle.s2_send.proofs.OnlyFrames.{length-baseband_frame, length-bch_word}
 pub use Rattle.s2_receive.specs.Answers.{ReceivesTo, RunAnswers}
+pub use Rattle.s2_receive.specs.Figures.{refused_in, saturated, sums_after}
+pub use Rattle.s2_receive.specs.declared.figures.Figures.{Figures}
+pub use Rattle.s2_receive.specs.declared.figures.Tally.{Tally}
 pub use Rattle.s2_receive.specs.Laws.{AreReceived, IsDummy, IsReceived, Piece, SkippedNone, SpellSymbols, coded, dummy, frames_at, joined, stream_symbols}
 pub use Rattle.s2_receive.specs.Meeting.{Met, begins, by_found, cut, ended, extended, frame, met_from, no_gap}
 pub use Rattle.s2_receive.specs.Parts.{delivered_of}
@@ -85,7 +89,7 @@ pub use Rattle.s2_receive.specs.Sinks.{RunAnswersWith, Taking}
 unfoldable pub use Rattle.s2_receive.specs.Windows.{found_as}
 pub use Rattle.s2_receive.specs.declared.parts.Decided.{Decided as Answer}
 pub use Rattle.s2_receive.specs.declared.report.Outcome.{Outcome}
-pub use Rattle.s2_receive.specs.declared.report.Outcome.TheVariants.{Delivered, NoWord}
+pub use Rattle.s2_receive.specs.declared.report.Outcome.TheVariants.{BadHeader, Delivered, NoWord}
 pub use Rattle.s2_receive.specs.declared.report.Received.{Received}
 pub use Rattle.s2_receive.specs.declared.report.Report.{Report}
 pub use Rattle.s2_receive.specs.declared.report.Totals.{Totals}
@@ -97,13 +101,18 @@ pub use Rattle.s2_receive.proofs.Reception.{front, gives}
 pub use Rattle.s2_receive.proofs.RunLemmas.{after-append, lines-append, packets-append}
 pub use Rattle.s2_receive.proofs.SameSymbols.{same_met}
 pub use Rattle.s2_receive.proofs.StepLemmas.{symbols_least}
-pub use Rattle.s2_modem.specs.Both.{AreBytes, IsByte, IsDelivered, IsDeliveredCertified, ReceivesAll, certified_lines, run_places, sent_symbols, totals_of}
-pub use Rattle.s2_modem.specs.Front.{IsCleanFrame}
+pub use Rattle.s2_figures.specs.Errors.{error_at, known_places, payload_places, squared_distance}
+pub use Rattle.s2_figures.specs.Figures.{FigureFinder, finder_of, sent_frame}
+unfoldable pub use Rattle.s2_figures.specs.Figures.{figures_of}
+pub use Rattle.s2_figures.specs.Header.{symbol_energy}
+unfoldable pub use Rattle.s2_figures.specs.Header.{energy_of, header_errors}
+pub use Rattle.s2_modem.specs.Both.{AreBytes, FramePlace, IsByte, IsDelivered, IsDeliveredCertified, ReceivesAll, certified_lines, energy_over, run_places, sent_symbols, sums_over, totals_of}
+pub use Rattle.s2_modem.specs.Front.{IsCleanFrame, clean_energy, clean_figures, clean_figures_by}
 pub use Rattle.s2_modem.specs.Headline.{ArrivalLaw, BothCodesLaw, CorrectsWithin, IsSent, ReceivesAllLaw, ReceivesScattered, ScatteredFrameLaw}
-pub use Rattle.s2_modem.specs.Listening.{FindsWord, Listening, Reads, decides, decision_held}
+pub use Rattle.s2_modem.specs.Listening.{FindsWord, Listening, Reads, decides, decision_held, figures_found, finder_by}
 pub use Rattle.s2_modem.specs.Promise.{Arriving, Headline, IsCutAt, IsHeadline, IsNext, IsReadable, FramePromises, KeepsHeadline, Place, RunsHeadline, closed_packets, decision_from, found_at, frame_from, is_delivered, past, stands, wrong_bits}
 pub use Rattle.s2_modem.specs.Reception.{AllAsLikely, AllTold, IsAsLikely, IsCertifiedBy, IsCorrected, Receiver, link_rules, rules_for}
-pub use Rattle.s2_modem.specs.Reports.{IsUndecided, decision_by, decision_on, delivered_by, field_in, frame_soft, header_in, message_of, outcome_by, received_word}
+pub use Rattle.s2_modem.specs.Reports.{IsUndecided, decision_by, decision_on, delivered_by, field_in, figures_by, frame_soft, header_in, measured, message_of, outcome_by, received_word}
 unfoldable pub use Rattle.s2_modem.specs.Reports.{frame_decision}
 pub use Rattle.s2_modem.specs.Steps.{AllHeard}
 pub use Rattle.s2_modem.specs.Streams.{AreEach, FirstFramesLaw, IsClear, IsHeard, IsWholeFrame, OneStreamLaw, places_in}

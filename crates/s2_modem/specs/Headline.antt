@@ -30,6 +30,7 @@ use Rattle.s2_modem.specs.Reports.{frame_soft, received_word, message_of, frame_
 use Rattle.s2_receive.specs.ReportLines.{end_line}
 use Rattle.s2_modem.specs.Reception.{link_rules, ReceivesTotals}
 use Rattle.s2_modem.specs.Both.{AreBytes, IsDelivered, IsDeliveredCertified, ReceivesAll, certified_lines, run_places, totals_of}
+use Rattle.s2_modem.specs.Front.{clean_energy, clean_figures_by}
 
 -- a frame that has a certificate: no codeword costs less under its soft values than its bits
 abbrev pub LikelyFrameLaw : Mode → Type 0
@@ -86,15 +87,16 @@ abbrev pub ReceivesAllLaw : Mode → Type 0
 ReceivesAllLaw m =
     (link : Link) (tuning : Tuning) (limit : ℕ) → IsLinkOf m link → link.setup.roll_off ≤ max_roll_off → IsDivisor tuning.divisor → ReceivesAll link (link_rules link tuning limit)
 
--- all packets, a line for each frame, sole, and the end's
-pub record AllArrives (t : Transmitter) (source : List ℕ) (counts : Counts) (totals : Totals) (before behind : Streams) : Type 0 where
+-- all packets, a line for each frame, sole, and the end's. If the tuning asks for figures, they are those of frames
+-- without noise
+pub record AllArrives (t : Transmitter) (tuning : Tuning) (source : List ℕ) (counts : Counts) (totals : Totals) (before behind : Streams) : Type 0 where
   pub packets : Appends before.given behind.given source
-  pub totals_are : totals ≡ totals_of counts
-  pub lines : Appends before.out behind.out (certified_lines 0 (run_places (symbols_in t.link.setup.mode) t.dummy_every 1 0 counts.frames) ++ end_line (totals_of counts))
+  pub totals_are : totals ≡ totals_of (clean_figures_by tuning t.link.setup.mode) clean_energy counts
+  pub lines : Appends before.out behind.out (certified_lines 0 (run_places (clean_figures_by tuning t.link.setup.mode) (symbols_in t.link.setup.mode) t.dummy_every 1 0 counts.frames) ++ end_line totals)
 
 -- the frames and dummy frames that a run of the transmitter writes are received completely, with each divisor
 abbrev pub ArrivalLaw : Mode → Type 0
 ArrivalLaw m =
     (t : Transmitter) (tuning : Tuning) (count_old count_new : ℕ) (source written : List ℕ) (counts : Counts) (totals : Totals) (source_left : Option (List ℕ)) (before behind : Streams)
     → IsLinkOf m t.link → t.link.setup.roll_off ≤ max_roll_off → IsDivisor tuning.divisor → AreBytes source → TransmitterRuns t (ReadFails t.limit count_old count_new) (Some source) source_left (Some []) (Some written) (Ok counts)
-    → SpellSymbols before.taken (symbols_of written) → ReceivesTotals (link_rules t.link tuning max_symbols) before behind totals → AllArrives t source counts totals before behind
+    → SpellSymbols before.taken (symbols_of written) → ReceivesTotals (link_rules t.link tuning max_symbols) before behind totals → AllArrives t tuning source counts totals before behind

@@ -1,5 +1,5 @@
 -- The values of a receiver's parts (EN 302 307-1, 5.1 to 5.5).
-use Rattle.std.specs.Prelude.{◌≡◌, ℕ, Bool, List, Option, Some, None, IfSome, ℤ}
+use Rattle.std.specs.Prelude.{◌≡◌, ℕ, Bool, if◌then◌else◌, List, Option, Some, None, IfSome, ℤ}
 use Rattle.s2_mode.specs.Mode.{Mode, IsMode, k_of, shape_in, HasCodeSizes}
 use Rattle.s2_mode.specs.declared.symbols.Symbol.{Symbol}
 use Rattle.s2_rows.specs.Rows.{Rows}
@@ -16,6 +16,8 @@ use Rattle.s2_receive.specs.declared.report.Outcome.TheVariants.{NoWord}
 use Rattle.s2_link.specs.Link.{Link}
 use Rattle.s2_link.specs.Tuning.{Tuning}
 use Rattle.s2_bch.specs.Decoding.{nearest}
+use Rattle.s2_figures.specs.Figures.{FigureFinder, figures_of, finder_of}
+use Rattle.s2_receive.specs.declared.figures.Figures.{Figures}
 use Rattle.s2_modem.specs.Reports.{message_of, header_in, outcome_by, delivered_by, frame_decision}
 
 -- the result of BCH decoding on some bits, and the bits that it leaves
@@ -67,11 +69,22 @@ decision_held m soft bits certificate bch_word d field = record {
   message = message_of m bch_word;
   outcome = d.outcome;
   delivered = delivered_of d.header field;
+  figures = d.figures;
+  energy = d.energy;
 }
 
+-- the finder of figures, if the tuning asks for them
+abbrev pub finder_by : Tuning → Mode → ℕ → Option FigureFinder
+finder_by tuning mode number = if tuning.figures then Some (finder_of mode number) else None
+
+-- what it finds of a frame, from symbols, soft values, decided bits and rounds of min-sum
+abbrev pub figures_found : Option FigureFinder → List Symbol → List ℤ → List Bool → ℕ → Option Figures
+figures_found None symbols soft bits rounds = None
+figures_found (Some f) symbols soft bits rounds = Some (figures_of f.mode f.number symbols soft bits rounds)
+
 -- the stages of a decider are of its mode, the divisor is that of its tuning, and the joiner can take the last
--- delivered field
-pub record IsListening (mode : Mode) (rows : Rows) (tuning : Tuning) (demodulates : Demodulating) (corrects : Mode) (reads : Reading) (last : Decided) : Type 0 where
+-- delivered field. There is a finder of figures exactly if the tuning asks for them
+pub record IsListening (mode : Mode) (rows : Rows) (tuning : Tuning) (demodulates : Demodulating) (corrects : Mode) (reads : Reading) (finder : Option FigureFinder) (last : Decided) : Type 0 where
   pub valid : IsMode mode
   pub sizes : HasCodeSizes mode
   pub shape : rows.shape ≡ shape_in mode
@@ -79,4 +92,5 @@ pub record IsListening (mode : Mode) (rows : Rows) (tuning : Tuning) (demodulate
   pub divisor : demodulates.divisor ≡ tuning.divisor
   pub corrector : corrects ≡ mode
   pub reader : reads.mode ≡ mode
+  pub figures : finder ≡ finder_by tuning mode demodulates.number
   pub place : IfSome last.header (HasPlace reads.field)

@@ -1,5 +1,6 @@
 -- The decision on a frame's symbols, and the message delivered (EN 302 307-1, 5.1 to 5.5).
-use Rattle.std.specs.Prelude.{◌≡◌, ℕ, ◌/◌, Bool, false, List, replicate, take, Option, Some, None, Result, Ok, Err, ℤ, pos}
+use Rattle.std.specs.Prelude.{◌≡◌, ℕ, ◌/◌, Bool, false, if◌then◌else◌, List, replicate, take, Option, Some, None, Result, Ok, Err, ℤ, pos}
+use Rattle.s2_mode.specs.Limits.{header_symbols}
 use Rattle.s2_mode.specs.Mode.{Mode, kbch_of, k_of, n_of}
 use Rattle.s2_mode.specs.declared.symbols.Symbol.{Symbol}
 use Rattle.s2_bits.specs.Bits.{bytes_from, differences}
@@ -10,10 +11,13 @@ use Rattle.s2_scramble.specs.Baseband.{scrambled}
 use Rattle.s2_plframe.specs.Payload.{received_payload}
 use Rattle.s2_soft.specs.Soft.{soft_values}
 use Rattle.s2_receive.specs.Receiving.{Decision}
+use Rattle.s2_receive.specs.declared.figures.Figures.{Figures}
 use Rattle.s2_receive.specs.declared.report.Outcome.{Outcome}
 use Rattle.s2_receive.specs.declared.report.Outcome.TheVariants.{Delivered, NoWord, BadHeader}
 use Rattle.s2_link.specs.Link.{Link}
-use Rattle.s2_judge.specs.Deciding.{Decided, decided}
+use Rattle.s2_figures.specs.Figures.{figures_of}
+use Rattle.s2_figures.specs.Header.{energy_of}
+use Rattle.s2_judge.specs.Deciding.{Decided, decided, rounds_run}
 use Rattle.s2_link.specs.Tuning.{Tuning}
 use Rattle.s2_bch.specs.Decoding.{nearest}
 
@@ -47,7 +51,7 @@ delivered_by frame (Ok header) = Some (header, field_in header frame)
 delivered_by frame (Err fault) = None
 
 -- the decision with or without a BCH word: NoWord without one; BadHeader if its header is refused; else Delivered, with
--- the number of places in which decided bits and word differ
+-- the number of places in which decided bits and word differ. It has neither figures nor the header's energy
 abbrev pub decision_by : Mode → List ℤ → Decided → Option (List Bool) → Decision
 decision_by m soft d (Some bch_word) = record {
   soft = soft;
@@ -57,6 +61,8 @@ decision_by m soft d (Some bch_word) = record {
   message = message_of m bch_word;
   outcome = outcome_by (differences (k_of m) (received_word m d.bits) bch_word) (header_of_bytes m (header_in (scrambled (message_of m bch_word))));
   delivered = delivered_by (scrambled (message_of m bch_word)) (header_of_bytes m (header_in (scrambled (message_of m bch_word))));
+  figures = None;
+  energy = 0;
 }
 decision_by m soft d None = record {
   soft = soft;
@@ -66,6 +72,8 @@ decision_by m soft d None = record {
   message = message_of m (received_word m d.bits);
   outcome = NoWord;
   delivered = None;
+  figures = None;
+  energy = 0;
 }
 
 -- the decision before the first frame: zeros, and no certificate
@@ -79,7 +87,19 @@ pub record IsUndecided (m : Mode) (d : Decision) : Type 0 where
 abbrev pub decision_on : Mode → List ℤ → Decided → Decision
 decision_on m soft d = decision_by m soft d (nearest m (received_word m d.bits))
 
--- the decision on a frame's symbols: soft values, bits, verdict, certificate, message, outcome, header and data field
+-- the figures of a frame's symbols and its decided bits, if the tuning asks for them
+abbrev pub figures_by : Link → Tuning → List Symbol → Option Figures
+figures_by link tuning symbols =
+    if tuning.figures
+    then Some (figures_of link.setup.mode link.setup.number symbols (frame_soft link tuning symbols) (decided link.rows tuning (frame_soft link tuning symbols)).bits (rounds_run link.rows tuning (frame_soft link tuning symbols)))
+    else None
+
+-- a decision with these figures, and this energy of its header
+abbrev pub measured : Decision → Option Figures → ℕ → Decision
+measured d figures energy = record d { figures = figures; energy = energy }
+
+-- the decision on a frame's symbols: soft values, bits, verdict, certificate, message, outcome, header and data field. The
+-- figures, if they are wanted, and the energy of the header's symbols
 unfoldable pub frame_decision : Link → Tuning → List Symbol → Decision
 frame_decision link tuning symbols =
-    decision_on link.setup.mode (frame_soft link tuning symbols) (decided link.rows tuning (frame_soft link tuning symbols))
+    measured (decision_on link.setup.mode (frame_soft link tuning symbols) (decided link.rows tuning (frame_soft link tuning symbols))) (figures_by link tuning symbols) (energy_of (take header_symbols symbols))

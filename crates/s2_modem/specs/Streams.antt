@@ -15,7 +15,6 @@ use Rattle.s2_receive.specs.Meeting.{Met}
 use Rattle.s2_receive.specs.Receiving.{Rules, State, Processed, RunsTo, begun}
 use Rattle.s2_receive.specs.Laws.{Piece, coded, dummy, IsDummy, SpellSymbols, joined, stream_symbols}
 use Rattle.s2_check.specs.Verdicts.{is_certified}
-use Rattle.s2_check.specs.declared.verdict.Verdict.{Verdict}
 use Rattle.s2_soft.specs.Divisors.{IsDivisor}
 use Rattle.s2_link.specs.Tuning.{Tuning}
 use Rattle.s2_link.specs.Limits.{max_roll_off}
@@ -25,7 +24,7 @@ use Rattle.s2_send.specs.Frames.{IsCodewordFor}
 use Rattle.s2_receive.specs.Windows.{found_as}
 use Rattle.s2_modem.specs.Reports.{frame_soft}
 use Rattle.s2_modem.specs.Reception.{link_rules}
-use Rattle.s2_modem.specs.Both.{AreBytes, sent_symbols, certified_lines}
+use Rattle.s2_modem.specs.Both.{AreBytes, FramePlace, sent_symbols, certified_lines}
 
 -- the symbols of a whole frame of the link, with a header that passes there, right after a frame or not
 abbrev pub IsWholeFrame : Link → Tuning → Bool → List Symbol → Type 0
@@ -56,10 +55,11 @@ AreEach holds finds behind at (dummy symbols ∷ pieces) fields = IsDummy finds 
 abbrev pub AreHeard : Link → Tuning → Bool → ℕ → List Piece → List (List ℕ) → Type 0
 AreHeard link tuning = AreEach (IsHeard link tuning) (found_as link.setup.mode tuning.max_header_errors)
 
--- the places of the coded frames, from a position on, and their verdicts by these rules
-abbrev pub places_in : Rules → ℕ → List Piece → List (ℕ × Verdict)
+-- the places of the coded frames, from a position on, and their verdicts and figures by these rules
+abbrev pub places_in : Rules → ℕ → List Piece → List FramePlace
 places_in rules at [] = []
-places_in rules at (coded symbols ∷ pieces) = (at, (rules.decide symbols).verdict) ∷ places_in rules (at + rules.size) pieces
+places_in rules at (coded symbols ∷ pieces) =
+    record { at = at; verdict = (rules.decide symbols).verdict; figures = (rules.decide symbols).figures } ∷ places_in rules (at + rules.size) pieces
 places_in rules at (dummy symbols ∷ pieces) = places_in rules (at + dummy_symbols) pieces
 
 -- Each of the first coded frames is reported as certified. Exactly the packets whose closing CRC-8 is in their data
@@ -67,7 +67,7 @@ places_in rules at (dummy symbols ∷ pieces) = places_in rules (at + dummy_symb
 pub record FrontArrives (link : Link) (tuning : Tuning) (limit : ℕ) (packets fields later : List (List ℕ)) (pieces : List Piece) (before behind : Streams) : Type 0 where
   pub written : Appends before.given behind.given (joined (take (closed_in (length (joined fields))) packets))
   pub lines : Appends before.out behind.out (certified_lines 0 (places_in (link_rules link tuning limit) 0 pieces))
-  pub certified : All (λ (place : ℕ × Verdict). IsTrue (is_certified place.1)) (places_in (link_rules link tuning limit) 0 pieces)
+  pub certified : All (λ (place : FramePlace). IsTrue (is_certified place.verdict)) (places_in (link_rules link tuning limit) 0 pieces)
   pub all : later ≡ [] → take (closed_in (length (joined fields))) packets ≡ packets
 
 -- The output of a receiver, with any divisor, after the first coded frames of a stream of packets, if they came clear.

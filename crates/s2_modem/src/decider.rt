@@ -4,9 +4,11 @@ ghost use Rattle.s2_modem.specs.Reports.{IsUndecided};
 
 use crate::corrector::Corrector;
 use crate::demodulator::Demodulator;
+use crate::figures::{find_figures, finder_for};
 use crate::message::MessageReader;
 use s2_bits::Bits;
 use s2_check::{CertView, Verdict};
+use s2_figures::{FigureFinder, header_energy};
 use s2_judge::Judge;
 use s2_link::{Link, RollOff, Tuning};
 use s2_mode::{Mode, Symbol};
@@ -14,7 +16,7 @@ use s2_receive::{Decide, Decided, Frame, Outcome};
 use std::alloc::{AllocError, Global};
 use std::marker::Model;
 
-/// Decides the frames of a link, in its own buffers.
+/// Decides the frames of a link, in its own buffers. It has a finder of figures only if the tuning asks for them.
 pub(crate) struct Decider<'a> {
     mode: Mode,
     roll_off: RollOff,
@@ -22,6 +24,7 @@ pub(crate) struct Decider<'a> {
     judge: Judge<'a>,
     corrector: Corrector,
     reader: MessageReader,
+    finder: Option<FigureFinder>,
     last: Decided,
 }
 
@@ -34,6 +37,7 @@ impl<'a> Drop for Decider<'a> {
             judge: _,
             corrector: _,
             reader: _,
+            finder: _,
             last: _,
         } = self;
     }
@@ -51,7 +55,7 @@ impl<'a> Model for Decider<'a> {
       field = d.reader.field;
     } };
 
-    ghost invariant = { λ d. IsListening d.mode d.judge.rows d.judge.tuning d.demodulator d.corrector.mode d.reader d.last };
+    ghost invariant = { λ d. IsListening d.mode d.judge.rows d.judge.tuning d.demodulator d.corrector.mode d.reader d.finder d.last };
 }
 
 impl<'a> Decider<'a> {
@@ -72,10 +76,13 @@ impl<'a> Decider<'a> {
             verdict: Verdict::Broken,
             outcome: Outcome::NoWord,
             header: None,
+            figures: None,
+            energy: 0,
         };
         let demodulator = Demodulator::new(alloc, link, tuning.divisor())?;
         let corrector = Corrector::new(alloc, mode)?;
         let reader = MessageReader::new(alloc, mode)?;
+        let finder = finder_for(alloc, link, tuning)?;
         Ok(Decider {
             mode,
             roll_off: link.roll_off(),
@@ -83,6 +90,7 @@ impl<'a> Decider<'a> {
             judge: Judge::new(alloc, link.matrix(), tuning)?,
             corrector,
             reader,
+            finder,
             last,
         })
     }
@@ -134,10 +142,13 @@ impl<'a> Decide for Decider<'a> {
         let verdict = self.judge.decide();
         let found = self.corrector.correct(self.judge.word());
         let (outcome, header) = self.reader.read_outcome(found, self.corrector.word());
+        let figures = find_figures(&mut self.finder, symbols, &self.judge);
         self.last = Decided {
             verdict,
             outcome,
             header,
+            figures,
+            energy: header_energy(symbols),
         };
     }
 

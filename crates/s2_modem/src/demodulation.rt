@@ -64,7 +64,7 @@ fn demodulate_link<P: CountedWrite, W: CountedWrite>(
 /// frame has its line and is delivered, and certified if it is clear. The first frames, clear or with at most t
 /// wrong bits of the BCH word, give their packets, and a stream of nothing else no others. A setup is refused
 /// as by [`crate::Receiver::new`], and then nothing is written; the divisor of soft values is the usual one, as
-/// there.
+/// there. Lines have no figures.
 pub fn demodulate<P: CountedWrite, W: CountedWrite>(
     alloc: Global,
     setup: Setup,

@@ -66,7 +66,7 @@ pub fn receives_all(mode: Mode)
 
 /// A receiver writes all packets that a transmitter reads, if it gets the symbols that this one writes. It
 /// reports each frame as sole, with no bit changed, at its place, with each divisor, and with dummy frames or
-/// without.
+/// without. Figures, if they are wanted, have no errors.
 pub fn arrival(mode: Mode)
     ensures { ArrivalLaw mode }
 {

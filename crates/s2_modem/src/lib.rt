@@ -19,7 +19,8 @@
 //! definitions for its symbols: soft values, decided bits with verdict and certificate, the message of the nearest BCH
 //! word, and its header. So are the packets that the joiner makes of its data field. [`Receiver::next`] also reads and
 //! writes. Soft values are divided by [`DEFAULT_DIVISOR`], or by the divisor of the [`Tuning`] of
-//! [`Receiver::on_link`].
+//! [`Receiver::on_link`]. If the tuning asks for figures, each report has those of its frame ([`s2_receive::Figures`]),
+//! and only then memory is taken for them.
 //!
 //! For each frame [`laws::frames`] holds. Bits that are called sole or most likely satisfy every check, and no bits that
 //! do cost less. If they are called sole, all other bits that do cost more. If the search is at a frame that was sent, and
@@ -44,6 +45,7 @@ mod corrector;
 mod decider;
 mod demodulation;
 mod demodulator;
+mod figures;
 pub mod laws;
 mod message;
 mod receiver;

@@ -118,8 +118,8 @@ impl<'a> Receiver<'a> {
         Receiver::on_link(alloc, &link, tuning).map_err(|_| SetupFault::NoMemory)
     }
 
-    /// A receiver of a link with this tuning, which may have any divisor, with all the memory that it needs.
-    /// `AllocError` only if memory does not suffice.
+    /// A receiver of a link with this tuning, which may have any divisor, with all the memory that it needs. Reports
+    /// have figures if the tuning asks for them. `AllocError` only if memory does not suffice.
     pub fn on_link(
         alloc: Global,
         link: &Link<'a>,
@@ -180,7 +180,8 @@ impl<'a> Receiver<'a> {
     }
 
     /// Reads up to the next step, makes it, and writes its packets, and then its line of the report, as
-    /// [`s2_receive::Receiver::next`] does. It allocates no memory.
+    /// [`s2_receive::Receiver::next`] does. The line of a frame ends with its figures if the tuning asks for them. It
+    /// allocates no memory.
     pub fn next<R: CountedRead, P: CountedWrite, W: CountedWrite>(
         &mut self,
         reader: &mut R,
@@ -205,8 +206,8 @@ impl<'a> Receiver<'a> {
     /// that are sole or most likely and none was cut. If a new receiver takes a whole stream and no fault is returned, the
     /// headline holds. If the search is at a frame that a transmitter of the link sent, that frame has its line and is
     /// delivered, and certified if it is clear. The first frames, clear or with at most t wrong bits of the BCH word, give
-    /// their packets, and a stream of nothing else no others. Not to be called after the end or a fault. It allocates no
-    /// memory.
+    /// their packets, and a stream of nothing else no others. Lines have figures as in [`Receiver::next`]. Not to be called
+    /// after the end or a fault. It allocates no memory.
     ///
     /// After a fault, everything met before it is written whole. `Read` comes as in [`Receiver::next`], and nothing else is
     /// written. After `Write`, a part of the next packets or line may be written. The receiver counts as failed after both.

@@ -1,6 +1,7 @@
 pub mod Meeting
 pub mod Finding
 pub mod Faults
+pub mod Figures
 pub mod Receiving
 pub mod Answers
 pub mod Sinks

@@ -11,7 +11,9 @@ use Rattle.s2_mode.specs.Streams.{Streams}
 use Rattle.s2_mode.specs.Symbols.{symbols_of}
 use Rattle.s2_bbframe.specs.Joining.{Event, field, gap, Joined, step, begun_body, incomplete_in}
 use Rattle.s2_receive.specs.declared.delivering.StepCounts.{StepCounts}
+use Rattle.s2_receive.specs.declared.figures.Figures.{Figures}
 use Rattle.s2_receive.specs.declared.gap.Gap.{Gap}
+use Rattle.s2_receive.specs.Figures.{refused_in, saturated, sums_after}
 use Rattle.s2_receive.specs.Meeting.{Met, frame, cut, ended, no_gap, is_gap}
 use Rattle.s2_receive.specs.Finding.{Window, Follows, met_within, reached, wanted, window_at}
 use Rattle.s2_receive.specs.Windows.{found_as}
@@ -32,7 +34,8 @@ use Rattle.s2_receive.specs.declared.report.Phase.{Phase}
 use Rattle.s2_receive.specs.declared.report.Phase.TheVariants as phases
 
 -- The decision on a frame's symbols: soft values, decided bits, verdict, certificate, message and outcome. If the
--- message's header is accepted, also the header and the data field
+-- message's header is accepted, also the header and the data field. Figures, if they were asked for; and the header's
+-- energy, the sum of I*I + Q*Q over its 90 symbols
 pub record Decision : Type 0 where
   pub soft : List ℤ
   pub bits : List Bool
@@ -41,6 +44,8 @@ pub record Decision : Type 0 where
   pub message : List Bool
   pub outcome : Outcome
   pub delivered : Option (Header × List ℕ)
+  pub figures : Option Figures
+  pub energy : ℕ
 
 -- the event for the joiner
 abbrev pub delivery : Option (Header × List ℕ) → Event
@@ -63,7 +68,7 @@ pub record Standing : Type 0 where
 
 -- no frame so far
 abbrev pub at_start : Standing
-at_start = record { held = None; totals = record { frames = 0; delivered = 0; packets = 0; bad = 0; incomplete = 0; cut = false; skipped = 0; places = 0; first = 0 } }
+at_start = record { held = None; totals = record { frames = 0; delivered = 0; packets = 0; bad = 0; incomplete = 0; cut = false; skipped = 0; places = 0; first = 0; refused = 0; energy = 0; sums = None } }
 
 -- what the joiner holds when a frame comes: a gap comes first if symbols were skipped
 abbrev pub held_before : Option (List ℕ) → Gap → Option (List ℕ)
@@ -98,17 +103,31 @@ abbrev pub counts_after : Option (List ℕ) → Gap → Option (Header × List �
 counts_after held skipped delivered =
     record { delivered = count_of delivered; good = length (joined_after held skipped delivered).good; bad = (joined_after held skipped delivered).bad; incomplete = incomplete_after held skipped delivered }
 
--- the totals with one more frame, with these counts
-abbrev pub frame_totals : Totals → StepCounts → Totals
-frame_totals t counts =
-    record t { frames = t.frames + 1; delivered = t.delivered + counts.delivered; packets = t.packets + counts.good; bad = t.bad + counts.bad; incomplete = t.incomplete + counts.incomplete }
+-- the totals with one more frame, with these counts, and with the outcome, the header's energy and the figures of its
+-- decision
+abbrev pub frame_totals : Totals → StepCounts → Outcome → (energy : ℕ) → Option Figures → Totals
+frame_totals t counts outcome energy figures =
+    record t {
+      frames = t.frames + 1;
+      delivered = t.delivered + counts.delivered;
+      packets = t.packets + counts.good;
+      bad = t.bad + counts.bad;
+      incomplete = t.incomplete + counts.incomplete;
+      refused = saturated t.refused (refused_in outcome);
+      energy = saturated t.energy energy;
+      sums = sums_after t.sums figures;
+    }
 
 -- and with a cut one
 abbrev pub cut_totals : Totals → ℕ → Totals
 cut_totals t incomplete = record t { incomplete = t.incomplete + incomplete; cut = true }
 
 abbrev pub report_for : Decision → Totals → ℕ → Report
-report_for decision t at = record { number = t.frames + 1; at = at; verdict = decision.verdict; outcome = decision.outcome }
+report_for decision t at = record { number = t.frames + 1; at = at; verdict = decision.verdict; outcome = decision.outcome; figures = decision.figures }
+
+-- the totals with one more frame, for the joiner's body before it
+abbrev pub decided_totals : Totals → Option (List ℕ) → Gap → Decision → Totals
+decided_totals t held skipped decision = frame_totals (with_gap t skipped) (counts_after held skipped decision.delivered) decision.outcome decision.energy decision.figures
 
 abbrev pub report_of : Rules → Totals → ℕ → List Symbol → Report
 report_of rules t at symbols = report_for (rules.decide symbols) t at
@@ -118,7 +137,7 @@ abbrev pub after : Rules → Standing → Met → Standing
 after rules s (frame at skipped symbols) =
     record {
       held = (joined_after s.held skipped (rules.decide symbols).delivered).held;
-      totals = frame_totals (with_gap s.totals skipped) (counts_after s.held skipped (rules.decide symbols).delivered);
+      totals = decided_totals s.totals s.held skipped (rules.decide symbols);
     }
 after rules s (cut at skipped count) = record { held = None; totals = cut_totals (with_gap s.totals skipped) (begun_body s.held) }
 after rules s (ended skipped) = record { held = s.held; totals = with_gap s.totals (at_end skipped) }

@@ -1,6 +1,9 @@
 -- The lines of a receiver's report (own).
-use Rattle.std.specs.Prelude.{ℕ, List, ◌++◌, codes, decimal}
+use Rattle.std.specs.Prelude.{ℕ, List, [], ◌++◌, Option, Some, None, codes, decimal}
 use Rattle.s2_check.specs.Verdicts.{verdict_word}
+use Rattle.s2_receive.specs.declared.figures.Figures.{Figures}
+use Rattle.s2_receive.specs.declared.figures.Sums.{Sums}
+use Rattle.s2_receive.specs.declared.figures.Tally.{Tally}
 use Rattle.s2_receive.specs.declared.report.Outcome.{Outcome}
 use Rattle.s2_receive.specs.declared.report.Outcome.TheVariants.{Delivered, NoWord, BadHeader}
 use Rattle.s2_receive.specs.declared.report.Report.{Report}
@@ -14,10 +17,17 @@ outcome_words (Delivered fixed) = codes "fixed " ++ decimal fixed
 outcome_words NoWord = codes "lost"
 outcome_words (BadHeader fault) = codes "lost"
 
--- frame I at SYMBOL VERDICT fixed COUNT, or frame I at SYMBOL VERDICT lost
+-- header H changed B rounds K known E payload P, for a frame with figures
+abbrev pub figures_words : Option Figures → List ℕ
+figures_words None = []
+figures_words (Some f) =
+    codes " header " ++ decimal f.header ++ codes " changed " ++ decimal f.changed.sum ++ codes " rounds " ++ decimal f.rounds ++ codes " known " ++ decimal f.known.sum
+    ++ codes " payload " ++ decimal f.payload.sum
+
+-- frame I at SYMBOL VERDICT fixed COUNT, or frame I at SYMBOL VERDICT lost; and its figures, if it has them
 unfoldable pub frame_line : Report → List ℕ
 frame_line r =
-    codes "frame " ++ decimal r.number ++ codes " at " ++ decimal r.at ++ codes " " ++ verdict_word r.verdict ++ codes " " ++ outcome_words r.outcome ++ codes "\n"
+    codes "frame " ++ decimal r.number ++ codes " at " ++ decimal r.at ++ codes " " ++ verdict_word r.verdict ++ codes " " ++ outcome_words r.outcome ++ figures_words r.figures ++ codes "\n"
 
 -- cut at SYMBOL symbols COUNT
 unfoldable pub cut_line : ℕ → ℕ → List ℕ
@@ -35,9 +45,18 @@ delivered_words t = codes " delivered " ++ decimal t.delivered
 unfoldable pub packets_words : Totals → List ℕ
 packets_words t = codes " packets " ++ decimal t.packets ++ codes " bad " ++ decimal t.bad
 
--- end frames F delivered D packets P bad B
+-- a sum, and over how many: B of T
+unfoldable pub tally_words : Tally → List ℕ
+tally_words t = decimal t.sum ++ codes " of " ++ decimal t.of
+
+-- changed B of T known E of N payload P of M, if a frame had figures
+abbrev pub sums_words : Option Sums → List ℕ
+sums_words None = []
+sums_words (Some s) = codes " changed " ++ tally_words s.changed ++ codes " known " ++ tally_words s.known ++ codes " payload " ++ tally_words s.payload
+
+-- end frames F delivered D packets P bad B, and the sums of figures, if there are any
 unfoldable pub end_line : Totals → List ℕ
-end_line t = frames_words t ++ delivered_words t ++ packets_words t ++ codes "\n"
+end_line t = frames_words t ++ delivered_words t ++ packets_words t ++ sums_words t.sums ++ codes "\n"
 
 -- the line of a step, with the totals after it
 abbrev pub step_line : Step → Totals → List ℕ

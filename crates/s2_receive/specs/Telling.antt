@@ -43,11 +43,11 @@ counts_by held (next.End at skipped) delivered = record { delivered = 0; good = 
 abbrev pub IsFew : StepCounts → Type 0
 IsFew counts = (counts.delivered ≤ 1) × (counts.good + counts.bad ≤ max_field_bytes) × (counts.incomplete ≤ 2)
 
--- the totals after the thing met, by its counts
-abbrev pub counted : Totals → Next → StepCounts → Totals
-counted t (next.Frame at skipped) counts = frame_totals (with_gap t skipped) counts
-counted t (next.Cut at skipped count) counts = cut_totals (with_gap t skipped) counts.incomplete
-counted t (next.End at skipped) counts = with_gap t (at_end skipped)
+-- the totals after the thing met, by its counts, and by the last decision
+abbrev pub counted : Totals → Next → StepCounts → Decision → Totals
+counted t (next.Frame at skipped) counts last = frame_totals (with_gap t skipped) counts last.outcome last.energy last.figures
+counted t (next.Cut at skipped count) counts last = cut_totals (with_gap t skipped) counts.incomplete
+counted t (next.End at skipped) counts last = with_gap t (at_end skipped)
 
 -- the step, with this last decision
 abbrev pub answer_for : Decision → Totals → Next → Step

@@ -17,7 +17,7 @@ pub struct Frame<'a> {
     pub certificate: Option<CertView<'a>>,
     /// The message that BCH decoding left, still scrambled.
     pub message: &'a [bool],
-    /// The verdict, the outcome, and the header of a delivered message.
+    /// The verdict, the outcome, the header of a delivered message, the figures, and the energy of the PLHEADER.
     pub decided: Decided,
     /// The data field of a delivered message. If the frame was not delivered, it says nothing.
     pub field: &'a [u8],
@@ -50,5 +50,7 @@ impl<'a> Model for Frame<'a> {
       message = f.message.now;
       outcome = f.decided.outcome;
       delivered = delivered_of f.decided.header f.field.now;
+      figures = f.decided.figures;
+      energy = f.decided.energy;
     } };
 }

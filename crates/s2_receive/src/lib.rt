@@ -11,8 +11,9 @@
 //! and then writes the step's line (`src/lines.rt`). [`receive_all`] and [`receive_bytes`] take all steps. Only
 //! [`Receiver::new`] allocates memory.
 //!
-//! Dummy frames are not reported, and packets are joined across them. [`Totals`] count the losses: skipped symbols, and
-//! incomplete packets. The steps are a function of the symbols (`specs/Meeting.antt`). The state, the output and the
+//! Dummy frames are not reported, and packets are joined across them. [`Totals`] count the losses: skipped symbols,
+//! incomplete packets and refused headers. If a decider gives a frame's [`Figures`], its line has them, and the last line
+//! has their [`Sums`]. The steps are a function of the symbols (`specs/Meeting.antt`). The state, the output and the
 //! results are a function of the steps (`specs/Receiving.antt`). [`laws`] states what follows:
 //!
 //! - the search in its own words;
@@ -34,6 +35,7 @@
 
 mod all;
 mod delivering;
+mod figures;
 mod finder;
 mod finding;
 mod frame;
@@ -49,6 +51,7 @@ mod stepper;
 mod telling;
 
 pub use all::{receive_all, receive_bytes, receive_with};
+pub use figures::{Figures, Sums, Tally};
 pub use frame::Frame;
 pub use parts::{Decide, Decided};
 pub use receiver::Receiver;

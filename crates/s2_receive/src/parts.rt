@@ -3,6 +3,7 @@ ghost use Rattle.std.specs.Prelude.{◌≡◌, ◌/◌, ◌<◌, ◌≤◌, ◌�
 ghost use Rattle.s2_mode.specs.declared.symbols.Symbol.{Symbol as SymbolValue};
 ghost use Rattle.s2_receive.specs.Receiving.{Decision};
 
+use crate::figures::Figures;
 use crate::frame::Frame;
 use crate::report::Outcome;
 use s2_bbframe::Header;
@@ -16,6 +17,10 @@ pub struct Decided {
     pub outcome: Outcome,
     /// The header of a delivered message, whose data field [`Decide::field`] lends.
     pub header: Option<Header>,
+    /// The figures of the frame, if the decider was asked for them.
+    pub figures: Option<Figures>,
+    /// The energy of the frame's header: the sum of I*I + Q*Q over its 90 symbols.
+    pub energy: u64,
 }
 
 /// Decides frames, in its own buffers. Its decision is a function of a frame's symbols alone.
@@ -48,6 +53,8 @@ pub trait Decide {
     fn decided(&self) -> Decided
         ensures verdict { result.verdict ≡ (last self.now).verdict }
         ensures outcome { result.outcome ≡ (last self.now).outcome }
+        ensures figures { result.figures ≡ (last self.now).figures }
+        ensures energy { result.energy ≡ (last self.now).energy }
         ensures delivered { delivered_of result.header (field self.now) ≡ (last self.now).delivered }
         ensures place { IfSome result.header (HasPlace (field self.now)) };
 

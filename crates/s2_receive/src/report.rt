@@ -1,10 +1,12 @@
 //! A receiver's results and counts.
 ghost use Rattle.std.specs.Prelude.{◌≡◌, ◌≢◌, ◌+◌, ◌^◌, ◌<◌, ◌≤◌};
 ghost use Rattle.s2_receive.specs.Faults.{fault_of};
+ghost use Rattle.s2_receive.specs.Figures.{refused_in};
 ghost use Rattle.s2_receive.specs.Receiving.{at_start, with_gap, cut_totals, frame_totals};
 ghost use Rattle.s2_receive.specs.Telling.{IsFew};
 
 use crate::delivering::StepCounts;
+use crate::figures::{Figures, Sums, sums_after};
 use crate::gap::Gap;
 use crate::parts::Decided;
 use s2_bbframe::HeaderFault;
@@ -21,6 +23,18 @@ pub enum Outcome {
     BadHeader(HeaderFault),
 }
 
+impl Outcome {
+    /// 1 if there is a message whose header is refused, else 0.
+    fn refused(self) -> u64
+        ensures { result ≡ refused_in self }
+    {
+        match self {
+            Outcome::Delivered { .. } | Outcome::NoWord => 0,
+            Outcome::BadHeader(_) => 1,
+        }
+    }
+}
+
 /// The report of a frame.
 #[derive(Clone, Copy, Debug, PartialEq, Eq)]
 pub struct Report {
@@ -30,6 +44,8 @@ pub struct Report {
     pub at: u64,
     pub verdict: Verdict,
     pub outcome: Outcome,
+    /// The frame's figures, if the decider was asked for them.
+    pub figures: Option<Figures>,
 }
 
 impl Report {
@@ -37,12 +53,14 @@ impl Report {
     pub(crate) fn of(number: u64, at: u64, decided: Decided) -> Report
         ensures place { (result.number ≡ number) × (result.at ≡ at) }
         ensures decided { (result.verdict ≡ decided.verdict) × (result.outcome ≡ decided.outcome) }
+        ensures figures { result.figures ≡ decided.figures }
     {
         Report {
             number,
             at,
             verdict: decided.verdict,
             outcome: decided.outcome,
+            figures: decided.figures,
         }
     }
 }
@@ -66,6 +84,12 @@ pub struct Totals {
     pub places: u64,
     /// The position of the first skipped symbol, 0 if there is none.
     pub first: u64,
+    /// The number of frames with a BCH word whose header is refused.
+    pub refused: u64,
+    /// The sum of I*I + Q*Q over the 90 header symbols of each frame. It stops at 2^64 - 1.
+    pub energy: u64,
+    /// The sums of figures. `None` until a frame with figures comes.
+    pub sums: Option<Sums>,
 }
 
 impl Totals {
@@ -83,6 +107,9 @@ impl Totals {
             skipped: 0,
             places: 0,
             first: 0,
+            refused: 0,
+            energy: 0,
+            sums: None,
         }
     }
 
@@ -104,13 +131,13 @@ impl Totals {
         }
     }
 
-    /// The totals with one more frame, with these counts.
-    pub(crate) fn with_frame(self, counts: StepCounts) -> Totals
+    /// The totals with one more frame, with these counts and this decision.
+    pub(crate) fn with_frame(self, counts: StepCounts, decided: Decided) -> Totals
         requires frames { (self.frames < 2 ^ 62) × (self.delivered < 2 ^ 62) }
         requires packets { (self.packets < 2 ^ 62) × (self.bad < 2 ^ 62) }
         requires incomplete { self.incomplete < 2 ^ 62 }
         requires few { IsFew counts }
-        ensures { result ≡ frame_totals self counts }
+        ensures { result ≡ frame_totals self counts decided.outcome decided.energy decided.figures }
     {
         Totals {
             frames: self.frames + 1,
@@ -118,6 +145,9 @@ impl Totals {
             packets: self.packets + counts.good,
             bad: self.bad + counts.bad,
             incomplete: self.incomplete + counts.incomplete,
+            refused: self.refused.saturating_add(decided.outcome.refused()),
+            energy: self.energy.saturating_add(decided.energy),
+            sums: sums_after(self.sums, decided.figures),
             ..self
         }
     }

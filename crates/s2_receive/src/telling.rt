@@ -62,14 +62,16 @@ impl<D: Decide> Stepper<D> {
         requires room { CanCountIn self.now.state.window self.now.state.standing.totals next }
         requires few { IsFew counts }
         ensures phase { result.phase ≡ phase_after (met_of next []) }
-        ensures totals { result.totals ≡ counted self.now.state.standing.totals next counts }
+        ensures totals { result.totals ≡ counted self.now.state.standing.totals next counts (D.last self.now.decider) }
         ensures sound { IsSound self.now.mode (D.size self.now.decider) self.now.limit self.now.state.window result.totals }
     {
         let totals = self.status.totals;
         match next {
             Next::Frame { at: _, skipped } => Status {
                 phase: Phase::Searching,
-                totals: totals.with_gap(skipped).with_frame(counts),
+                totals: totals
+                    .with_gap(skipped)
+                    .with_frame(counts, self.decider.decided()),
             },
             Next::Cut {
                 at: _,

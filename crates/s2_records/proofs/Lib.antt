@@ -4,4 +4,5 @@ pub mod Streams
 pub mod Sizes
 pub mod ValueLines
 pub mod Written
+pub mod BothEnds
 pub mod ReadBack

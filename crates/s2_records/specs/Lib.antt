@@ -1,3 +1,4 @@
 pub mod Values
 pub mod Records
+pub mod Sent
 pub mod Laws

@@ -7,12 +7,14 @@ ghost use Rattle.s2_mode.specs.Pieces.{AppendsPart};
 ghost use Rattle.s2_certfile.specs.Field.{bytes_of_bits};
 ghost use Rattle.s2_scramble.specs.Baseband.{scrambled};
 ghost use Rattle.s2_records.specs.Records.{GainsBbframe, GainsBbframePart, has_bbframe};
+ghost use Rattle.s2_records.specs.Sent.{GainsSent, GainsSentPart};
 
 use crate::words::write_bits;
 use s2_bits::Bits;
 use s2_mode::{CountedWrite, Mode, WriteFault, write_full};
 use s2_receive::{Frame, Sink};
 use s2_scramble::bb_xor_in_place;
+use s2_send::SendSink;
 use std::alloc::{AllocError, Global};
 use std::marker::Model;
 
@@ -84,7 +86,8 @@ fn write_frame<W: CountedWrite>(
 
 /// A sink of BBFRAMEs. It writes the message of each delivered frame, descrambled: header, data field and padding, in
 /// Kbch / 8 bytes. Instead of a frame that was not delivered it writes Kbch / 8 zeros. It also does so before a frame
-/// that comes after skipped symbols. In contracts, it is its mode and its writer.
+/// that comes after skipped symbols. As a sink of a transmitter it writes the message of each codeword: its first Kbch
+/// bits, descrambled. In contracts, it is its mode and its writer.
 pub struct Bbframes<W> {
     mode: Mode,
     to: W,
@@ -169,6 +172,27 @@ impl<W: CountedWrite> Sink for Bbframes<W> {
             &self.zeros,
             delivered,
             frame.message,
+        )
+    }
+}
+
+impl<W: CountedWrite> SendSink for Bbframes<W> {
+    ghost takes = { GainsSent W.contents };
+
+    ghost fails = { GainsSentPart W.contents };
+
+    ghost count = { λ b. W.count b.to };
+
+    fn take(&mut self, codeword: &Bits) -> Result<(), WriteFault> {
+        let kbch = self.mode.kbch();
+        if codeword.len() < kbch {
+            return write_full(&mut self.to, &self.zeros);
+        }
+        write_message(
+            &mut self.to,
+            &mut self.block,
+            &mut self.bits,
+            &codeword.truths()[..kbch],
         )
     }
 }

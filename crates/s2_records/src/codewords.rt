@@ -1,16 +1,19 @@
-//! The decided words of frames.
+//! The words of frames: decided, or sent.
 ghost use Rattle.std.specs.Prelude.{◌≡◌, IfOk, OnOk, OnErr};
 ghost use Rattle.s2_mode.specs.Counts.{CanCount, CountsFault};
 ghost use Rattle.s2_records.specs.Records.{Gains, GainsPart, codeword_bytes};
+ghost use Rattle.s2_records.specs.Sent.{GainsWord, GainsWordPart};
 
 use crate::words::write_bits;
+use s2_bits::Bits;
 use s2_mode::{CountedWrite, Mode, WriteFault};
 use s2_receive::{Frame, Sink};
+use s2_send::SendSink;
 use std::alloc::{AllocError, Global};
 use std::marker::Model;
 
-/// A sink of decided words. It writes the decided bits of each frame, before BCH decoding, eight to a byte. In
-/// contracts, it is its writer.
+/// A sink of decided words. It writes the decided bits of each frame, before BCH decoding, eight to a byte. As a sink of a
+/// transmitter it writes each codeword in the same way. In contracts, it is its writer.
 pub struct Codewords<W> {
     to: W,
     block: Vec<u8>,
@@ -58,5 +61,17 @@ impl<W: CountedWrite> Sink for Codewords<W> {
 
     fn take(&mut self, _after_gap: bool, frame: &Frame<'_>) -> Result<(), WriteFault> {
         write_bits(&mut self.to, &mut self.block, frame.word)
+    }
+}
+
+impl<W: CountedWrite> SendSink for Codewords<W> {
+    ghost takes = { GainsWord W.contents };
+
+    ghost fails = { GainsWordPart W.contents };
+
+    ghost count = { W.count };
+
+    fn take(&mut self, codeword: &Bits) -> Result<(), WriteFault> {
+        write_bits(&mut self.to, &mut self.block, codeword)
     }
 }

@@ -1,5 +1,6 @@
 //! Laws of the definitions: each a call that does nothing, whose clause is the law.
 ghost use Rattle.s2_records.specs.Laws.{BbframesLaw, ReadBackLaw, RecordsLaw, ValuesLaw, WholeLaw};
+ghost use Rattle.s2_records.specs.Sent.{BothEndsLaw, SentLaw, WordsLaw};
 
 use s2_mode::CountedWrite;
 
@@ -28,4 +29,20 @@ pub fn values()
 /// has a refused header. So a file of them is joined as the receiver did.
 pub fn read_back()
     ensures { ReadBackLaw }
+{}
+
+/// A sink of a transmitter that took codewords has written them, one after another.
+pub fn words<W: CountedWrite>()
+    ensures { WordsLaw W.contents }
+{}
+
+/// A sink of BBFRAMEs that took a transmitter's codewords has written their BBFRAMEs, one after another.
+pub fn sent<W: CountedWrite>()
+    ensures { SentLaw W.contents }
+{}
+
+/// Both ends write the same. If a frame is delivered, its decided word is a codeword and its message the first Kbch bits
+/// of that, then the receiver writes of the frame what the sender writes of the codeword: word and BBFRAME.
+pub fn both_ends()
+    ensures { BothEndsLaw }
 {}

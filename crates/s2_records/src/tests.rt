@@ -1,6 +1,7 @@
 //! Each sink over memory, on frames made by hand. The expected bytes are worked out by hand: those of the certificate in
 //! `docs/certificates.md`, those of a message of zeros by the baseband sequence.
 ghost use Rattle.std.specs.Prelude.{◌≡◌, IfOk};
+ghost use Rattle.s2_mode.specs.Counts.{CanCount, CountsFault};
 
 use crate::{Bbframes, Certificates, Codewords, Values};
 use s2_bbframe::Header;
@@ -119,12 +120,16 @@ fn decided(delivered: bool) -> Decided {
             verdict: Verdict::MostLikely,
             outcome: Outcome::Delivered { fixed: 0 },
             header: Some(header),
+            figures: None,
+            energy: 0,
         }
     } else {
         Decided {
             verdict: Verdict::Parity,
             outcome: Outcome::NoWord,
             header: None,
+            figures: None,
+            energy: 0,
         }
     }
 }
@@ -169,6 +174,43 @@ fn writes_decided_bits(rt: HostRuntime) -> Result<(), Fail> {
         paper.written(),
         [0x80, 0x80, 0x10, 0x80, 0x80, 0x10].as_slice()
     );
+    assert_eq!(rt; paper.writes, 2);
+    Ok(())
+}
+
+/// Gives a codeword to a sink, as a transmitter does.
+fn send<K: s2_send::SendSink>(sink: &mut K, codeword: &Bits) -> Result<(), WriteFault>
+    requires { CanCount (K.count sink.old) }
+    ensures { CountsFault (K.count sink.old) (K.count sink.new) result }
+{
+    sink.take(codeword)
+}
+
+/// A word longer than a message, then one that is shorter.
+#[test]
+fn writes_sent_codewords(rt: HostRuntime) -> Result<(), Fail> {
+    let mut word = bits(rt.alloc(), 8 * BBFRAME + 8)?;
+    if word.len() == 8 * BBFRAME + 8 {
+        word.set(8 * BBFRAME, true);
+    }
+    let short = bits(rt.alloc(), 8)?;
+    let mut words = codewords(rt.alloc(), mode()?, ALL)?;
+    send(&mut words, &word)?;
+    let mut frames = bbframes(rt.alloc(), mode()?, ALL)?;
+    send(&mut frames, &word)?;
+    send(&mut frames, &short)?;
+    let paper = words.into_inner().into_inner();
+    assert_eq!(rt; paper.len, BBFRAME + 1);
+    assert_eq!(rt; paper.bytes[BBFRAME], 0x80);
+    let paper = frames.into_inner().into_inner();
+    let front = &paper.bytes[..8];
+    let zeros = &paper.bytes[BBFRAME..2 * BBFRAME];
+    assert_eq!(rt;
+        front,
+        [0x03, 0xf6, 0x08, 0x34, 0x30, 0xb8, 0xa3, 0x93].as_slice()
+    );
+    assert_eq!(rt; zeros, [0; BBFRAME].as_slice());
+    assert_eq!(rt; paper.len, 2 * BBFRAME);
     assert_eq!(rt; paper.writes, 2);
     Ok(())
 }

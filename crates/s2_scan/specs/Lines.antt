@@ -1,5 +1,5 @@
 -- What `scan` prints (own).
-use Rattle.std.specs.Prelude.{ℕ, ◌+◌, ◌-◌, ◌*◌, ◌/◌, ◌%◌, ◌==◌, ◌&&◌, ◌||◌, Bool, not, nat_lt, max, min, List, [], ◌∷◌, ◌++◌, get_or, drop, codes, decimal, if◌then◌else◌}
+use Rattle.std.specs.Prelude.{ℕ, ◌+◌, ◌-◌, ◌*◌, ◌/◌, ◌%◌, ◌==◌, ◌&&◌, ◌||◌, Bool, not, nat_le, nat_lt, max, min, List, [], ◌∷◌, ◌++◌, get_or, drop, codes, decimal, if◌then◌else◌}
 use Rattle.s2_console.specs.declared.exit.Exit.{Exit}
 use Rattle.s2_console.specs.declared.exit.Exit.TheVariants as exits
 use Rattle.s2_scan.specs.Forms.{is_little, way_of}
@@ -80,6 +80,10 @@ within amplitude = max (min amplitude 46341) 1
 abbrev pub gain_of : ℕ → ℕ
 gain_of amplitude = (19800000 + within amplitude) / (2 * within amplitude)
 
+-- whether symbols of this amplitude need no gain: 990 and at most 1.5 dB off
+abbrev pub is_usual : ℕ → Bool
+is_usual amplitude = nat_le 833 amplitude && nat_le amplitude 1177
+
 -- the gain in digits, four after the point
 unfoldable pub gain_words : ℕ → List ℕ
 gain_words gain = (codes " --gain " ++ decimal (gain / 10000)) ++ (codes "." ++ drop 1 (decimal (10000 + gain % 10000)))
@@ -94,15 +98,28 @@ convert_words form =
     (if is_little form then codes "tools/convert ci16_le ci16_be" else codes "tools/convert ci16_be ci16_be")
     ++ ((if is_conjugate form then codes " --conjugate" else []) ++ turn_words (turns_back form))
 
+-- the command that sets a sighting's form right, as far as the pipe
+unfoldable pub source_words : Sighting → List ℕ
+source_words s = convert_words s.form ++ (gain_words (gain_of s.amplitude) ++ codes " recording | ")
+
 -- the command that receives the frames of a header
 unfoldable pub demod_words : ℕ → List ℕ
 demod_words header =
-    codes " recording | ./s2 demod --modcod "
+    codes "./s2 demod --modcod "
     ++ (name_at header ++ ((if is_short header then codes " --short" else []) ++ (if has_pilots header then codes " --pilots" else [])))
 
--- the line that says how a sighting's frames are received
-unfoldable pub command_line : Sighting → List ℕ
-command_line s = convert_words s.form ++ (gain_words (gain_of s.amplitude) ++ (demod_words s.header ++ codes " rows - received.ts\n"))
+-- the line that says how a sighting's frames are received after they are set right
+unfoldable pub converted_line : Sighting → List ℕ
+converted_line s = source_words s ++ (demod_words s.header ++ codes " rows - received.ts\n")
+
+-- the line that says how the frames of a header are received as they are
+unfoldable pub direct_line : ℕ → List ℕ
+direct_line header = demod_words header ++ codes " rows recording received.ts\n"
+
+-- The line that says how a sighting's frames are received: as they are, if they are in our byte order, neither conjugated
+-- nor rotated, and their amplitude needs no gain
+abbrev pub command_line : Sighting → List ℕ
+command_line s = if (s.form == 0) && is_usual s.amplitude then direct_line s.header else converted_line s
 
 -- the last line: how the likeliest frames that this program receives are received
 abbrev pub advice_of : List Sighting → List ℕ

@@ -86,9 +86,13 @@ roots_below mean (suc k) = roots_below mean k + (if nat_le ((2 * k + 1) * (2 * k
 abbrev pub max_amplitude : ℕ
 max_amplitude = 46341
 
--- the root of the mean of I * I + Q * Q over the headers that passed, rounded
+-- the root of the mean of I * I + Q * Q over symbols, rounded, by their energy
+abbrev pub amplitude_by : ℕ → ℕ → ℕ
+amplitude_by energy symbols = roots_below (energy / symbols) max_amplitude
+
+-- the amplitude over the headers that passed
 abbrev pub amplitude_of : List Pass → ℕ
-amplitude_of passes = roots_below (energy_in passes / (header_symbols * length passes)) max_amplitude
+amplitude_of passes = amplitude_by (energy_in passes) (header_symbols * length passes)
 
 -- ---- sightings
 

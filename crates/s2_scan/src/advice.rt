@@ -16,8 +16,21 @@ fn is_received(header: usize) -> bool
     0 < modcod && modcod < 18 && !(is_short(header) && (modcod == 11 || modcod == 17))
 }
 
-/// 990 divided by an amplitude, in ten-thousandths, rounded.
-fn gain_of(amplitude: u64) -> u64
+/// The least amplitude of symbols that need no gain, 1.5 dB below 990.
+const LEAST_USUAL: u64 = 833;
+
+/// The largest amplitude of symbols that need no gain, 1.5 dB above 990.
+const MOST_USUAL: u64 = 1177;
+
+/// Whether symbols of this amplitude need no gain: 833 to 1177, which is 990 and at most 1.5 dB off.
+pub fn is_usual(amplitude: u64) -> bool
+    ensures { result ≡ lines.is_usual amplitude }
+{
+    LEAST_USUAL <= amplitude && amplitude <= MOST_USUAL
+}
+
+/// The gain for symbols of an amplitude: 990 divided by it, in ten-thousandths, rounded.
+pub fn gain_of(amplitude: u64) -> u64
     ensures { result ≡ lines.gain_of amplitude }
 {
     let amplitude = amplitude.min(MAX_AMPLITUDE).max(1);
@@ -61,26 +74,55 @@ fn push_convert(text: &mut Vec<u8>, form: usize) -> Result<(), AllocError>
     push_turn(text, form % 4)
 }
 
+/// The command that sets a sighting's form right, as far as the pipe.
+#[tactic(auto, unfolding(crate::specs::Lines::source_words))]
+fn push_source(text: &mut Vec<u8>, sighting: &Sighting) -> Result<(), AllocError>
+    ensures { OnOk result (text.new.items ≡ text.old.items ++ lines.source_words sighting.now) }
+{
+    push_convert(text, sighting.form)?;
+    push_gain(text, gain_of(sighting.amplitude))?;
+    push(text, " recording | ")
+}
+
 /// The command that receives the frames of a header.
 #[tactic(auto, unfolding(crate::specs::Lines::demod_words))]
 fn push_demod(text: &mut Vec<u8>, header: usize) -> Result<(), AllocError>
     ensures { OnOk result (text.new.items ≡ text.old.items ++ lines.demod_words header) }
 {
-    push(text, " recording | ./s2 demod --modcod ")?;
+    push(text, "./s2 demod --modcod ")?;
     push(text, name_at(header))?;
     push(text, choose(is_short(header), " --short", ""))?;
     push(text, choose(has_pilots(header), " --pilots", ""))
 }
 
+/// The line that says how a sighting's frames are received after they are set right.
+#[tactic(auto, unfolding(crate::specs::Lines::converted_line))]
+fn push_converted(text: &mut Vec<u8>, sighting: &Sighting) -> Result<(), AllocError>
+    ensures { OnOk result (text.new.items ≡ text.old.items ++ lines.converted_line sighting.now) }
+{
+    push_source(text, sighting)?;
+    push_demod(text, sighting.header)?;
+    push(text, " rows - received.ts\n")
+}
+
+/// The line that says how the frames of a header are received as they are.
+#[tactic(auto, unfolding(crate::specs::Lines::direct_line))]
+fn push_direct(text: &mut Vec<u8>, header: usize) -> Result<(), AllocError>
+    ensures { OnOk result (text.new.items ≡ text.old.items ++ lines.direct_line header) }
+{
+    push_demod(text, header)?;
+    push(text, " rows recording received.ts\n")
+}
+
 /// The line that says how a sighting's frames are received.
-#[tactic(auto, unfolding(crate::specs::Lines::command_line))]
 fn push_command(text: &mut Vec<u8>, sighting: &Sighting) -> Result<(), AllocError>
     ensures { OnOk result (text.new.items ≡ text.old.items ++ lines.command_line sighting.now) }
 {
-    push_convert(text, sighting.form)?;
-    push_gain(text, gain_of(sighting.amplitude))?;
-    push_demod(text, sighting.header)?;
-    push(text, " rows - received.ts\n")
+    if sighting.form == 0 && is_usual(sighting.amplitude) {
+        push_direct(text, sighting.header)
+    } else {
+        push_converted(text, sighting)
+    }
 }
 
 /// The last line: how the likeliest frames that this program receives are received.

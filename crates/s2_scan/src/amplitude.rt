@@ -1,6 +1,7 @@
 //! The amplitude of passes.
 ghost use Rattle.std.specs.Prelude.{◌≡◌, ◌*◌, ◌^◌, ◌<◌, ◌≤◌, length, if◌then◌else◌};
-ghost use Rattle.s2_scan.specs.Sightings.{energy_in, roots_below, max_amplitude, amplitude_of};
+ghost use Rattle.s2_mode.specs.Limits.{header_symbols};
+ghost use Rattle.s2_scan.specs.Sightings.{energy_in, roots_below, max_amplitude, amplitude_by, amplitude_of};
 
 use crate::passes::Pass;
 use s2_mode::HEADER_SYMBOLS;
@@ -39,11 +40,22 @@ fn rounded_root(mean: u128) -> u64
     root
 }
 
-/// The root of the mean of I * I + Q * Q over the headers that passed, rounded.
+/// The amplitude of the symbols of one header or more: the root of the mean of I * I + Q * Q, rounded, at most 46341. The
+/// energy is the sum of I * I + Q * Q over the symbols.
+pub fn amplitude_by(energy: u128, symbols: u128) -> u64
+    requires { header_symbols ≤ symbols }
+    ensures { result ≡ amplitude_by energy symbols }
+{
+    rounded_root(energy / symbols)
+}
+
+/// The amplitude over the headers that passed.
 pub(crate) fn amplitude_of(passes: &[Pass]) -> u64
     requires { 0 < length passes.now }
     ensures { result ≡ amplitude_of passes.now }
 {
-    let symbols = HEADER_SYMBOLS as u128 * passes.len() as u128;
-    rounded_root(energy_in(passes) / symbols)
+    amplitude_by(
+        energy_in(passes),
+        HEADER_SYMBOLS as u128 * passes.len() as u128,
+    )
 }

@@ -3,7 +3,8 @@
 //! A recording may be in either byte order, conjugated and rotated. [`scan_command`] tests each position in all sixteen
 //! forms for each header of the standard (PLHEADER, EN 302 307-1, 5.5.2): MODCOD 0 to 28 with every TYPE. A position
 //! passes with at most 4 wrong bits of the 26 of the SOF and at most 12 of all 90. A header that comes twice at its
-//! frame's distance has a line. The last line is the command that receives the likeliest frames.
+//! frame's distance has a line. The last line is the command that receives the likeliest frames. [`amplitude_by`],
+//! [`is_usual`] and [`gain_of`] say how strong symbols are, and which gain they need.
 //!
 //! ```text
 //! let exit = scan_command(rt.alloc(), &mut symbols, &mut console);
@@ -28,6 +29,8 @@ mod text;
 mod texts;
 mod windows;
 
+pub use advice::{gain_of, is_usual};
+pub use amplitude::amplitude_by;
 pub use command::scan_command;
 
 #[cfg(test)]

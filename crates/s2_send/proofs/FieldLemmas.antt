@@ -1,13 +1,15 @@
 -- Cuts of a stream that is put together from its fields.
-use Rattle.std.proofs.Common.{◌≡◌, ℕ, suc, ◌+◌, ◌-◌, ◌*◌, ◌/◌, ◌<◌, ◌≤◌, List, [], ◌∷◌, ◌++◌, All, length, drop, refl, sym, ap, subst, ◌∙◌, append_assoc, append-nil, length-append, arith}
+use Rattle.std.proofs.Common.{◌≡◌, ℕ, suc, ◌+◌, ◌-◌, ◌*◌, ◌/◌, ◌<◌, ◌≤◌, List, [], ◌∷◌, ◌++◌, All, Bool, length, drop, refl, sym, ap, subst, ◌∙◌, append_assoc, append-nil, length-append, arith}
 use Rattle.std.proofs.lemmas.List.{take_at, drop_at, take_all}
 use Rattle.std.proofs.lemmas.List.Concat.{flat_map-append}
 use Rattle.std.proofs.lemmas.List.Elements.{All-head, All-tail}
 use Rattle.std.proofs.lemmas.Nat.{div-mul-add}
-use Rattle.s2_send.specs.Frames.{IsUnitOf}
+use Rattle.s2_link.specs.Link.{Link}
+use Rattle.s2_send.specs.Frames.{IsCodewordFor, IsUnitOf}
+use Rattle.s2_send.specs.Sinks.{Taking, TakesCodewords}
 use Rattle.s2_send.specs.Transmitter.{Transmitter}
 use Rattle.s2_bbframe.specs.DataStream.{cuts, full_fields, fields_of, header_at}
-use Rattle.s2_send.specs.Sending.{joined, is_due, AreUnits}
+use Rattle.s2_send.specs.Sending.{joined, is_due, AreCodewords, AreUnits}
 
 pub joined-push : (ls : List (List ℕ)) (l : List ℕ) → joined (ls ++ l ∷ []) ≡ joined ls ++ l
 joined-push ls l = flat_map-append (λ x. x) ls (l ∷ []) ∙ ap (λ k. joined ls ++ k) (append-nil l)
@@ -33,6 +35,28 @@ AreUnits-push t number at (f ∷ fs) (g ∷ gs) field unit h k =
           (subst (λ m. IsUnitOf t.link (is_due t.dummy_every ((number + 1) + length fs)) (header_at t.link.setup.roll_off m field) field unit) e
           (subst (λ m. IsUnitOf t.link (is_due t.dummy_every m) (header_at t.link.setup.roll_off (at + length (f ++ joined fs)) field) field unit) n k)),
     )
+
+-- the codewords so far, and one more
+pub AreCodewords-push : (link : Link) (at : ℕ) (fields : List (List ℕ)) (codewords : List (List Bool)) (field : List ℕ) (codeword : List Bool) → AreCodewords link at fields codewords
+    → IsCodewordFor link.setup.mode link.rows (header_at link.setup.roll_off (at + length (joined fields)) field) field codeword
+    → AreCodewords link at (fields ++ field ∷ []) (codewords ++ codeword ∷ [])
+AreCodewords-push link at [] [] field codeword h k =
+    let e : at + 0 ≡ at = omega arith in
+    (subst (λ n. IsCodewordFor link.setup.mode link.rows (header_at link.setup.roll_off n field) field codeword) e k, tt)
+AreCodewords-push link at [] (c ∷ cs) field codeword h k = absurd h
+AreCodewords-push link at (f ∷ fs) [] field codeword h k = absurd h
+AreCodewords-push link at (f ∷ fs) (c ∷ cs) field codeword h k =
+    let e : at + length (f ++ joined fs) ≡ (at + length f) + length (joined fs) = omega (arith, length-append f (joined fs)) in (
+      h.0,
+      AreCodewords-push link (at + length f) fs cs field codeword h.1
+          (subst (λ n. IsCodewordFor link.setup.mode link.rows (header_at link.setup.roll_off n field) field codeword) e k),
+    )
+
+-- a sink that took some codewords, and one more
+pub TakesCodewords-push : {S : Type 0} (takes : Taking S) (old mid new : S) (codewords : List (List Bool)) (codeword : List Bool)
+    → TakesCodewords takes old mid codewords → takes mid new codeword → TakesCodewords takes old new (codewords ++ codeword ∷ [])
+TakesCodewords-push takes old mid new [] codeword h k = (new, subst (λ s. takes s new codeword) h k, refl)
+TakesCodewords-push takes old mid new (first ∷ later) codeword h k = (h.0, h.1, TakesCodewords-push takes h.0 mid new later codeword h.2 k)
 
 module _ (size : ℕ) where
   abbrev pub IsFull : List ℕ → Type 0

@@ -10,6 +10,7 @@ use Rattle.s2_send.specs.declared.outcome.SendFault.{SendFault}
 use Rattle.s2_send.specs.declared.outcome.SendFault.TheVariants.{NotWholePacket, NoSync, Read, Write}
 use Rattle.s2_bbframe.specs.declared.header.Header.{Header}
 use Rattle.s2_send.specs.Frames.{IsUnitOf, sent_behind}
+use Rattle.s2_send.specs.Hints.{size_told}
 use Rattle.s2_send.specs.Transmitter.{Transmitter}
 use Rattle.s2_send.specs.Sending.{joined, is_due, AreUnits}
 use Rattle.s2_send.specs.Laws.{IsLinkOf, FrameLaw, ReadFails, RunLaw}
@@ -18,16 +19,16 @@ use Rattle.s2_send.proofs.PacketsRead.{same_packets, Leaves, leaves_stop, fields
 -- ---- the answer
 
 -- by what was read
-abbrev pub answer_to : ℕ → ℕ → ℕ → Result Counts SendFault
+abbrev pub answer_to : ℕ → ℕ → List ℕ → Result Counts SendFault
 answer_to packets frames left =
-    if left == 0
+    if length left == 0
     then Ok (record { packets = packets; frames = frames })
-    else if nat_lt left 188
+    else if nat_lt (length left) 188
     then Err NotWholePacket
-    else Err (NoSync (packets + 1))
+    else Err (NoSync (packets + 1) (size_told (packets + 1) (take 188 left)))
 
 answered : (packets frames : ℕ) (left : List ℕ) (result : Result Counts SendFault) → Leaves packets left result → ((c : Counts) → result ≡ Ok c → c.frames ≡ frames)
-    → result ≡ answer_to packets frames (length left)
+    → result ≡ answer_to packets frames left
 answered packets frames left (Ok c) h k =
     let none : length left ≡ 0 = ap length h.0 in
     let sent = k c refl in
@@ -35,9 +36,9 @@ answered packets frames left (Ok c) h k =
 answered packets frames left (Err NotWholePacket) h k =
     let some : length left ≢ 0 = omega (arith, h.0) in
     rw (ne_eqb (length left) 0 some, lt-ltb (length left) 188 h.1) refl
-answered packets frames left (Err (NoSync packet)) h k =
+answered packets frames left (Err (NoSync packet told)) h k =
     let some : length left ≢ 0 = omega (arith, h.0) in
-    rw (ne_eqb (length left) 0 some, le-ltb (length left) 188 h.0) (ap (λ p. Err (NoSync p)) h.2)
+    rw (ne_eqb (length left) 0 some, le-ltb (length left) 188 h.0) (ap (λ t. Err (NoSync packet t)) h.3 ∙ ap (λ p. Err (NoSync p (size_told p (take 188 left)))) h.2)
 answered packets frames left (Err Read) h k = absurd h
 answered packets frames left (Err Write) h k = absurd h
 
@@ -88,7 +89,7 @@ one_run_law m law = λ t bytes held count_a count_b new_a new_b reader_a reader_
     (leaves_stop _ ra.left a ra.leaves) (leaves_stop _ rb.left b rb.leaves) (sym ra.bytes_are ∙ rb.bytes_are) in
     let answer : a ≡ b =
     answered (length A.packets) (length (fields_of n (stream_of A.packets))) ra.left a ra.leaves (frame_count n bytes A.packets A.fields a ra)
-    ∙ ((λ i. answer_to (length (same.0 i)) (length (fields_of n (stream_of (same.0 i)))) (length (same.1 i)))
+    ∙ ((λ i. answer_to (length (same.0 i)) (length (fields_of n (stream_of (same.0 i)))) (same.1 i))
     ∙ sym (answered (length B.packets) (length (fields_of n (stream_of B.packets))) rb.left b rb.leaves (frame_count n bytes B.packets B.fields b rb))) in
     let fields : B.fields ≡ fields_by n (stream_of A.packets) a =
     rb.fields_are ∙ sym (λ i. fields_by n (stream_of (same.0 i)) (answer i)) in

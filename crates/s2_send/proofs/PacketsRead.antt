@@ -8,6 +8,7 @@ use Rattle.s2_bbframe.specs.DataStream.{IsPacket, stream_of, full_fields, fields
 use Rattle.s2_send.specs.declared.outcome.Counts.{Counts}
 use Rattle.s2_send.specs.declared.outcome.SendFault.{SendFault}
 use Rattle.s2_send.specs.declared.outcome.SendFault.TheVariants.{NotWholePacket, NoSync, Read, Write}
+use Rattle.s2_send.specs.Hints.{size_told}
 use Rattle.s2_send.specs.Transmitter.{Transmitter}
 use Rattle.s2_send.specs.Sending.{joined, Outcome, EndsThere, Begins}
 use Rattle.s2_send.specs.Laws.{NoneFailed}
@@ -49,14 +50,14 @@ same_packets (p ∷ ps) (q ∷ qs) left right all_ps all_qs stop_left stop_right
 abbrev pub Leaves : ℕ → List ℕ → Result Counts SendFault → Type 0
 Leaves packets left (Ok counts) = (left ≡ []) × (counts.packets ≡ packets)
 Leaves packets left (Err NotWholePacket) = (0 < length left) × (length left < 188)
-Leaves packets left (Err (NoSync packet)) = (188 ≤ length left) × (slice_index left 0 ≢ 71) × (packet ≡ packets + 1)
+Leaves packets left (Err (NoSync packet told)) = (188 ≤ length left) × (slice_index left 0 ≢ 71) × (packet ≡ packets + 1) × (told ≡ size_told packet (take 188 left))
 Leaves packets left (Err Read) = ⊥
 Leaves packets left (Err Write) = ⊥
 
 pub leaves_stop : (packets : ℕ) (left : List ℕ) (result : Result Counts SendFault) → Leaves packets left result → Stops left
 leaves_stop packets left (Ok counts) h = inl (omega (arith, ap length h.0))
 leaves_stop packets left (Err NotWholePacket) h = inl h.1
-leaves_stop packets left (Err (NoSync packet)) h = inr h.1
+leaves_stop packets left (Err (NoSync packet told)) h = inr h.1
 leaves_stop packets left (Err Read) h = absurd h
 leaves_stop packets left (Err Write) h = absurd h
 
@@ -92,12 +93,12 @@ reading most size MayFail bytes (Some beyond) packets rest fields (Err NotWholeP
       fields_are = outcome.3;
       frame_count = λ other e. absurd (cc);
     }
-reading most size MayFail bytes (Some beyond) packets rest fields (Err (NoSync packet)) none read ends outcome =
+reading most size MayFail bytes (Some beyond) packets rest fields (Err (NoSync packet told)) none read ends outcome =
     let some : 0 < length rest = omega (arith, outcome.1) in
     record {
       left = rest ++ beyond;
       bytes_are = read ∙ append_assoc (joined packets) rest beyond;
-      leaves = (omega (arith, outcome.1, length-append rest beyond), λ e. outcome.2 (sym (get_or_append_left rest beyond 0 0 some) ∙ e), outcome.3);
+      leaves = (omega (arith, outcome.1, length-append rest beyond), λ e. outcome.2 (sym (get_or_append_left rest beyond 0 0 some) ∙ e), outcome.3, outcome.5 ∙ ap (size_told packet) (sym (take_at rest beyond 188 outcome.1)));
       fields_are = outcome.4;
       frame_count = λ other e. absurd (cc);
     }
@@ -109,6 +110,6 @@ pub none_begun : (t : Transmitter) (reader_new : Option (List ℕ)) (packets fie
     → NoneFailed result → Begins t reader_new packets fields begun result → begun ≡ []
 none_begun t reader_new packets fields begun (Ok counts) none h = h
 none_begun t reader_new packets fields begun (Err NotWholePacket) none h = h
-none_begun t reader_new packets fields begun (Err (NoSync packet)) none h = h
+none_begun t reader_new packets fields begun (Err (NoSync packet told)) none h = h
 none_begun t reader_new packets fields begun (Err Read) none h = h
 none_begun t reader_new packets fields begun (Err Write) none h = absurd (none.1 refl)

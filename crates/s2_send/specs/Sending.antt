@@ -7,7 +7,9 @@ use Rattle.s2_mode.specs.Pieces.{AppendsPart}
 use Rattle.s2_bbframe.specs.Limits.{packet_bytes, sync}
 use Rattle.s2_bbframe.specs.DataStream.{IsPacket, stream_of, full_fields, fields_of, header_at, field_bytes, Slicing, Sliced, IsReady, next_field, after_field, after_packet}
 use Rattle.s2_link.specs.Link.{Link}
-use Rattle.s2_send.specs.Frames.{IsUnitOf}
+use Rattle.s2_send.specs.Frames.{IsCodewordFor, IsUnitOf}
+use Rattle.s2_send.specs.Hints.{size_told}
+use Rattle.s2_send.specs.Sinks.{Taking, TakesCodewords, TakesOrFails}
 use Rattle.s2_send.specs.Transmitter.{Transmitter}
 use Rattle.s2_send.specs.declared.outcome.Counts.{Counts}
 use Rattle.s2_send.specs.declared.outcome.SendFault.{SendFault}
@@ -43,9 +45,9 @@ Outcome most size MayFail packets rest fields (Ok counts) =
     × (counts.packets ≡ length packets) × (counts.frames ≡ length fields)
 Outcome most size MayFail packets rest fields (Err NotWholePacket) =
     (length packets < most) × (0 < length rest) × (length rest < packet_bytes) × (fields ≡ full_fields size (stream_of packets))
-Outcome most size MayFail packets rest fields (Err (NoSync packet)) =
+Outcome most size MayFail packets rest fields (Err (NoSync packet told)) =
     (length packets < most) × (length rest ≡ packet_bytes) × (slice_index rest 0 ≢ sync) × (packet ≡ length packets + 1)
-    × (fields ≡ full_fields size (stream_of packets))
+    × (fields ≡ full_fields size (stream_of packets)) × (told ≡ size_told packet rest)
 Outcome most size MayFail packets rest fields (Err Read) =
     MayFail (length packets) × StopsReading most (length packets) rest × (fields ≡ full_fields size (stream_of packets))
 Outcome most size MayFail packets rest fields (Err Write) = (length packets ≤ most) × (rest ≡ [])
@@ -89,6 +91,35 @@ pub record TransmitterRuns (t : Transmitter) (MayFail : ℕ → Type 0) (reader_
   pub begins : Begins t reader_new packets fields begun result
   pub written : Appends writer_old writer_new (joined units ++ begun)
 
+-- the codewords of consecutive data fields, by the first byte of the first one in the stream
+abbrev pub AreCodewords : Link → ℕ → List (List ℕ) → List (List Bool) → Type 0
+AreCodewords link at [] [] = ⊤
+AreCodewords link at [] (codeword ∷ codewords) = ⊥
+AreCodewords link at (field ∷ fields) [] = ⊥
+AreCodewords link at (field ∷ fields) (codeword ∷ codewords) =
+    IsCodewordFor link.setup.mode link.rows (header_at link.setup.roll_off at field) field codeword
+    × AreCodewords link (at + length field) fields codewords
+
+-- What became of a sink after it took the codewords of the whole units. It is unchanged. But if a write failed, it took the
+-- codeword of the unit that is broken off; or it failed to take that one, and nothing of the unit is written
+abbrev pub EndsTaking : {S : Type 0} → (takes fails : Taking S) → (t : Transmitter) → (reader_new : Option (List ℕ)) → (packets fields : List (List ℕ)) → (begun : List ℕ) → (result : Result Counts SendFault) → Begins t reader_new packets fields begun result → (sink_old sink_new : S) → Type 0
+EndsTaking takes fails t reader_new packets fields begun (Err Write) breaks sink_old sink_new =
+    (codeword : List Bool)
+    × IsCodewordFor t.link.setup.mode t.link.rows (header_at t.link.setup.roll_off (length (joined fields)) breaks.field) breaks.field codeword
+    × (takes sink_old sink_new codeword ⊎ (fails sink_old sink_new codeword × (begun ≡ [])))
+EndsTaking takes fails t reader_new packets fields begun result nothing sink_old sink_new = sink_new ≡ sink_old
+
+-- A run of a transmitter with a sink. It is a run without one. The sink took the codewords of the units that were
+-- written, one after another, each before its unit was written
+pub record RunsWith {S : Type 0} (takes fails : Taking S) (t : Transmitter) (MayFail : ℕ → Type 0) (reader_old reader_new writer_old writer_new : Option (List ℕ)) (sink_old sink_new : S) (result : Result Counts SendFault) : Type 0 where
+  pub run : TransmitterRuns t MayFail reader_old reader_new writer_old writer_new result
+  pub codewords : List (List Bool)
+  pub are_codewords : AreCodewords t.link 0 run.fields codewords
+  -- the sink after the last whole unit
+  pub sink : S
+  pub takes_all : TakesCodewords takes sink_old sink codewords
+  pub ends_taking : EndsTaking takes fails t reader_new run.packets run.fields run.begun result run.begins sink sink_new
+
 -- The next packet was read, and the slicer has it. Or at the reader's end the slicer is closed, and there was no
 -- packet. If the packet is refused, or a read failed, its bytes were read
 abbrev pub AcceptsNext : ℕ → Slicing → Slicing → Option (List ℕ) → Option (List ℕ) → Result Bool SendFault → Type 0
@@ -98,8 +129,9 @@ AcceptsNext behind old new reader_old reader_new (Ok true) =
 AcceptsNext behind old new reader_old reader_new (Ok false) = Consumes reader_old reader_new [] × IsAtEnd reader_new × (new ≡ record old { closed = true })
 AcceptsNext behind old new reader_old reader_new (Err NotWholePacket) =
     (rest : List ℕ) × (0 < length rest) × (length rest < packet_bytes) × Consumes reader_old reader_new rest × IsAtEnd reader_new
-AcceptsNext behind old new reader_old reader_new (Err (NoSync packet)) =
+AcceptsNext behind old new reader_old reader_new (Err (NoSync packet told)) =
     (rest : List ℕ) × (length rest ≡ packet_bytes) × (slice_index rest 0 ≢ sync) × Consumes reader_old reader_new rest × (packet ≡ behind + 1)
+    × (told ≡ size_told packet rest)
 AcceptsNext behind old new reader_old reader_new (Err Read) = (rest : List ℕ) × (length rest < packet_bytes) × Consumes reader_old reader_new rest
 AcceptsNext behind old new reader_old reader_new (Err Write) = ⊥
 
@@ -107,16 +139,25 @@ AcceptsNext behind old new reader_old reader_new (Err Write) = ⊥
 abbrev pub IsNextUnit : Link → Bool → List (List ℕ) → Slicing → List ℕ → Type 0
 IsNextUnit link due fields s unit = IsUnitOf link due (header_at link.setup.roll_off (length (joined fields)) (next_field s)) (next_field s) unit
 
--- the next data field's unit is written exactly if a field can be taken
-abbrev pub SendsNext : Link → Bool → Slicing → Slicing → Option (List ℕ) → Option (List ℕ) → Bool → Type 0
-SendsNext link due old new writer_old writer_new true =
+-- the codeword of the next data field after these fields
+abbrev pub IsNextCodeword : Link → List (List ℕ) → Slicing → List Bool → Type 0
+IsNextCodeword link fields s codeword =
+    IsCodewordFor link.setup.mode link.rows (header_at link.setup.roll_off (length (joined fields)) (next_field s)) (next_field s) codeword
+
+-- the next data field's unit is written exactly if a field can be taken, and the sink took its codeword before
+abbrev pub SendsNext : {S : Type 0} → Taking S → Link → Bool → Slicing → Slicing → (sink_old sink_new : S) → Option (List ℕ) → Option (List ℕ) → Bool → Type 0
+SendsNext takes link due old new sink_old sink_new writer_old writer_new true =
     IsReady old × (new ≡ after_field old)
     × ((packets fields : List (List ℕ)) → Sliced packets fields old → Sliced packets (fields ++ next_field old ∷ []) new
-    × ((unit : List ℕ) × IsNextUnit link due fields old unit × Appends writer_old writer_new unit))
-SendsNext link due old new writer_old writer_new false = (IsReady old → ⊥) × (new ≡ old) × (writer_new ≡ writer_old)
+    × ((unit : List ℕ) × (codeword : List Bool) × IsNextUnit link due fields old unit × IsNextCodeword link fields old codeword
+    × takes sink_old sink_new codeword × Appends writer_old writer_new unit))
+SendsNext takes link due old new sink_old sink_new writer_old writer_new false =
+    (IsReady old → ⊥) × (new ≡ old) × (sink_new ≡ sink_old) × (writer_new ≡ writer_old)
 
--- if that fails, a field could be taken, and a part of its unit is written
-abbrev pub FailsToSend : Link → Bool → Slicing → Option (List ℕ) → Option (List ℕ) → Type 0
-FailsToSend link due old writer_old writer_new =
+-- if that fails, a field could be taken; either the sink failed, or it took the codeword and a part of the unit is written
+abbrev pub FailsToSend : {S : Type 0} → (takes fails : Taking S) → Link → Bool → Slicing → (sink_old sink_new : S) → Option (List ℕ) → Option (List ℕ) → Type 0
+FailsToSend takes fails link due old sink_old sink_new writer_old writer_new =
     IsReady old
-    × ((packets fields : List (List ℕ)) → Sliced packets fields old → ((unit : List ℕ) × IsNextUnit link due fields old unit × AppendsPart unit writer_old writer_new))
+    × ((packets fields : List (List ℕ)) → Sliced packets fields old → ((unit : List ℕ) × (codeword : List Bool)
+    × IsNextUnit link due fields old unit × IsNextCodeword link fields old codeword
+    × TakesOrFails takes fails codeword unit sink_old sink_new writer_old writer_new))

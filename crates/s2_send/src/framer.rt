@@ -5,10 +5,12 @@ ghost use Rattle.s2_mode.specs.Counts.{CanCount, CountsFault};
 ghost use Rattle.s2_mode.specs.Pieces.{AppendsPart};
 ghost use Rattle.s2_bbframe.specs.DataStream.{field_bytes};
 ghost use Rattle.s2_link.specs.Limits.{max_roll_off};
-ghost use Rattle.s2_send.specs.Frames.{IsFrameOf, IsUnitOf, WritesSome, dummy_bytes};
+ghost use Rattle.s2_send.specs.Frames.{IsCodewordFor, IsFrameOf, IsUnitOf, WritesSome, dummy_bytes};
+ghost use Rattle.s2_send.specs.Sinks.{CountsEither, TakesSome};
 
 use crate::coder::Coder;
 use crate::modulator::Modulator;
+use crate::sinks::SendSink;
 use s2_bbframe::Header;
 use s2_link::{Link, RollOff};
 use s2_mode::{CountedWrite, WriteFault, write_full};
@@ -86,7 +88,29 @@ impl<'a> Framer<'a> {
         ensures cause { CountsFault (W.count writer.old) (W.count writer.new) result }
         ensures same { self.new ≡ self.old }
     {
+        self.write_frame_with(header, field, &mut (), writer)
+    }
+
+    /// The same, with a sink that takes the frame's codeword before the frame is written. The fault also comes if the
+    /// sink failed; then nothing is written.
+    pub fn write_frame_with<K: SendSink, W: CountedWrite>(
+        &mut self,
+        header: &Header,
+        field: &[u8],
+        sink: &mut K,
+        writer: &mut W,
+    ) -> Result<(), WriteFault>
+        requires sink { CanCount (K.count sink.old) }
+        requires count { CanCount (W.count writer.old) }
+        requires roll_off { header.now.roll_off ≤ 3 }
+        requires size { length field.now ≤ field_bytes self.old.setup.mode }
+        ensures frame { TakesSome K.takes K.fails (IsCodewordFor self.old.setup.mode self.old.rows header.now field.now)
+            (IsFrameOf self.old header.now field.now) sink.old sink.new (W.contents writer.old) (W.contents writer.new) result }
+        ensures cause { CountsEither (W.count writer.old) (W.count writer.new) (K.count sink.old) (K.count sink.new) result }
+        ensures same { self.new ≡ self.old }
+    {
         self.coder.encode(header, field);
+        sink.take(self.coder.codeword())?;
         self.modulator.modulate(self.coder.codeword());
         write_full(writer, self.modulator.bytes())
     }
@@ -120,7 +144,28 @@ impl<'a> Framer<'a> {
         ensures cause { CountsFault (W.count writer.old) (W.count writer.new) result }
         ensures same { self.new ≡ self.old }
     {
-        self.write_frame(header, field, writer)?;
+        self.write_unit_with(header, field, due, &mut (), writer)
+    }
+    /// The same, with a sink that takes the frame's codeword before the unit is written. The fault also comes if the sink
+    /// failed; then nothing is written.
+    pub fn write_unit_with<K: SendSink, W: CountedWrite>(
+        &mut self,
+        header: &Header,
+        field: &[u8],
+        due: bool,
+        sink: &mut K,
+        writer: &mut W,
+    ) -> Result<(), WriteFault>
+        requires sink { CanCount (K.count sink.old) }
+        requires count { CanCount (W.count writer.old) }
+        requires roll_off { header.now.roll_off ≤ 3 }
+        requires size { length field.now ≤ field_bytes self.old.setup.mode }
+        ensures unit { TakesSome K.takes K.fails (IsCodewordFor self.old.setup.mode self.old.rows header.now field.now)
+            (IsUnitOf self.old due header.now field.now) sink.old sink.new (W.contents writer.old) (W.contents writer.new) result }
+        ensures cause { CountsEither (W.count writer.old) (W.count writer.new) (K.count sink.old) (K.count sink.new) result }
+        ensures same { self.new ≡ self.old }
+    {
+        self.write_frame_with(header, field, sink, writer)?;
         if due {
             self.write_dummy(writer)?;
         }

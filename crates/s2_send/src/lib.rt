@@ -10,7 +10,10 @@
 //! the packets are faulty, or if a read or a write failed. It leaves exactly the frames of the full fields of the
 //! packets accepted before. Only after a failed write there may be fewer, and a part of the next one.
 //! [`Transmitter::limit`] sets the most packets of a run. [`Transmitter::dummy_every`] sets after how many frames
-//! a dummy frame is sent.
+//! a dummy frame is sent. A refused packet may tell that packets have 192 or 204 bytes: [`SendFault::hint`] says what
+//! to do then.
+//!
+//! [`Transmitter::run_with`] also gives the codeword of each frame to a [`SendSink`], before the frame is written.
 //!
 //! The stages can be used by themselves. [`frame_bits_into`] writes the bits of a header and its data field.
 //! [`Coder`] makes their codeword, and [`Modulator`] the bytes of a codeword's symbols. [`Framer`] does both: it
@@ -30,12 +33,14 @@ pub mod laws;
 mod modulator;
 mod outcome;
 mod sending;
+mod sinks;
 mod transmitter;
 
 pub use bits::frame_bits_into;
 pub use coder::Coder;
 pub use framer::Framer;
 pub use modulator::Modulator;
-pub use outcome::{Counts, SendFault};
+pub use outcome::{Counts, PacketSize, SendFault};
 pub use sending::MAX_PACKETS;
+pub use sinks::SendSink;
 pub use transmitter::Transmitter;

@@ -1,14 +1,16 @@
 //! The transmitter: packets in, symbols out.
 ghost use Rattle.std.specs.Prelude.{◌≡◌, ◌≢◌, ◌+◌, ◌<◌, ◌≤◌, Err, IfOk, IsErrOf};
 ghost use Rattle.s2_mode.specs.Counts.{CanCount};
+ghost use Rattle.s2_mode.specs.Streams.{NoneFailed, OneFailed};
 ghost use Rattle.s2_send.specs.Limits.{max_packets};
 ghost use Rattle.s2_send.specs.Transmitter.{TransmitterAnswers, new_transmitter};
-ghost use Rattle.s2_send.specs.Sending.{TransmitterRuns};
+ghost use Rattle.s2_send.specs.Sending.{RunsWith, TransmitterRuns};
 ghost use Rattle.s2_send.specs.Laws.{ReadFails};
 
 use crate::framer::Framer;
 use crate::outcome::{Counts, SendFault};
 use crate::sending::{MAX_PACKETS, Plan, send_all};
+use crate::sinks::SendSink;
 use s2_bbframe::{Slicer, field_bytes};
 use s2_link::{Link, Setup, SetupFault};
 use s2_matrix::Matrix;
@@ -134,13 +136,39 @@ impl<'a> Transmitter<'a> {
         ensures no_write { result ≢ Err SendFault.Write → W.count writer.new ≡ W.count writer.old }
         ensures same { self.new ≡ self.old }
     {
+        self.run_with(reader, &mut (), writer)
+    }
+
+    /// The same, with a sink that takes the codeword of each frame before the frame's symbols are written, and no dummy
+    /// frame. `Write` also means that the sink failed. Then it took the codewords of all frames before, and nothing of the
+    /// frame whose codeword it did not take is written. After a failed write of symbols it took the codeword of that frame
+    /// too. In every other case it took the codewords of exactly the frames that were written.
+    pub fn run_with<K: SendSink, R: CountedRead, W: CountedWrite>(
+        &mut self,
+        input: &mut R,
+        sink: &mut K,
+        output: &mut W,
+    ) -> Result<Counts, SendFault>
+        requires reader { CanCount (R.count input.old) }
+        requires sink { CanCount (K.count sink.old) }
+        requires writer { CanCount (W.count output.old) }
+        ensures runs { RunsWith K.takes K.fails self.old (ReadFails self.old.limit (R.count input.old) (R.count input.new))
+            (R.remaining input.old) (R.remaining input.new) (W.contents output.old) (W.contents output.new) sink.old sink.new result }
+        ensures no_read { result ≢ Err SendFault.Read → R.count input.new ≡ R.count input.old }
+        ensures write { IsErrOf result SendFault.Write
+            → OneFailed (W.count output.old) (W.count output.new) (K.count sink.old) (K.count sink.new) }
+        ensures no_write { result ≢ Err SendFault.Write
+            → NoneFailed (W.count output.old) (W.count output.new) (K.count sink.old) (K.count sink.new) }
+        ensures same { self.new ≡ self.old }
+    {
         send_all(
             &mut self.framer,
             &mut self.slicer,
             &mut self.field,
             self.plan,
-            reader,
-            writer,
+            input,
+            sink,
+            output,
         )
     }
 }

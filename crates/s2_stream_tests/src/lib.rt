@@ -12,6 +12,8 @@ mod bbframe_tests;
 #[cfg(test)]
 mod core_tests;
 #[cfg(test)]
+mod figures_tests;
+#[cfg(test)]
 mod plframe_tests;
 #[cfg(test)]
 mod receive_tests;

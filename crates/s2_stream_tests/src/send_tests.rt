@@ -9,7 +9,7 @@ use s2_bits::Bits;
 use s2_link::{Setup, SetupFault};
 use s2_mode::{ByOne, DUMMY_SYMBOLS, Endless, Mode};
 use s2_scramble::bb_xor_in_place;
-use s2_send::{Counts, SendFault, Transmitter, frame_bits_into};
+use s2_send::{Counts, PacketSize, SendFault, Transmitter, frame_bits_into};
 use std::alloc::{AllocError, Global};
 use std::process::Abort;
 use std::test::Fail;
@@ -93,7 +93,10 @@ fn assert_run<A: Abort>(
 fn assert_begins_anew<A: Abort>(rt: &A, alloc: Global, transmitter: &mut Transmitter<'_>) {
     let mut no_sync = [0x47; 376];
     no_sync[188] = 0x48;
-    let refused = Err(SendFault::NoSync { packet: 2 });
+    let refused = Err(SendFault::NoSync {
+        packet: 2,
+        size: PacketSize::Has204,
+    });
     assert_run(rt, alloc, transmitter, &no_sync, (refused, 0));
     let refused = Err(SendFault::NotWholePacket);
     assert_run(rt, alloc, transmitter, &[0x47; 187], (refused, 0));
@@ -368,7 +371,13 @@ fn prints_setup_faults(rt: HostRuntime) -> Result<(), Fail> {
 fn prints_send_faults(rt: HostRuntime) -> Result<(), Fail> {
     let texts = [
         (SendFault::NotWholePacket, "not a whole packet"),
-        (SendFault::NoSync { packet: 12 }, "no sync in packet 12"),
+        (
+            SendFault::NoSync {
+                packet: 12,
+                size: PacketSize::Unknown,
+            },
+            "no sync in packet 12",
+        ),
         (SendFault::Read, "cannot read"),
         (SendFault::Write, "cannot write"),
     ];

@@ -1,20 +1,20 @@
 //! A receiver with a made-up decider, for tests. It takes frames of 8PSK 3/5 in short frames, with or without the
 //! results of a code. The first symbol after a frame's header gives its content; its field has 100 bytes of zeros.
 //! As in `streams`, calls with a large contract are made only here in the tests.
-ghost use Rattle.std.specs.Prelude.{◌≡◌, ◌+◌, ◌≤◌, IfOk, IsTrue, length};
+ghost use Rattle.std.specs.Prelude.{◌≡◌, ◌+◌, ◌/◌, ◌<◌, ◌≤◌, IfOk, IfSome, IsTrue, length};
 ghost use Rattle.std.specs.Io.KnownBytes.{Appends};
 ghost use Rattle.s2_mode.specs.Counts.{CanCount};
 ghost use Rattle.s2_mode.specs.Pieces.{AppendsPart};
 ghost use Rattle.s2_mode.specs.Limits.{max_symbols};
 ghost use Rattle.s2_receive.specs.Receiving.{IsLive, begun};
 ghost use Rattle.s2_receive.specs.Sinks.{wanted_count};
-ghost use Rattle.s2_stream_tests.specs.Toy.{content_of, note_for, part_for};
+ghost use Rattle.s2_stream_tests.specs.Toy.{content_of, energy_for, figures_for, header_for, note_for, outcome_for, part_for, place_for, verdict_for};
 
 use super::streams::{
     ALL, Fed, Heard, Reader, Source, Steps, Writer, header_of, put_symbol, reader_of, taken,
     writer_of,
 };
-use s2_bbframe::Header;
+use s2_bbframe::{Header, HeaderFault};
 use s2_bits::Bits;
 use s2_check::Verdict;
 use s2_mode::{
@@ -22,8 +22,8 @@ use s2_mode::{
 };
 use s2_plframe::Lock;
 use s2_receive::{
-    Decide, Decided, Fault, Frame, Outcome, Received, Receiver, Report, Sink, Step, Totals,
-    receive_all, receive_bytes, receive_with,
+    Decide, Decided, Fault, Figures, Frame, Outcome, Received, Receiver, Report, Sink, Step, Tally,
+    Totals, receive_all, receive_bytes, receive_with,
 };
 use std::alloc::{AllocError, Global};
 use std::test::Fail;
@@ -38,13 +38,71 @@ const CODED_CODE: u64 = 0x8192_73C6_A34D_DDF5;
 
 const DUMMY_CODE: u64 = 0x719D_83C9_5342_2DFA;
 
-/// Decides by a frame's content: below 0 nothing, else a field whose header names a place.
+/// The figures of a frame that is lost, of one that is delivered, and of one whose header is refused.
+pub(crate) const LOST: Figures = Figures {
+    header: 11,
+    rounds: 50,
+    changed: Tally {
+        sum: 1204,
+        of: 16200,
+    },
+    known: Tally { sum: 8100, of: 90 },
+    payload: Tally {
+        sum: 700_000,
+        of: 5400,
+    },
+};
+
+pub(crate) const FOUND: Figures = Figures {
+    header: 2,
+    rounds: 5,
+    changed: Tally { sum: 37, of: 16200 },
+    known: Tally { sum: 900, of: 90 },
+    payload: Tally {
+        sum: 54_321,
+        of: 5400,
+    },
+};
+
+pub(crate) const REFUSED: Figures = Figures {
+    header: 0,
+    rounds: 0,
+    changed: Tally { sum: 0, of: 16200 },
+    known: Tally {
+        sum: u64::MAX,
+        of: 90,
+    },
+    payload: Tally { sum: 0, of: 5400 },
+};
+
+/// The figures by a frame's content.
+fn figures_for(content: i16) -> Figures
+    ensures { result ≡ figures_for content }
+{
+    if content < 0 {
+        LOST
+    } else if content < 10 {
+        FOUND
+    } else {
+        REFUSED
+    }
+}
+
+/// The energy of its header.
+fn energy_for(content: i16) -> u64
+    ensures { result ≡ energy_for content }
+{
+    if content < 10 { 7 } else { u64::MAX }
+}
+
+/// Decides by a frame's content: below 0 nothing, below 10 a field whose header names a place, else a refused header.
 #[derive(Drop)]
 pub(crate) struct HalfPackets {
     mode: Mode,
     word: Bits,
     field: [u8; 100],
     content: i16,
+    figured: bool,
 }
 
 /// The content of a frame: Q of its first symbol after the header.
@@ -54,39 +112,80 @@ fn content_of(symbols: &[Symbol]) -> i16
     if symbols.len() > 90 { symbols[90].q } else { 0 }
 }
 
+/// The verdict and the outcome by a frame's content.
+fn verdict_and_outcome(content: i16) -> (Verdict, Outcome)
+    ensures verdict { result.0 ≡ verdict_for content }
+    ensures outcome { result.1 ≡ outcome_for content }
+{
+    if content < 0 {
+        (Verdict::Broken, Outcome::NoWord)
+    } else if content < 10 {
+        (Verdict::MostLikely, Outcome::Delivered { fixed: 0 })
+    } else {
+        (Verdict::MostLikely, Outcome::BadHeader(HeaderFault::BadCrc))
+    }
+}
+
+/// The place that the header of a delivered message names.
+fn place_for(content: i16) -> Option<u16>
+    ensures is { result ≡ place_for content }
+    ensures inside { IfSome result (λ place. place / 8 < 100) }
+{
+    if content < 0 {
+        None
+    } else if content < 2 {
+        Some(0)
+    } else if content < 10 {
+        Some(704)
+    } else {
+        None
+    }
+}
+
+/// The header of a delivered message.
+fn header_for(content: i16) -> Option<Header>
+    ensures is { result ≡ header_for content }
+    ensures inside { IfSome result (λ header. header.syncd / 8 < 100) }
+{
+    match place_for(content) {
+        None => None,
+        Some(syncd) => Some(Header {
+            roll_off: 0,
+            second: 0,
+            dfl: 800,
+            syncd,
+        }),
+    }
+}
+
 impl Decide for HalfPackets {
     ghost use Rattle.s2_mode.specs.Mode.{symbols_in};
-    ghost use Rattle.s2_stream_tests.specs.Toy.{content_of, place_for, decision_for};
+    ghost use Rattle.s2_stream_tests.specs.Toy.{content_of, decision_for};
 
     ghost size = { λ d. symbols_in d.mode };
 
-    ghost decide = { λ d symbols. decision_for d.word d.field (place_for (content_of symbols)) };
+    ghost decide = { λ d symbols. decision_for d.figured d.word d.field (content_of symbols) };
 
     ghost field = { λ d. d.field };
 
-    ghost last = { λ d. decision_for d.word d.field (place_for d.content) };
+    ghost last = { λ d. decision_for d.figured d.word d.field d.content };
 
     fn decide(&mut self, symbols: &[Symbol]) {
         self.content = content_of(symbols);
     }
 
     fn decided(&self) -> Decided {
-        if self.content < 0 {
-            return Decided {
-                verdict: Verdict::Broken,
-                outcome: Outcome::NoWord,
-                header: None,
-            };
-        }
+        let (verdict, outcome) = verdict_and_outcome(self.content);
         Decided {
-            verdict: Verdict::MostLikely,
-            outcome: Outcome::Delivered { fixed: 0 },
-            header: Some(Header {
-                roll_off: 0,
-                second: 0,
-                dfl: 800,
-                syncd: if self.content < 2 { 0 } else { 704 },
-            }),
+            verdict,
+            outcome,
+            header: header_for(self.content),
+            figures: if self.figured {
+                Some(figures_for(self.content))
+            } else {
+                None
+            },
+            energy: energy_for(self.content),
         }
     }
 
@@ -109,8 +208,17 @@ impl Decide for HalfPackets {
 /// A receiver of these frames.
 pub(crate) type Toy = Receiver<HalfPackets>;
 
-/// A receiver that takes at most this number of symbols.
+/// A receiver that takes at most this number of symbols, without figures.
 pub(crate) fn toy(alloc: Global, limit: u64) -> Result<Toy, Fail>
+    requires { limit ≤ MAX_SYMBOLS }
+    ensures limit { IfOk result (λ r. r.limit ≡ limit) }
+    ensures begun { IfOk result (λ r. r.state ≡ begun) }
+{
+    toy_with(alloc, limit, false)
+}
+
+/// The same with or without figures.
+fn toy_with(alloc: Global, limit: u64, figured: bool) -> Result<Toy, Fail>
     requires { limit ≤ MAX_SYMBOLS }
     ensures limit { IfOk result (λ r. r.limit ≡ limit) }
     ensures begun { IfOk result (λ r. r.state ≡ begun) }
@@ -121,6 +229,7 @@ pub(crate) fn toy(alloc: Global, limit: u64) -> Result<Toy, Fail>
         word: Bits::zeroed(alloc, 24)?,
         field: [0; 100],
         content: 0,
+        figured,
     };
     Ok(Receiver::new(alloc, mode, Lock::usual(), decider, limit)?)
 }
@@ -166,6 +275,7 @@ pub(crate) fn frame(number: u64, at: u64) -> Step {
         at,
         verdict: Verdict::MostLikely,
         outcome: Outcome::Delivered { fixed: 0 },
+        figures: None,
     })
 }
 
@@ -176,7 +286,30 @@ pub(crate) fn lost(number: u64, at: u64) -> Step {
         at,
         verdict: Verdict::Broken,
         outcome: Outcome::NoWord,
+        figures: None,
     })
+}
+
+/// A frame with a message whose header is refused.
+pub(crate) fn refused(number: u64, at: u64) -> Step {
+    Step::Frame(Report {
+        number,
+        at,
+        verdict: Verdict::MostLikely,
+        outcome: Outcome::BadHeader(HeaderFault::BadCrc),
+        figures: None,
+    })
+}
+
+/// A step with figures, if it is a frame.
+pub(crate) fn figured(step: Step, figures: Figures) -> Step {
+    match step {
+        Step::Frame(report) => Step::Frame(Report {
+            figures: Some(figures),
+            ..report
+        }),
+        Step::Cut { .. } | Step::End => step,
+    }
 }
 
 /// The totals of a stream in which nothing was lost but frames.
@@ -191,6 +324,9 @@ pub(crate) fn totals(frames: u64, delivered: u64, packets: u64) -> Totals {
         skipped: 0,
         places: 0,
         first: 0,
+        refused: 0,
+        energy: frames.saturating_mul(7),
+        sums: None,
     }
 }
 
@@ -309,6 +445,14 @@ pub(crate) fn take_within(alloc: Global, limit: u64, source: Source<'_>) -> Resu
 /// Calls a new receiver five times.
 pub(crate) fn take(alloc: Global, source: Source<'_>) -> Result<Taken, Fail> {
     take_within(alloc, MAX_SYMBOLS, source)
+}
+
+/// Calls a new receiver of frames with figures five times.
+pub(crate) fn take_figured(alloc: Global, source: Source<'_>) -> Result<Taken, Fail> {
+    match toy_with(alloc, MAX_SYMBOLS, true) {
+        Ok(mut receiver) => Ok(taken_by(alloc, &mut receiver, source)),
+        Err(fault) => Err(fault),
+    }
 }
 
 /// Runs a receiver to the end of its input.

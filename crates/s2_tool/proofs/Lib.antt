@@ -2,3 +2,6 @@ pub mod Names
 pub mod LinkLemmas
 pub mod NoteLemmas
 pub mod ReceiveLemmas
+pub mod SentLemmas
+pub mod HearingLemmas
+pub mod SeedLemmas

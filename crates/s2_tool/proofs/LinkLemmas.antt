@@ -1,12 +1,8 @@
 -- A command on a link, or on none: a setup, and its row file that is read by this shape.
-use Rattle.s2_tool.proofs.Names.{◌≡◌, ◌≢◌, ◌+◌, ◌∙◌, Bool, false, ℕ, Result, Ok, Err, IfSome, ap, refl, subst, inl, inr, shape_in, max_symbols, Streams, Rows, Link, link_of, Setup, Tuning, Receiver, IsNew, rules_for, link_rules, Received, Taking, Transmitter, new_transmitter, RunWords, Exit, Fault, Follows, rows_in, Files, Begins, Causes, LinkCommand, DoesOn, OnLink, Ends, BeginsWith, CausesWith, ReceivesToEnd, Demodulates, SendsBy, transmitter_on, Modulates, LoopsBy, Loops}
+use Rattle.s2_tool.proofs.Names.{◌≡◌, ◌≢◌, ◌+◌, ◌∙◌, Bool, false, ℕ, Result, Ok, Err, IfSome, ap, refl, subst, inl, inr, shape_in, max_symbols, Rows, Link, link_of, Setup, Tuning, Receiver, IsNew, rules_for, link_rules, Received, Taking, Transmitter, new_transmitter, RunWords, Exit, Fault, Follows, rows_in, Files, LinkCommand, DoesOn, OnLink, Ends, BeginsWith, CausesWith, ReceivesToEnd, Demodulates, Sent, SentTaking, SendsBy, transmitter_on, Modulates, LoopsBy, Loops}
 use Rattle.s2_tool.proofs.Names.faults
 
 -- nothing failed that is counted
-pub none_failed : {T : Type 0} (f : Fault) (old : Streams) → f ≢ faults.Write → Causes {T = T} old old (Err f)
-none_failed f old no_write = record { no_read = λ e. refl; write_reported = λ e. absurd (no_write cc); no_write = λ e. (refl, refl) }
-
--- the same with sinks
 pub none_failed_with : {K T : Type 0} (count : K → ℕ) (f : Fault) (old : Ends K) → f ≢ faults.Write → CausesWith {K = K} {T = T} count old old (Err f)
 none_failed_with count f old no_write = record { no_read = λ e. refl; write_reported = λ e. absurd (no_write cc); no_write = λ e. ((refl, refl), refl) }
 
@@ -49,7 +45,7 @@ module _ {E T : Type 0} (Does : LinkCommand E T) (Counted : (old new : E) → Re
       on_rows rows link old old (Err faults.NoMemory) read noted linked whole (inr (unbegun, refl, refl)) (counted (λ e. absurd cc))
 
 -- the rules of a new receiver of a link
-new_rules : (link : Link) (tuning : Tuning) (r : Receiver) → IsNew link tuning r → rules_for r ≡ link_rules link tuning max_symbols
+pub new_rules : (link : Link) (tuning : Tuning) (r : Receiver) → IsNew link tuning r → rules_for r ≡ link_rules link tuning max_symbols
 new_rules link tuning r new = rw (new.link_is, new.tuning_is, new.limit) refl
 
 -- a new transmitter on a link, which was told to send dummy frames
@@ -63,13 +59,13 @@ receives_on takes fails link tuning r made begun old new ended h =
     inl (subst (λ rules. BeginsWith (ReceivesToEnd takes fails rules) begun old new ended) (new_rules link tuning r made) h)
 
 -- a new transmitter on a link sends
-pub sends_on : (link : Link) (dummy : ℕ) (made told : Transmitter) → made ≡ new_transmitter link → told ≡ record made { dummy_every = dummy } → (begun : Bool) (old new : Streams) (ended : Result Exit Fault)
-    → Begins (SendsBy told) begun old new ended → DoesOn (Modulates dummy) (Ok link) begun old new ended
-sends_on link dummy made told is set begun old new ended h = inl (subst (λ t. Begins (SendsBy t) begun old new ended) (told_transmitter link dummy made told is set) h)
+pub sends_on : {K : Type 0} (takes fails : SentTaking K) (link : Link) (dummy : ℕ) (made told : Transmitter) → made ≡ new_transmitter link → told ≡ record made { dummy_every = dummy } → (begun : Bool) (old new : Ends K) (ended : Result (Sent Exit) Fault)
+    → BeginsWith (SendsBy takes fails told) begun old new ended → DoesOn (Modulates takes fails dummy) (Ok link) begun old new ended
+sends_on takes fails link dummy made told is set begun old new ended h =
+    inl (subst (λ t. BeginsWith (SendsBy takes fails t) begun old new ended) (told_transmitter link dummy made told is set) h)
 
--- a new transmitter on a link sends, and a new receiver of it receives
-pub loops_on : {K : Type 0} (takes fails : Taking K) (link : Link) (words : RunWords) (made told : Transmitter) (r : Receiver) → made ≡ new_transmitter link → told ≡ record made { dummy_every = words.dummy } → IsNew link words.tuning r
-    → (begun : Bool) (old new : Ends K) (ended : Result Received Fault) → LoopsBy takes fails told (rules_for r) words.channel begun old new ended → DoesOn (Loops takes fails words) (Ok link) begun old new ended
-loops_on takes fails link words made told r is set new_is begun old new ended h =
-    let by_rules = subst (λ rules. LoopsBy takes fails told rules words.channel begun old new ended) (new_rules link words.tuning r new_is) h in
-    inl (subst (λ t. LoopsBy takes fails t (link_rules link words.tuning max_symbols) words.channel begun old new ended) (told_transmitter link words.dummy made told is set) by_rules)
+-- a new transmitter on a link sends, and what becomes of its symbols is received on the link
+pub loops_on : {K : Type 0} (takes fails : Taking K) (link : Link) (words : RunWords) (made told : Transmitter) → made ≡ new_transmitter link → told ≡ record made { dummy_every = words.dummy }
+    → (begun : Bool) (old new : Ends K) (ended : Result (Sent Received) Fault) → LoopsBy takes fails told (link_rules link words.tuning max_symbols) words.channel words.seeds begun old new ended → DoesOn (Loops takes fails words) (Ok link) begun old new ended
+loops_on takes fails link words made told is set begun old new ended h =
+    inl (subst (λ t. LoopsBy takes fails t (link_rules link words.tuning max_symbols) words.channel words.seeds begun old new ended) (told_transmitter link words.dummy made told is set) h)

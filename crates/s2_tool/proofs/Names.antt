@@ -1,10 +1,10 @@
 -- The names that the proofs of this crate cite, passed on from one place. Declares nothing.
-pub use Rattle.std.proofs.Common.{◌≡◌, ℕ, ◌+◌, ◌<◌, ◌≤◌, ◌≢◌, ◌⊎◌, Bool, false, List, [], ◌∷◌, ◌++◌, IfSome, IfOk, Some, None, Ok, Err, Option, Result, sym, refl, ap, subst, ◌∙◌, inl, inr, arith, rules}
+pub use Rattle.std.proofs.Common.{◌≡◌, ℕ, suc, ◌+◌, ◌-◌, ◌<◌, ◌≤◌, ◌≢◌, ◌⊎◌, Bool, false, List, [], ◌∷◌, ◌++◌, IfSome, IfOk, Some, None, Ok, Err, Option, Result, sym, refl, ap, subst, ◌∙◌, inl, inr, arith, rules}
 pub use Rattle.std.proofs.lemmas.Option.{IfSome_then}
 pub use Rattle.std.proofs.lemmas.Result.{err_from_is_err_and}
 pub use Rattle.std.specs.Io.KnownBytes.{Appends}
 pub use Rattle.s2_mode.specs.Mode.{Mode, shape_in}
-pub use Rattle.s2_mode.specs.Streams.{Streams, streams_by}
+pub use Rattle.s2_mode.specs.Streams.{NoneFailed, OneFailed, Streams, streams_by}
 pub use Rattle.s2_console.proofs.CommandLemmas.{told}
 pub use Rattle.s2_console.specs.Exits.{Follows, exit_of}
 pub use Rattle.s2_console.specs.Faults.{fault_line}
@@ -23,15 +23,30 @@ pub use Rattle.s2_mode.specs.Limits.{max_symbols}
 pub use Rattle.s2_link.specs.Tuning.{Tuning}
 pub use Rattle.s2_modem.specs.Reception.{Receiver, IsNew, link_rules, rules_for}
 pub use Rattle.s2_send.specs.Transmitter.{Transmitter, new_transmitter}
+pub use Rattle.s2_words.specs.declared.request.ChannelWords.{ChannelWords}
 pub use Rattle.s2_words.specs.declared.request.RunWords.{RunWords}
-pub use Rattle.s2_tool.specs.Links.{Begins, Causes, LinkCommand, DoesOn, OnLink, link_on}
+pub use Rattle.s2_words.specs.declared.request.Seeds.{Seeds}
+pub use Rattle.s2_tool.specs.Links.{LinkCommand, DoesOn, OnLink, link_on}
 pub use Rattle.s2_mode.specs.declared.stream_fault.StreamFault.{StreamFault}
 pub use Rattle.s2_receive.specs.Receiving.{Rules, State, begun}
 pub use Rattle.s2_receive.specs.Sinks.{Taking, RunAnswersWith}
-pub use Rattle.s2_tool.specs.Ends.{Ends, BeginsWith, CausesWith}
-pub use Rattle.s2_tool.specs.Looping.{Loops, LoopsBy}
+pub use Rattle.s2_tool.specs.Ends.{Ends, ends_of, BeginsWith, CausesWith}
+pub use Rattle.s2_tool.specs.Hearing.{ReceivesNoisy, ReceivesWithNoise, written_by}
+pub use Rattle.s2_tool.specs.Looping.{FinishesRun, Loops, LoopsBy, ReceivesRuns}
 pub use Rattle.s2_tool.specs.Losses.{Finishes, exit_by, notes_of}
+unfoldable pub use Rattle.s2_tool.specs.Losses.{amplitude_start}
+unfoldable pub use Rattle.s2_tool.specs.Refusals.{packet_note}
 pub use Rattle.s2_tool.specs.Receptions.{Demodulates, ReceivesToEnd}
-pub use Rattle.s2_tool.specs.Sending.{Modulates, SendsBy, transmitter_on}
+pub use Rattle.s2_tool.specs.Seeding.{FailsSeed, HearsRange, HearsSeed}
+unfoldable pub use Rattle.s2_tool.specs.Seeding.{HearsSeeds}
+pub use Rattle.s2_tool.specs.Sums.{nothing_received, received_sum, seeds_in}
+pub use Rattle.s2_send.specs.Sinks.{Taking as SentTaking}
+pub use Rattle.s2_tool.specs.Refusals.{Sent, refusal_fault, refusal_note, refused_by, sent_by}
+pub use Rattle.s2_send.specs.declared.outcome.Counts.{Counts}
+pub use Rattle.s2_send.specs.declared.outcome.SendFault.{SendFault}
+pub use Rattle.s2_table.specs.Wanted.{fault_note}
+pub use Rattle.std.specs.Prelude.{if◌then◌else◌, IsErrOf, OnOk, drop, codes, decimal}
+pub use Rattle.s2_tool.specs.Sending.{Concludes, Modulates, SendsBy, transmitter_on}
 pub use Rattle.s2_console.specs.declared.fault.Fault.TheVariants as faults
 pub use Rattle.s2_mode.specs.declared.stream_fault.StreamFault.TheVariants as stream_faults
+pub use Rattle.s2_send.specs.declared.outcome.SendFault.TheVariants as refusals

@@ -1,5 +1,5 @@
 -- Notes after a report.
-use Rattle.s2_tool.proofs.Names.{◌≡◌, ℕ, ◌<◌, List, [], ◌∷◌, ◌++◌, Ok, Err, Result, refl, sym, subst, ◌∙◌, arith, Appends, Exit, Fault, Screen, Remarks, fault_line, Mode, NoteWords, Received, Finishes}
+use Rattle.s2_tool.proofs.Names.{◌≡◌, ℕ, ◌<◌, List, [], ◌∷◌, ◌++◌, Ok, Err, Result, refl, sym, subst, ◌∙◌, arith, Appends, Exit, Fault, Screen, Remarks, fault_line, Bool, Mode, NoteWords, Received, Sent, Finishes, FinishesRun, Concludes, refusal_fault, refusal_note, fault_note, if◌then◌else◌}
 
 -- if two lists together are empty, each is (the first part shows `grind` which lists are meant)
 pub both_empty : (xs ys : List ℕ) → xs ++ ys ≡ [] → (xs ++ ys ≡ []) × (xs ≡ []) × (ys ≡ [])
@@ -37,3 +37,19 @@ finishes_from words m reception exit old mid new same count h =
       answered = h.answered;
       remarks = remarks_from h.notes h.ended old mid new same count h.remarks;
     }
+
+-- so a command that heard this does
+pub finishes_run_from : (words : NoteWords) (m : Mode) (ended : Result (Sent Received) Fault) (exit : Exit) (old mid new : Screen) → mid.errors ≡ old.errors → mid.errors_failed ≡ old.errors_failed
+    → FinishesRun words m ended exit mid new → FinishesRun words m ended exit old new
+finishes_run_from words m (Ok (Ok received)) exit old mid new same count h = finishes_from words m (Ok received) exit old mid new same count h
+finishes_run_from words m (Ok (Err refusal)) exit old mid new same count h =
+    (h.0, remarks_from (if words.quiet then [] else refusal_note refusal) (Err (refusal_fault refusal)) old mid new same count h.1)
+finishes_run_from words m (Err f) exit old mid new same count h = finishes_from words m (Err f) exit old mid new same count h
+
+-- and so a command that sent
+pub concludes_from : (quiet : Bool) (m : Mode) (ended : Result (Sent Exit) Fault) (exit : Exit) (old mid new : Screen) → mid.errors ≡ old.errors → mid.errors_failed ≡ old.errors_failed
+    → Concludes quiet m ended exit mid new → Concludes quiet m ended exit old new
+concludes_from quiet m (Ok (Ok made)) exit old mid new same count h = (h.0, remarks_from [] (Ok made) old mid new same count h.1)
+concludes_from quiet m (Ok (Err refusal)) exit old mid new same count h =
+    (h.0, remarks_from (if quiet then [] else refusal_note refusal) (Err (refusal_fault refusal)) old mid new same count h.1)
+concludes_from quiet m (Err f) exit old mid new same count h = (h.0, remarks_from (if quiet then [] else fault_note m f) (Err f) old mid new same count h.1)

@@ -1,8 +1,12 @@
 pub mod Links
 pub mod Losses
+pub mod Refusals
 pub mod Sending
 pub mod AddingNoise
 pub mod Receptions
+pub mod Hearing
+pub mod Sums
+pub mod Seeding
 pub mod Looping
 pub mod Making
 pub mod Ends

@@ -1,10 +1,12 @@
 -- Losses of a received stream: the exit of a strict command, and the notes (own).
-use Rattle.std.specs.Prelude.{◌≡◌, ◌⊎◌, ℕ, Bool, ◌&&◌, ◌||◌, not, nat_eq, nat_le, if◌then◌else◌, List, [], ◌++◌, codes, decimal, Result, Ok, Err}
+use Rattle.std.specs.Prelude.{◌≡◌, ◌⊎◌, ℕ, ◌+◌, ◌-◌, ◌*◌, ◌/◌, ◌%◌, Bool, ◌&&◌, ◌||◌, not, nat_eq, nat_le, if◌then◌else◌, List, [], ◌++◌, drop, codes, decimal, Option, Some, None, Result, Ok, Err}
 use Rattle.s2_mode.specs.Limits.{header_symbols}
 use Rattle.s2_mode.specs.Mode.{Mode}
 use Rattle.s2_names.specs.Names.{mode_words}
 use Rattle.s2_receive.specs.declared.report.Received.{Received}
 use Rattle.s2_receive.specs.declared.report.Totals.{Totals}
+use Rattle.s2_scan.specs.Lines.{gain_of, is_usual}
+use Rattle.s2_scan.specs.Sightings.{amplitude_by}
 use Rattle.s2_words.specs.declared.request.NoteWords.{NoteWords}
 use Rattle.s2_table.specs.Wanted.{fault_note}
 use Rattle.s2_console.specs.declared.exit.Exit.{Exit}
@@ -53,9 +55,48 @@ incomplete_note t = (codes "s2: note: " ++ counted t.incomplete (codes " packet"
 abbrev pub note_if : Bool → List ℕ → List ℕ
 note_if so note = if so then note else []
 
+-- the notes of what was lost of a stream
+abbrev pub loss_notes : Mode → Received → List ℕ
+loss_notes m r = note_if (not (nat_eq r.totals.skipped 0)) (skipped_note r.totals) ++ note_if (no_sync r) (no_sync_note m r.symbols) ++ note_if (not (nat_eq r.totals.incomplete 0)) (incomplete_note r.totals)
+
+-- of N lost frames M had a BCH word whose header is refused
+unfoldable pub refused_note : Totals → List ℕ
+refused_note t =
+    (codes "s2: note: of " ++ counted (t.frames - t.delivered) (codes " lost frame")) ++ (codes " " ++ decimal t.refused) ++ codes " had a BCH word whose header is refused\n"
+
+-- the amplitude of all headers
+abbrev pub header_amplitude : Totals → ℕ
+header_amplitude t = amplitude_by t.energy (header_symbols * t.frames)
+
+-- this amplitude, if frames came, none was delivered, and symbols of this amplitude need a gain
+abbrev pub odd_amplitude : Totals → Option ℕ
+odd_amplitude t = if nat_eq t.frames 0 || not (nat_eq t.delivered 0) || is_usual (header_amplitude t) then None else Some (header_amplitude t)
+
+-- the amplitude, and the gain as far as its point
+unfoldable pub amplitude_start : ℕ → ℕ → List ℕ
+amplitude_start amplitude whole =
+    (codes "s2: note: the headers' amplitude, noise included, is " ++ decimal amplitude) ++ (codes ", not 990: use --gain " ++ decimal whole) ++ codes "."
+
+-- the note of an amplitude, with a gain in ten-thousandths: four digits after its point
+abbrev pub gained_note : ℕ → ℕ → List ℕ
+gained_note amplitude gain = amplitude_start amplitude (gain / 10000) ++ (drop 1 (decimal (10000 + gain % 10000)) ++ codes " of tools/convert\n")
+
+-- the note of an amplitude, with the gain to use, which is 990 divided by it
+abbrev pub amplitude_note : ℕ → List ℕ
+amplitude_note amplitude = gained_note amplitude (gain_of amplitude)
+
+-- the note of an amplitude, if there is one
+abbrev pub amplitude_notes : Option ℕ → List ℕ
+amplitude_notes None = []
+amplitude_notes (Some amplitude) = amplitude_note amplitude
+
+-- the notes on the frames of a stream
+abbrev pub frame_notes : Totals → List ℕ
+frame_notes t = note_if (not (nat_eq t.refused 0)) (refused_note t) ++ amplitude_notes (odd_amplitude t)
+
 -- the notes of a stream that was received to its end
 abbrev pub notes_of : Mode → Received → List ℕ
-notes_of m r = note_if (not (nat_eq r.totals.skipped 0)) (skipped_note r.totals) ++ note_if (no_sync r) (no_sync_note m r.symbols) ++ note_if (not (nat_eq r.totals.incomplete 0)) (incomplete_note r.totals)
+notes_of m r = loss_notes m r ++ frame_notes r.totals
 
 -- The end of a command that received this, and its notes. If they cannot be written, that is its fault
 abbrev pub Answered : NoteWords → Mode → Result Received Fault → Result Exit Fault → List ℕ → Type 0

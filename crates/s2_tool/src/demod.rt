@@ -23,8 +23,35 @@ use s2_table::read_noted;
 use s2_words::DemodWords;
 use std::alloc::Global;
 
-/// Truncates the packets' file, and receives to the end of the symbols. Frame by frame, the sinks take the frame, and then
-/// its packets and its line are written.
+/// Receives to the end of the symbols. Frame by frame, the sinks take the frame, and then its packets and its line are
+/// written.
+pub(crate) fn receive_to_end<K: Sink, S: CountedRead, W: CountedWrite, O: CountedWrite>(
+    receiver: &mut Receiver<'_>,
+    symbols: &mut S,
+    sinks: &mut K,
+    packets: &mut W,
+    out: &mut O,
+) -> Result<Received, Fault<'static>>
+    requires symbols { CanCount (S.count symbols.old) }
+    requires sinks { CanCount (K.count sinks.old) }
+    requires packets { CanCount (W.count packets.old) }
+    requires out { CanCount (O.count out.old) }
+    requires begun { receiver.old.state ≡ begun }
+    ensures receives { let ends = streams_by S.remaining S.count W.contents W.count O.contents O.count in
+        ReceivesToEnd K.takes K.fails (rules_for receiver.old)
+        (ends_of (ends symbols.old packets.old out.old) sinks.old) (ends_of (ends symbols.new packets.new out.new) sinks.new) result }
+    ensures causes { let ends = streams_by S.remaining S.count W.contents W.count O.contents O.count in
+        CausesWith K.count (ends_of (ends symbols.old packets.old out.old) sinks.old) (ends_of (ends symbols.new packets.new out.new) sinks.new) result }
+    ensures few { K.count sinks.new ≤ K.count sinks.old + 1 }
+{
+    match receiver.run_with(symbols, sinks, packets, out) {
+        Ok(received) => Ok(received),
+        Err(StreamFault::Read) => Err(Fault::Read),
+        Err(StreamFault::Write) => Err(Fault::Write),
+    }
+}
+
+/// Truncates the packets' file, and receives to the end of the symbols.
 pub(crate) fn receive_begun<K: Sink, S: CountedRead, W: Output, O: CountedWrite>(
     receiver: &mut Receiver<'_>,
     symbols: &mut S,
@@ -48,11 +75,7 @@ pub(crate) fn receive_begun<K: Sink, S: CountedRead, W: Output, O: CountedWrite>
     if packets.truncate().is_err() {
         return Err(Fault::Write);
     }
-    match receiver.run_with(symbols, sinks, packets.writer(), out) {
-        Ok(received) => Ok(received),
-        Err(StreamFault::Read) => Err(Fault::Read),
-        Err(StreamFault::Write) => Err(Fault::Write),
-    }
+    receive_to_end(receiver, symbols, sinks, packets.writer(), out)
 }
 
 /// Reads rows, and receives on their link.

@@ -47,12 +47,7 @@ impl<'w, 'a> LinkRequest<'w, 'a> {
     /// The names of its files of records.
     fn records(self) -> RecordWords<'a> {
         match self {
-            LinkRequest::Mod(_) => RecordWords {
-                certificates: None,
-                values: None,
-                codewords: None,
-                bbframes: None,
-            },
+            LinkRequest::Mod(words) => words.records,
             LinkRequest::Demod(words) => words.records,
             LinkRequest::Run(words) => words.records,
         }
@@ -117,7 +112,15 @@ pub(crate) fn with_link<'a, R: Disk + Clock + AllocGlobal, O: CountedWrite, E: C
     let mut records = open_records(&mut opener, alloc, setup.mode, request.records())?;
     let (open, sinks) = (&mut files, &mut records);
     let exit = match request {
-        LinkRequest::Mod(words) => mod_command(alloc, setup, words, open, console, notes),
+        LinkRequest::Mod(words) => mod_command(
+            alloc,
+            setup,
+            words,
+            open,
+            &mut sinks.1.1,
+            console,
+            notes,
+        ),
         LinkRequest::Demod(words) => demod_command(
             alloc, setup, words, open, sinks, console, notes,
         ),

@@ -3,8 +3,9 @@ ghost use Rattle.std.specs.Prelude.{◌≡◌, ◌≢◌, ◌+◌, ◌≤◌, �
 ghost use Rattle.std.specs.Io.KnownBytes.{Appends};
 ghost use Rattle.s2_mode.specs.Counts.{CanCount, CountsFault};
 ghost use Rattle.s2_console.specs.Lines.{line_room};
-ghost use Rattle.s2_tool.specs.Losses.{counted, no_sync, is_clean, exit_by, skipped_note, no_sync_end, no_sync_note, incomplete_note, note_if, notes_of, Finishes};
+ghost use Rattle.s2_tool.specs.Losses.{counted, no_sync, is_clean, exit_by, skipped_note, no_sync_end, no_sync_note, incomplete_note, note_if, loss_notes, notes_of, Finishes};
 
+use crate::frame_notes::write_frame_notes;
 use s2_console::{Console, Exit, Fault, Line};
 use s2_mode::{CountedWrite, HEADER_SYMBOLS, Mode, WriteFault, write_full};
 use s2_receive::{Received, Totals};
@@ -38,7 +39,7 @@ fn exit_by(strict: bool, received: Received) -> Exit
 
 /// Appends words, a number, and a noun, which is plural unless the number is 1.
 #[tactic(auto, unfolding(crate::specs::Losses::counted))]
-fn push_counted(line: &mut Line, words: &str, number: u64, noun: &str)
+pub(crate) fn push_counted(line: &mut Line, words: &str, number: u64, noun: &str)
     requires { length line.old + (length words.now + 40) + (length noun.now + 1) ≤ line_room }
     ensures bytes { line.new ≡ line.old ++ (words.now ++ counted number noun.now) }
     ensures room { length line.new ≤ length line.old + (length words.now + 40) + (length noun.now + 1) }
@@ -140,6 +141,23 @@ fn write_incomplete<W: CountedWrite>(totals: Totals, out: &mut W) -> Result<(), 
     write_full(out, incomplete_note(totals).as_bytes())
 }
 
+/// Writes the notes of what was lost of a stream.
+#[tactic(auto, using(crate::proofs::NoteLemmas::both_empty))]
+fn write_loss_notes<W: CountedWrite>(
+    mode: &Mode,
+    received: Received,
+    out: &mut W,
+) -> Result<(), WriteFault>
+    requires { CanCount (W.count out.old) }
+    ensures bytes { OnOk result (Appends (W.contents out.old) (W.contents out.new) (loss_notes mode.now received)) }
+    ensures none { loss_notes mode.now received ≡ [] → out.new ≡ out.old }
+    ensures cause { CountsFault (W.count out.old) (W.count out.new) result }
+{
+    write_skipped(received.totals, out)?;
+    write_if_no_sync(mode, received, out)?;
+    write_incomplete(received.totals, out)
+}
+
 /// Writes the notes of a stream that was received to its end.
 #[tactic(auto, using(crate::proofs::NoteLemmas::both_empty))]
 fn write_notes<W: CountedWrite>(
@@ -152,9 +170,8 @@ fn write_notes<W: CountedWrite>(
     ensures none { notes_of mode.now received ≡ [] → out.new ≡ out.old }
     ensures cause { CountsFault (W.count out.old) (W.count out.new) result }
 {
-    write_skipped(received.totals, out)?;
-    write_if_no_sync(mode, received, out)?;
-    write_incomplete(received.totals, out)
+    write_loss_notes(mode, received, out)?;
+    write_frame_notes(received.totals, out)
 }
 
 /// The exit of a command after its reception. Its notes are written, unless they are left out. A fault is reported. If

@@ -1,20 +1,22 @@
 //! `mod`: sends packets.
-ghost use Rattle.std.specs.Prelude.{◌≡◌, ◌≢◌, Ok, false};
+ghost use Rattle.std.specs.Prelude.{◌≡◌, ◌≢◌, ◌+◌, ◌≤◌, Ok, IsOk, IsOkAnd, false};
 ghost use Rattle.s2_mode.specs.Counts.{CanCount};
 ghost use Rattle.s2_mode.specs.Streams.{streams_by};
 ghost use Rattle.s2_link.specs.Link.{setup_of};
 ghost use Rattle.s2_console.specs.Files.{CanStart, reporting};
 ghost use Rattle.s2_console.specs.Screens.{CanNote};
-ghost use Rattle.s2_tool.specs.Links.{Begins, Causes, OnLink, noted_by};
-ghost use Rattle.s2_tool.specs.Sending.{sent_line, refusal_fault, SendsBy, Modulates, ModExits};
+ghost use Rattle.s2_tool.specs.Ends.{BeginsWith, CausesWith, ends_of};
+ghost use Rattle.s2_tool.specs.Links.{OnLink, noted_by};
+ghost use Rattle.s2_tool.specs.Sending.{sent_line, SendsBy, Modulates, Concludes, ModExits};
 
 use crate::link_files::LinkFiles;
+use crate::refusals::{Ended, refused_by, report_refusal, sent_by};
 use s2_console::{Console, Exit, Fault, Line, print};
 use s2_files::{Destination, Output};
 use s2_link::{Link, LinkSetup};
-use s2_mode::{CountedRead, CountedWrite};
-use s2_send::{Counts, SendFault, Transmitter};
-use s2_table::{conclude_noted, read_noted};
+use s2_mode::{CountedRead, CountedWrite, Mode};
+use s2_send::{Counts, SendSink, Transmitter};
+use s2_table::{read_noted, report_noted};
 use s2_words::ModWords;
 use std::alloc::Global;
 
@@ -29,59 +31,76 @@ fn sent_line(counts: Counts) -> Line
     line
 }
 
-/// The fault of a refusal.
-pub(crate) fn fault_of(refusal: SendFault) -> Fault<'static>
-    ensures { result ≡ refusal_fault refusal }
+/// Sends packets, whose codewords the sinks take, and prints the counts.
+fn send_to<K: SendSink, S: CountedRead, W: CountedWrite, O: CountedWrite>(
+    transmitter: &mut Transmitter<'_>,
+    packets: &mut S,
+    sinks: &mut K,
+    symbols: &mut W,
+    out: &mut O,
+) -> Ended<Exit>
+    requires packets { CanCount (S.count packets.old) }
+    requires sinks { CanCount (K.count sinks.old) }
+    requires symbols { CanCount (W.count symbols.old) }
+    requires out { CanCount (O.count out.old) }
+    ensures sends { let ends = streams_by S.remaining S.count W.contents W.count O.contents O.count in
+        SendsBy K.takes K.fails transmitter.old
+        (ends_of (ends packets.old symbols.old out.old) sinks.old) (ends_of (ends packets.new symbols.new out.new) sinks.new) result }
+    ensures causes { let ends = streams_by S.remaining S.count W.contents W.count O.contents O.count in
+        CausesWith K.count (ends_of (ends packets.old symbols.old out.old) sinks.old) (ends_of (ends packets.new symbols.new out.new) sinks.new) result }
+    ensures few { K.count sinks.new ≤ K.count sinks.old + 1 }
 {
-    match refusal {
-        SendFault::Read => Fault::Read,
-        SendFault::Write => Fault::Write,
-        SendFault::NotWholePacket | SendFault::NoSync { .. } => {
-            Fault::about("packets: ", refusal.text())
-        }
+    match transmitter.run_with(packets, sinks, symbols) {
+        Ok(counts) => sent_by(print(out, Exit::Fine, sent_line(counts).as_bytes())),
+        Err(refusal) => refused_by(refusal),
     }
 }
 
 /// Truncates the symbols' file, sends packets, and prints the counts.
-fn send_begun<S: CountedRead, W: Output, O: CountedWrite>(
+fn send_begun<K: SendSink, S: CountedRead, W: Output, O: CountedWrite>(
     transmitter: &mut Transmitter<'_>,
     packets: &mut S,
+    sinks: &mut K,
     symbols: &mut Destination<W>,
     out: &mut O,
-) -> Result<Exit, Fault<'static>>
+) -> Ended<Exit>
     requires packets { CanCount (S.count packets.old) }
+    requires sinks { CanCount (K.count sinks.old) }
     requires symbols { CanCount (W.count symbols.old.to) }
     requires unbegun { symbols.old.begun ≡ false }
     requires out { CanCount (O.count out.old) }
     ensures sends { let ends = streams_by S.remaining S.count W.contents W.count O.contents O.count in
-        Begins (SendsBy transmitter.old) symbols.new.begun
-        (ends packets.old symbols.old.to out.old) (ends packets.new symbols.new.to out.new) result }
+        BeginsWith (SendsBy K.takes K.fails transmitter.old) symbols.new.begun
+        (ends_of (ends packets.old symbols.old.to out.old) sinks.old) (ends_of (ends packets.new symbols.new.to out.new) sinks.new) result }
     ensures causes { let ends = streams_by S.remaining S.count W.contents W.count O.contents O.count in
-        Causes (ends packets.old symbols.old.to out.old) (ends packets.new symbols.new.to out.new) result }
+        CausesWith K.count (ends_of (ends packets.old symbols.old.to out.old) sinks.old) (ends_of (ends packets.new symbols.new.to out.new) sinks.new) result }
+    ensures few { K.count sinks.new ≤ K.count sinks.old + 1 }
 {
     if symbols.truncate().is_err() {
         return Err(Fault::Write);
     }
-    match transmitter.run(packets, symbols.writer()) {
-        Ok(counts) => print(out, Exit::Fine, sent_line(counts).as_bytes()),
-        Err(refusal) => Err(fault_of(refusal)),
-    }
+    send_to(transmitter, packets, sinks, symbols.writer(), out)
 }
 
 /// Reads rows, and sends packets on their link, with dummy frames if the options say so.
-fn send_files<R: CountedRead, W: Output, O: CountedWrite, E: CountedWrite>(
+fn send_files<K: SendSink, R: CountedRead, W: Output, O: CountedWrite, E: CountedWrite>(
     alloc: Global,
     setup: LinkSetup,
     words: &ModWords<'_>,
     files: &mut LinkFiles<R, W>,
+    sinks: &mut K,
     console: &mut Console<O, E>,
     notes: &mut E,
-) -> Result<Exit, Fault<'static>>
+) -> Ended<Exit>
     requires files { CanStart files.old }
+    requires sinks { CanCount (K.count sinks.old) }
     requires console { CanNote console.old }
     requires notes { CanCount (E.count notes.old) }
     ensures errors { (console.new.errors ≡ console.old.errors) × (console.new.errors_failed ≡ console.old.errors_failed) }
-    ensures run { OnLink (Modulates words.now.dummy) Causes (noted_by E.contents E.count notes.old notes.new words.now.quiet setup.mode) (setup_of setup) files.old files.new (reporting files.old console.old) (reporting files.new console.new) result }
+    ensures run { let noted = noted_by E.contents E.count notes.old notes.new words.now.quiet setup.mode in
+        OnLink (Modulates K.takes K.fails words.now.dummy) (CausesWith K.count) noted (setup_of setup) files.old files.new
+        (ends_of (reporting files.old console.old) sinks.old) (ends_of (reporting files.new console.new) sinks.new) result }
+    ensures few { K.count sinks.new ≤ K.count sinks.old + 1 }
 {
     let matrix = read_noted(alloc, &setup.mode, &mut files.rows, words.quiet, notes)?;
     let link = Link::of(setup, &matrix);
@@ -91,6 +110,7 @@ fn send_files<R: CountedRead, W: Output, O: CountedWrite, E: CountedWrite>(
             send_begun(
                 &mut transmitter,
                 &mut files.from,
+                sinks,
                 &mut files.to,
                 &mut console.output,
             )
@@ -99,26 +119,51 @@ fn send_files<R: CountedRead, W: Output, O: CountedWrite, E: CountedWrite>(
     }
 }
 
+/// The exit of a command that ended so. A refusal or a fault is reported after its note.
+fn conclude_sending<O: CountedWrite, E: CountedWrite>(
+    quiet: bool,
+    mode: &Mode,
+    ended: Ended<Exit>,
+    console: &mut Console<O, E>,
+) -> Exit
+    requires { CanCount (console.old.errors_failed + 1) }
+    ensures fine { result ≢ Exit.Fault → IsOkAnd ended.entry (λ sent. IsOk sent) }
+    ensures quiet { result ≢ Exit.Fault → console.new.errors_failed ≡ console.old.errors_failed }
+    ensures output { (console.new.output ≡ console.old.output) × (console.new.output_failed ≡ console.old.output_failed) }
+    ensures concludes { Concludes quiet mode.now ended.entry result console.old console.new }
+{
+    match ended {
+        Ok(Ok(exit)) => exit,
+        Ok(Err(refusal)) => report_refusal(quiet, refusal, console),
+        Err(fault) => report_noted(quiet, mode, fault, console),
+    }
+}
+
 /// `mod`: sends the packets of a stream on the link of a setup and a row file, with a dummy frame after every
 /// `dummy` frames (0: none). It prints how many packets were read and how many frames written; dummy frames are
-/// not counted. The note on rows that are not the standard's is written to `notes`. The symbols' file is begun
-/// when the rows are accepted and there is memory.
-pub fn mod_command<R: CountedRead, W: Output, O: CountedWrite, E: CountedWrite>(
+/// not counted. The sinks take the codeword of each frame before its symbols are written; if they fail, nothing of that
+/// frame is. The note on rows that are not the standard's is written to `notes`, that on a refused packet to the errors,
+/// before the line of the fault. The symbols' file is begun when the rows are accepted and there is memory. Until then the
+/// sinks are unchanged. At most one call of them fails.
+pub fn mod_command<K: SendSink, R: CountedRead, W: Output, O: CountedWrite, E: CountedWrite>(
     alloc: Global,
     setup: LinkSetup,
     words: &ModWords<'_>,
     files: &mut LinkFiles<R, W>,
+    sinks: &mut K,
     console: &mut Console<O, E>,
     notes: &mut E,
 ) -> Exit
     requires files { CanStart files.old }
+    requires sinks { CanCount (K.count sinks.old) }
     requires console { CanNote console.old }
     requires notes { CanCount (E.count notes.old) }
     ensures quiet { result ≢ Exit.Fault → console.new.errors_failed ≡ console.old.errors_failed }
     ensures whole { result ≢ Exit.Fault → console.new.output_failed ≡ console.old.output_failed }
-    ensures run { let noted = noted_by E.contents E.count notes.old notes.new words.now.quiet setup.mode in
-        ModExits (setup_of setup) words.now noted files.old files.new console.old console.new result }
+    ensures run { ModExits K.takes K.fails K.count (setup_of setup) words.now (noted_by E.contents E.count notes.old notes.new)
+        files.old files.new sinks.old sinks.new console.old console.new result }
+    ensures few { K.count sinks.new ≤ K.count sinks.old + 1 }
 {
-    let ended = send_files(alloc, setup, words, files, console, notes);
-    conclude_noted(words.quiet, &setup.mode, ended, console)
+    let ended = send_files(alloc, setup, words, files, sinks, console, notes);
+    conclude_sending(words.quiet, &setup.mode, ended, console)
 }

@@ -1,4 +1,4 @@
-//! The files of a reception's records: opened, each with the sink that writes to it, and finished.
+//! The files of records: opened, each with the sink that writes to it, and finished.
 ghost use Rattle.std.specs.Prelude.{◌≡◌, ◌≢◌, ◌+◌, ◌<◌, ◌≤◌, IfOk, OnErr, OnOk, length};
 ghost use Rattle.s2_receive.specs.Sinks.{wanted_count};
 

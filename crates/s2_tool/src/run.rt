@@ -1,61 +1,96 @@
 //! `run`: sends packets, adds noise to their symbols, and receives the result. The symbols are kept in memory.
-ghost use Rattle.std.specs.Prelude.{◌≡◌, ◌≢◌, ◌+◌, ◌≤◌, [], Ok, Some, false};
+ghost use Rattle.std.specs.Prelude.{◌≡◌, ◌≢◌, ◌+◌, ◌≤◌, [], Ok, Some, IsOk, IsOkAnd, false};
 ghost use Rattle.s2_mode.specs.Counts.{CanCount};
 ghost use Rattle.s2_mode.specs.Streams.{streams_by};
 ghost use Rattle.s2_link.specs.Link.{setup_of};
-ghost use Rattle.s2_receive.specs.Receiving.{begun};
-ghost use Rattle.s2_modem.specs.Reception.{rules_for};
+ghost use Rattle.s2_mode.specs.Limits.{max_symbols};
+ghost use Rattle.s2_modem.specs.Reception.{link_rules};
 ghost use Rattle.s2_console.specs.Files.{CanStart, reporting};
 ghost use Rattle.s2_console.specs.Screens.{CanNote};
 ghost use Rattle.s2_tool.specs.Ends.{CausesWith, ends_of};
+ghost use Rattle.s2_tool.specs.Hearing.{written_by};
 ghost use Rattle.s2_tool.specs.Links.{OnLink, noted_by};
-ghost use Rattle.s2_tool.specs.Looping.{kept_fault, LoopsBy, Loops, RunExits};
+ghost use Rattle.s2_tool.specs.Looping.{FinishesRun, LoopsBy, Loops, ReceivesRuns, RunExits, refused_in_memory};
 
-use crate::demod::receive_begun;
+use crate::hearing::receive_noisy;
 use crate::link_files::LinkFiles;
 use crate::losses::conclude_reception;
-use crate::modulate::fault_of;
-use crate::noise::add_noise;
+use crate::refusals::{Ended, refused_by, report_refusal, sent_by};
+use crate::seeds::receive_range;
 use s2_console::{Console, Exit, Fault};
 use s2_files::{Destination, Output};
 use s2_link::{Link, LinkSetup};
-use s2_mode::{CountedRead, CountedWrite, Counting, InMemory};
-use s2_modem::Receiver;
+use s2_mode::{CountedRead, CountedWrite, Counting, Mode};
 use s2_receive::{Received, Sink};
-use s2_send::Transmitter;
+use s2_send::{SendFault, Transmitter};
 use s2_table::read_noted;
-use s2_words::{ChannelWords, RunWords};
+use s2_words::{NoteWords, RunWords};
 use std::alloc::Global;
 
-/// The fault of a part whose output is kept in memory.
-fn kept_fault(fault: Fault<'static>) -> Fault<'static>
-    ensures { result ≡ kept_fault fault.entry }
+/// How a refusal ends a command that sends into memory.
+fn refused_in_memory(refusal: SendFault) -> Ended<Received>
+    ensures { result ≡ refused_in_memory refusal }
 {
-    match fault {
-        Fault::Write => Fault::NoMemory,
-        other => other,
+    match refusal {
+        SendFault::Write => Err(Fault::NoMemory),
+        _ => refused_by(refusal),
     }
 }
 
-/// Sends packets into memory, adds noise to their symbols, and receives the result.
-fn loop_packets<K: Sink, S: CountedRead, W: Output, O: CountedWrite>(
+/// Receives symbols with noise on a link: once, or for each seed of a range.
+fn receive_runs<K: Sink, W: Output, O: CountedWrite>(
     alloc: Global,
-    transmitter: &mut Transmitter<'_>,
-    receiver: &mut Receiver<'_>,
-    channel: ChannelWords,
-    from: &mut S,
+    link: &Link<'_>,
+    words: &RunWords<'_>,
+    symbols: &[u8],
     sinks: &mut K,
     to: &mut Destination<W>,
     out: &mut O,
 ) -> Result<Received, Fault<'static>>
+    requires sinks { CanCount (K.count sinks.old) }
+    requires to { CanCount (W.count to.old.to) }
+    requires unbegun { to.old.begun ≡ false }
+    requires out { CanCount (O.count out.old) }
+    ensures receives { let ends = written_by W.contents W.count O.contents O.count in
+        ReceivesRuns K.takes K.fails (link_rules link.now words.now.tuning max_symbols) words.now.channel words.now.seeds symbols.now to.new.begun
+        (ends_of (ends to.old.to out.old) sinks.old) (ends_of (ends to.new.to out.new) sinks.new) result }
+    ensures causes { let ends = written_by W.contents W.count O.contents O.count in
+        CausesWith K.count (ends_of (ends to.old.to out.old) sinks.old) (ends_of (ends to.new.to out.new) sinks.new) result }
+    ensures few { K.count sinks.new ≤ K.count sinks.old + 1 }
+{
+    match words.seeds {
+        None => receive_noisy(
+            alloc,
+            link,
+            words.tuning,
+            words.channel,
+            symbols,
+            sinks,
+            to,
+            out,
+        ),
+        Some(seeds) => receive_range(alloc, link, words, seeds, symbols, sinks, to, out),
+    }
+}
+
+/// Sends packets into memory, and receives their symbols with noise on a link.
+fn loop_packets<K: Sink, S: CountedRead, W: Output, O: CountedWrite>(
+    alloc: Global,
+    transmitter: &mut Transmitter<'_>,
+    link: &Link<'_>,
+    words: &RunWords<'_>,
+    from: &mut S,
+    sinks: &mut K,
+    to: &mut Destination<W>,
+    out: &mut O,
+) -> Ended<Received>
     requires from { CanCount (S.count from.old) }
     requires sinks { CanCount (K.count sinks.old) }
     requires to { CanCount (W.count to.old.to) }
     requires unbegun { to.old.begun ≡ false }
     requires out { CanCount (O.count out.old) }
-    requires begun { receiver.old.state ≡ begun }
     ensures loops { let ends = streams_by S.remaining S.count W.contents W.count O.contents O.count in
-        LoopsBy K.takes K.fails transmitter.old (rules_for receiver.old) channel to.new.begun
+        LoopsBy K.takes K.fails transmitter.old (link_rules link.now words.now.tuning max_symbols) words.now.channel words.now.seeds to.new.begun
         (ends_of (ends from.old to.old.to out.old) sinks.old) (ends_of (ends from.new to.new.to out.new) sinks.new) result }
     ensures causes { let ends = streams_by S.remaining S.count W.contents W.count O.contents O.count in
         CausesWith K.count (ends_of (ends from.old to.old.to out.old) sinks.old) (ends_of (ends from.new to.new.to out.new) sinks.new) result }
@@ -63,20 +98,10 @@ fn loop_packets<K: Sink, S: CountedRead, W: Output, O: CountedWrite>(
 {
     let mut symbols = Counting::new(Vec::new(alloc));
     if let Err(refusal) = transmitter.run(from, &mut symbols) {
-        return Err(kept_fault(fault_of(refusal)));
+        return refused_in_memory(refusal);
     }
     let symbols = symbols.into_inner();
-    let mut noisy = Counting::new(Vec::new(alloc));
-    match add_noise(channel, &mut InMemory::new(&symbols), &mut noisy) {
-        Ok(_) => receive_begun(
-            receiver,
-            &mut InMemory::new(&noisy.into_inner()),
-            sinks,
-            to,
-            out,
-        ),
-        Err(fault) => Err(kept_fault(fault)),
-    }
+    sent_by(receive_runs(alloc, link, words, &symbols, sinks, to, out))
 }
 
 /// Reads rows, sends packets on their link according to the options, and receives the result.
@@ -88,7 +113,7 @@ fn loop_files<K: Sink, R: CountedRead, W: Output, O: CountedWrite, E: CountedWri
     sinks: &mut K,
     console: &mut Console<O, E>,
     notes: &mut E,
-) -> Result<Received, Fault<'static>>
+) -> Ended<Received>
     requires files { CanStart files.old }
     requires sinks { CanCount (K.count sinks.old) }
     requires console { CanNote console.old }
@@ -106,18 +131,35 @@ fn loop_files<K: Sink, R: CountedRead, W: Output, O: CountedWrite, E: CountedWri
         return Err(Fault::NoMemory);
     };
     transmitter.dummy_every(words.dummy);
-    match Receiver::on_link(alloc, &link, words.tuning) {
-        Ok(mut receiver) => loop_packets(
-            alloc,
-            &mut transmitter,
-            &mut receiver,
-            words.channel,
-            &mut files.from,
-            sinks,
-            &mut files.to,
-            &mut console.output,
-        ),
-        Err(_) => Err(Fault::NoMemory),
+    loop_packets(
+        alloc,
+        &mut transmitter,
+        &link,
+        words,
+        &mut files.from,
+        sinks,
+        &mut files.to,
+        &mut console.output,
+    )
+}
+
+/// The exit of a command that heard this. A refusal is reported after its note.
+fn conclude_run<O: CountedWrite, E: CountedWrite>(
+    words: NoteWords,
+    mode: &Mode,
+    ended: Ended<Received>,
+    console: &mut Console<O, E>,
+) -> Exit
+    requires { CanCount (console.old.errors_failed + 1) }
+    ensures fine { result ≢ Exit.Fault → IsOkAnd ended.entry (λ sent. IsOk sent) }
+    ensures quiet { result ≢ Exit.Fault → console.new.errors_failed ≡ console.old.errors_failed }
+    ensures output { (console.new.output ≡ console.old.output) × (console.new.output_failed ≡ console.old.output_failed) }
+    ensures finishes { FinishesRun words mode.now ended.entry result console.old console.new }
+{
+    match ended {
+        Ok(Ok(received)) => conclude_reception(words, mode, Ok(received), console),
+        Ok(Err(refusal)) => report_refusal(words.quiet, refusal, console),
+        Err(fault) => conclude_reception(words, mode, Err(fault), console),
     }
 }
 
@@ -125,7 +167,10 @@ fn loop_files<K: Sink, R: CountedRead, W: Output, O: CountedWrite, E: CountedWri
 /// It adds the noise of a seed and a strength to their symbols, and receives the result. It prints the report of
 /// `demod`, and writes the packets that were received. The symbols are kept in memory. If a packet is refused, nothing
 /// is printed, the output file is not begun, and the sinks are unchanged. They take each frame that is received, as in
-/// `demod`. The note on rows that are not the standard's is written to `notes`.
+/// `demod`. The note on rows that are not the standard's is written to `notes`, that on a refused packet to the errors.
+///
+/// For a range of seeds it sends once. Then it does the rest for each seed, in order, with noise that begins anew and a new
+/// receiver. At the end it prints a line of sums. Exit and notes are those of the sums. A fault ends all.
 pub fn run_command<K: Sink, R: CountedRead, W: Output, O: CountedWrite, E: CountedWrite>(
     alloc: Global,
     setup: LinkSetup,
@@ -145,6 +190,6 @@ pub fn run_command<K: Sink, R: CountedRead, W: Output, O: CountedWrite, E: Count
         files.old files.new sinks.old sinks.new console.old console.new result }
     ensures few { K.count sinks.new ≤ K.count sinks.old + 1 }
 {
-    let reception = loop_files(alloc, setup, words, files, sinks, console, notes);
-    conclude_reception(words.notes, &setup.mode, reception, console)
+    let ended = loop_files(alloc, setup, words, files, sinks, console, notes);
+    conclude_run(words.notes, &setup.mode, ended, console)
 }

@@ -13,7 +13,9 @@ use clap::Error;
 use clap::error::ErrorKind;
 use s2_audit::audit_command;
 use s2_console::{Console, Exit, Fault};
-use s2_evidence::{check_command, check_each_command, judge_command, self_command};
+use s2_evidence::{
+    check_command, check_each_command, judge_command, judge_each_command, self_command,
+};
 use s2_files::{Disk, Role, is_standard};
 use s2_join::join_command;
 use s2_mode::{CountedWrite, Counting, FaultText, Mode, Shape};
@@ -86,7 +88,7 @@ fn has_output(records: RecordWords<'_>) -> bool {
 pub(crate) fn takes_output(request: &Request<'_>) -> bool {
     match request {
         Request::Judge(words) => is_output(words.certificate),
-        Request::Mod(words) => is_output(Some(words.symbols)),
+        Request::Mod(words) => is_output(Some(words.symbols)) || has_output(words.records),
         Request::Demod(words) => is_output(Some(words.packets)) || has_output(words.records),
         Request::Run(words) => is_output(Some(words.to)) || has_output(words.records),
         Request::Join(words) => is_output(Some(words.packets)),
@@ -218,10 +220,22 @@ fn serve_judge<'a, R: Disk + AllocGlobal, O: CountedWrite, E: CountedWrite>(
 {
     let shape = shape_by(words.code)?;
     let mut files = open_judge(rt, words)?;
+    if words.each {
+        return Ok(judge_each_command(
+            rt.alloc(),
+            shape,
+            words.hard,
+            words.quiet,
+            words.tuning,
+            &mut files,
+            console,
+        ));
+    }
     Ok(judge_command(
         rt.alloc(),
         shape,
         words.hard,
+        words.quiet,
         words.tuning,
         &mut files,
         console,

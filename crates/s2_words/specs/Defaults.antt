@@ -4,7 +4,7 @@ use Rattle.s2_soft.specs.Divisors.{divisors, default_divisor}
 use Rattle.s2_link.specs.Limits.{default_rounds}
 use Rattle.s2_minsum.specs.Factors.{default_factor}
 use Rattle.s2_plframe.specs.Constants.{header_threshold}
-use Rattle.s2_words.specs.declared.table.TheConstants.{DEFAULT_ROUNDS_TEXT, DIVISOR_TEXTS, DEFAULT_DIVISOR_TEXT, DEFAULT_FACTOR_TEXT, DEFAULT_LOCK_TEXT}
+use Rattle.s2_words.specs.declared.arguments.TheConstants.{DEFAULT_ROUNDS_TEXT, DIVISOR_TEXTS, DEFAULT_DIVISOR_TEXT, DEFAULT_FACTOR_TEXT, DEFAULT_LOCK_TEXT}
 
 -- the digits on the command line for the default rounds, divisor, factor and lock, and for the divisors that can be
 -- chosen, are those of the numbers that a receiver takes

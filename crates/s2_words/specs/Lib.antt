@@ -1,3 +1,4 @@
 pub mod Defaults
 pub mod Options
+pub mod SeedRanges
 pub mod Tuned

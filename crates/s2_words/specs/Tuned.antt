@@ -39,7 +39,7 @@ judging_by passes factor uncertified =
 -- the tuning of a receiver for which this factor is best
 abbrev pub tuning_with : ℕ → TuningWords → Tuning
 tuning_with best words =
-    record { rounds = words.rounds; passes = passes_by words.uncertified (number_by words.tuned words.passes best_passes); divisor = number_by words.tuned words.divisor best_divisor; factor = number_by words.tuned words.factor best; max_header_errors = number_by words.tuned words.max_header_errors best_max_header_errors; uncertified = words.uncertified }
+    record { rounds = words.rounds; passes = passes_by words.uncertified (number_by words.tuned words.passes best_passes); divisor = number_by words.tuned words.divisor best_divisor; factor = number_by words.tuned words.factor best; max_header_errors = number_by words.tuned words.max_header_errors best_max_header_errors; uncertified = words.uncertified; figures = words.figures }
 
 -- how a receiver of a mode is tuned
 abbrev pub tuning_by : Mode → TuningWords → Tuning

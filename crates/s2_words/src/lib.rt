@@ -11,18 +11,21 @@
 //! ```
 #![tactic(auto)]
 
+mod arguments;
 mod decibels;
+mod help;
 pub mod laws;
 mod options;
 mod parser;
 mod reading;
 mod refusal;
 mod request;
+mod seed_range;
 mod table;
 
 pub use reading::read_words;
 pub use request::{
     AuditWords, ChannelWords, CheckWords, CodeWords, DemodWords, JoinWords, JudgeWords, LinkWords,
     ModWords, ModesWords, NoiseWords, NoteWords, Progress, RecordWords, Request, RowsWords,
-    RunWords, ScanWords, ShapeWords, TableWords,
+    RunWords, ScanWords, Seeds, ShapeWords, TableWords,
 };

@@ -51,6 +51,7 @@ pub(crate) struct TuningWords {
     pub(crate) max_header_errors: Number,
     pub(crate) tuned: bool,
     pub(crate) uncertified: bool,
+    pub(crate) figures: bool,
 }
 
 /// The divisor that `--tuned` says.
@@ -95,6 +96,18 @@ fn certified_by(uncertified: bool, tuning: Tuning) -> Tuning
     }
 }
 
+/// The same tuning, and with figures if they are requested.
+fn figured_by(figures: bool, tuning: Tuning) -> Tuning
+    requires { tuning.figures ≡ false }
+    ensures { result ≡ record tuning { figures = figures } }
+{
+    if figures {
+        tuning.with_figures()
+    } else {
+        tuning
+    }
+}
+
 /// How `judge` is tuned.
 pub(crate) fn judging_by(passes: u32, factor: u32, uncertified: bool) -> Option<Tuning>
     ensures found { IsSome result ↔ IsTuning (judging_by passes factor uncertified) }
@@ -119,13 +132,11 @@ fn tuning_with(best: u32, words: TuningWords) -> Option<Tuning>
     ))?;
     let passes = number_by(words.tuned, words.passes, TUNED_PASSES);
     let tuning = Tuning::new(words.rounds, passes_by(words.uncertified, passes)).ok()?;
-    Some(certified_by(
-        words.uncertified,
-        tuning
-            .with_divisor(divisor)
-            .with_factor(factor)
-            .with_max_header_errors(max_header_errors),
-    ))
+    let tuning = tuning
+        .with_divisor(divisor)
+        .with_factor(factor)
+        .with_max_header_errors(max_header_errors);
+    Some(figured_by(words.figures, certified_by(words.uncertified, tuning)))
 }
 
 /// How a receiver of a mode is tuned.

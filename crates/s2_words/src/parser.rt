@@ -1,8 +1,7 @@
 //! The parser that the table describes.
-use crate::table::{
-    ABOUT, Argument, Choice, Entry, Form, MORE, Rule, arguments_of, choices_of, commands, more_of,
-    rules_of,
-};
+use crate::arguments::{Argument, Form};
+use crate::help::{ABOUT, MORE, more_of};
+use crate::table::{Choice, Entry, Rule, arguments_of, choices_of, commands, rules_of};
 use clap::builder::ValueParser;
 use clap::{Arg, ArgAction, ArgGroup, Command};
 use std::alloc::{AllocError, Global};

@@ -6,8 +6,9 @@ use crate::refusal::{misused, not_understood, values_in};
 use crate::request::{
     AuditWords, ChannelWords, CheckWords, CodeWords, DemodWords, JoinWords, JudgeWords, LinkWords,
     ModWords, ModesWords, NoiseWords, NoteWords, Progress, RecordWords, Request, RowsWords,
-    RunWords, ScanWords, ShapeWords, TableWords,
+    RunWords, ScanWords, Seeds, ShapeWords, TableWords,
 };
+use crate::seed_range::read_seeds;
 use clap::parser::ValueSource;
 use clap::{ArgMatches, Error};
 use s2_channel::Strength;
@@ -70,6 +71,7 @@ fn tuning_of(m: &ArgMatches<'_>) -> Option<Tuning> {
         max_header_errors: number_of(m, "lock")?,
         tuned: m.get_flag("tuned"),
         uncertified: m.get_flag("uncertified"),
+        figures: m.get_flag("figures"),
     };
     tuning_by(&mode, words)
 }
@@ -88,6 +90,24 @@ fn channel_of(m: &ArgMatches<'_>) -> Option<ChannelWords> {
     })
 }
 
+fn seeds_of(m: &ArgMatches<'_>) -> Option<Option<Seeds>> {
+    match m.get_str("seeds") {
+        Some(text) => read_seeds(text).map(Some),
+        None => Some(None),
+    }
+}
+
+/// The channel of the first run.
+fn first_channel_of(m: &ArgMatches<'_>, seeds: Option<Seeds>) -> Option<ChannelWords> {
+    match seeds {
+        Some(seeds) => Some(ChannelWords {
+            seed: seeds.first,
+            strength: strength_of(m)?,
+        }),
+        None => channel_of(m),
+    }
+}
+
 fn notes_of(m: &ArgMatches<'_>) -> NoteWords {
     NoteWords {
         strict: m.get_flag("strict"),
@@ -99,6 +119,16 @@ fn records_of<'a>(m: &ArgMatches<'a>) -> RecordWords<'a> {
     RecordWords {
         certificates: m.get_str("certificates"),
         values: m.get_str("values"),
+        codewords: m.get_str("codewords"),
+        bbframes: m.get_str("bbframes"),
+    }
+}
+
+/// The records of a sender.
+fn sent_records_of<'a>(m: &ArgMatches<'a>) -> RecordWords<'a> {
+    RecordWords {
+        certificates: None,
+        values: None,
         codewords: m.get_str("codewords"),
         bbframes: m.get_str("bbframes"),
     }
@@ -150,7 +180,9 @@ fn judge_of<'a>(m: &ArgMatches<'a>) -> Option<Request<'a>> {
     let (passes, factor) = (m.get_one::<u32>("passes")?, m.get_one::<u32>("factor")?);
     Some(Request::Judge(JudgeWords {
         code: code_of(m)?,
+        each: m.get_flag("each"),
         hard: m.get_flag("hard"),
+        quiet: m.get_flag("quiet"),
         tuning: judging_by(passes, factor, m.get_flag("uncertified"))?,
         certificate: m.get_str("cert"),
         rows: m.get_str("ROWS")?,
@@ -172,6 +204,7 @@ fn mod_of<'a>(m: &ArgMatches<'a>) -> Option<Request<'a>> {
         dummy: m.get_one::<u16>("dummy")?,
         quiet: m.get_flag("quiet"),
         progress: progress_of(m),
+        records: sent_records_of(m),
         rows: m.get_str("ROWS")?,
         packets: m.get_str("PACKETS")?,
         symbols: m.get_str("SYMBOLS")?,
@@ -201,11 +234,13 @@ fn demod_of<'a>(m: &ArgMatches<'a>) -> Option<Request<'a>> {
 }
 
 fn run_of<'a>(m: &ArgMatches<'a>) -> Option<Request<'a>> {
+    let seeds = seeds_of(m)?;
     Some(Request::Run(RunWords {
         link: link_of(m)?,
         dummy: m.get_one::<u16>("dummy")?,
         tuning: tuning_of(m)?,
-        channel: channel_of(m)?,
+        channel: first_channel_of(m, seeds)?,
+        seeds,
         notes: notes_of(m),
         progress: progress_of(m),
         records: records_of(m),

@@ -2,6 +2,7 @@
 use crate::decibels::read_esn0;
 use crate::options::read_modcod;
 use crate::parser::{Values, command_of, program};
+use crate::seed_range::read_seeds;
 use crate::table::{Entry, commands};
 use clap::error::ErrorKind;
 use clap::{ArgMatches, Error};
@@ -159,6 +160,16 @@ fn rate_message(alloc: Global, m: &ArgMatches<'_>) -> Result<Option<String>, All
     }
 }
 
+/// What is said of a text that is no range of seeds.
+fn seeds_message(alloc: Global, m: &ArgMatches<'_>) -> Result<Option<String>, AllocError> {
+    match m.get_str("seeds") {
+        Some(text) if read_seeds(text).is_none() => Ok(Some(format!(in alloc;
+            "invalid value '{text}' for '--seeds <A..B>': it is two numbers of 64 bits with two points between them, the first at most the second, as 1..100"
+        )?)),
+        _ => Ok(None),
+    }
+}
+
 /// The accepted values in place of unknown ones, if there are any.
 fn message_of(alloc: Global, m: &ArgMatches<'_>) -> Result<Option<String>, AllocError> {
     if let Some(text) = modcod_message(alloc, m)? {
@@ -168,6 +179,9 @@ fn message_of(alloc: Global, m: &ArgMatches<'_>) -> Result<Option<String>, Alloc
         return Ok(Some(text));
     }
     if let Some(text) = esn0_message(alloc, m)? {
+        return Ok(Some(text));
+    }
+    if let Some(text) = seeds_message(alloc, m)? {
         return Ok(Some(text));
     }
     rate_message(alloc, m)

@@ -30,6 +30,13 @@ pub struct ChannelWords {
     pub strength: Strength,
 }
 
+/// A range of seeds, from the first to the last: `first` is at most `last`.
+#[derive(Clone, Copy, Debug, PartialEq, Eq)]
+pub struct Seeds {
+    pub first: u64,
+    pub last: u64,
+}
+
 /// `rows`: the numbers of made rows.
 #[derive(Clone, Copy, PartialEq, Eq)]
 pub struct RowsWords {
@@ -45,11 +52,14 @@ pub enum CodeWords {
     Mode { modcod: u8, short: bool },
 }
 
-/// `judge`: a code, whether the values are decided bits, the tuning, and the files.
+/// `judge`: a code, whether there are many frames, whether the values are decided bits, whether notes are left out, the
+/// tuning, and the files.
 #[derive(Clone, Copy, PartialEq, Eq)]
 pub struct JudgeWords<'a> {
     pub code: CodeWords,
+    pub each: bool,
     pub hard: bool,
+    pub quiet: bool,
     pub tuning: Tuning,
     pub certificate: Option<&'a str>,
     pub rows: &'a str,
@@ -85,13 +95,14 @@ pub enum Progress {
 }
 
 /// `mod`: a link, the number of frames between dummy frames (0 for none), whether notes are left out, whether
-/// progress is shown, and the files.
+/// progress is shown, the records (codewords and BBFRAMEs), and the files.
 #[derive(Clone, Copy, PartialEq, Eq)]
 pub struct ModWords<'a> {
     pub link: LinkWords,
     pub dummy: u16,
     pub quiet: bool,
     pub progress: Progress,
+    pub records: RecordWords<'a>,
     pub rows: &'a str,
     pub packets: &'a str,
     pub symbols: &'a str,
@@ -114,7 +125,8 @@ pub struct NoteWords {
     pub quiet: bool,
 }
 
-/// The files of a reception's records, those that are given: certificates, soft values, decided bits and BBFRAMEs.
+/// The files of records, those that are given: certificates, soft values, words and BBFRAMEs. The words are decided bits,
+/// or the codewords that are sent.
 #[derive(Clone, Copy, PartialEq, Eq)]
 pub struct RecordWords<'a> {
     pub certificates: Option<&'a str>,
@@ -149,14 +161,16 @@ pub struct DemodWords<'a> {
     pub packets: &'a str,
 }
 
-/// `run`: a link, the number of frames between dummy frames (0 for none), the tuning, a channel, the notes,
-/// whether progress is shown, the records, and the files.
+/// `run`: a link, the number of frames between dummy frames (0 for none), the tuning, a channel, the seeds of its runs
+/// if there are many (the channel's seed is then the first of them), the notes, whether progress is shown, the records,
+/// and the files.
 #[derive(Clone, Copy, PartialEq, Eq)]
 pub struct RunWords<'a> {
     pub link: LinkWords,
     pub dummy: u16,
     pub tuning: Tuning,
     pub channel: ChannelWords,
+    pub seeds: Option<Seeds>,
     pub notes: NoteWords,
     pub progress: Progress,
     pub records: RecordWords<'a>,

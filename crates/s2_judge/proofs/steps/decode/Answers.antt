@@ -3,7 +3,7 @@ use Rattle.s2_matrix.specs.Code.{code_of}
 use Rattle.s2_minsum.specs.Plain.{decision}
 use Rattle.s2_minsum.specs.Decoding.{decoded}
 use Rattle.s2_judge.specs.Deciding.{satisfies, decoded_bits}
-use Rattle.s2_judge.proofs.Decisions.{first_from, first_now, first_later, length-decoded}
+use Rattle.s2_judge.proofs.Decisions.{first_from, first_now, first_later, until_from, until_now, until_later, length-decoded}
 use Rattle.s2_judge.proofs.EvidenceLemmas.{soft_within, round_step, bits_step}
 use Rattle.s2_judge.proofs.steps.decode.Goals as goal
 
@@ -15,6 +15,7 @@ decoding-init c = record {
   rows = c.load.ensures.rows ∙ c.requires.decoder;
   state = c.load.ensures.state;
   first = λ n is. ap (first_from c.args.matrix.now c.args.factor c.args.soft.now 0) (omega arith);
+  until = λ n is. ap (until_from c.args.matrix.now c.args.factor c.args.soft.now c.args.rounds 0) (omega arith);
   long = c.requires.bits;
 }
 
@@ -36,6 +37,7 @@ decoding-preserved c =
       rows = rows;
       state = state;
       first = λ n left. before.first (suc n) (omega arith) ∙ first_later r c.args.factor soft k n odd;
+      until = λ n left. before.until (suc n) (omega arith) ∙ until_later r c.args.factor soft c.args.rounds k n odd;
       long = c.is_decoded.ensures.long;
     }
 
@@ -52,6 +54,22 @@ returns-then-is_decoded-clause-first c =
     let is = bits_step r c.args.factor soft (k + 1) new (decision (code_of new.rows) (decoded new)) rows state refl in
     let even = sym (ap (satisfies (code_of r)) is) ∙ c.is_decoded.ensures.test ∙ c.if-is_decoded.true in
     before.first (suc n) (omega arith) ∙ first_now r c.args.factor soft k n even ∙ ap (λ (w : List Bool). Some w) (sym (c.is_decoded.ensures.bits c.if-is_decoded.true ∙ is))
+
+pub returns-then-is_decoded-clause-rounds : goal.returns-then-is_decoded-clause-rounds
+returns-then-is_decoded-clause-rounds c =
+    let r = c.args.matrix.now in
+    let soft = c.args.soft.now in
+    let k = c.decoding.round in
+    let before = c.decoding.invariant in
+    let new = c.round.new.self in
+    let rows = c.round.ensures.rows ∙ before.rows in
+    let state = round_step r c.args.factor soft k c.decoding.decoder new before.rows before.state c.round.ensures.state in
+    let is = bits_step r c.args.factor soft (k + 1) new (decision (code_of new.rows) (decoded new)) rows state refl in
+    let even = sym (ap (satisfies (code_of r)) is) ∙ c.is_decoded.ensures.test ∙ c.if-is_decoded.true in
+    before.until (suc (c.args.rounds - (k + 1))) (omega arith) ∙ until_now r c.args.factor soft c.args.rounds k (c.args.rounds - (k + 1)) even
+
+pub returns-clause-rounds : goal.returns-clause-rounds
+returns-clause-rounds c = c.decoding.invariant.until 0 (omega arith)
 
 pub returns-clause-first : goal.returns-clause-first
 returns-clause-first c = c.decoding.invariant.first 0 (omega arith)

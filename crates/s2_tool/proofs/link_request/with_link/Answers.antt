@@ -1,4 +1,6 @@
-use Rattle.s2_tool.proofs.Names.{◌≡◌, ℕ, ◌+◌, ◌≤◌, arith}
+use Rattle.s2_tool.proofs.Names.{◌≡◌, ℕ, ◌+◌, ◌≤◌, Option, Some, None, refl, arith}
+use Rattle.s2_send.specs.Sinks as sent
+use Rattle.s2_receive.specs.Sinks as heard
 use Rattle.s2_tool.proofs.link_request.with_link.Goals.{in-Mod, in-Demod, in-Run}
 use Rattle.s2_tool.proofs.link_request.with_link.Goals as goal
 
@@ -10,10 +12,23 @@ none_of n e = omega (arith, e)
 one_of : (n m : ℕ) → n ≤ m + 1 → m ≡ 0 → n ≤ 1
 one_of n m few e = omega (arith, few, e)
 
+-- a sender counts the failed calls of an optional sink as a receiver does
+same_count : {A : Type 0} (count : A → ℕ) (sink : Option A) → sent.wanted_count count sink ≡ heard.wanted_count count sink
+same_count count None = refl
+same_count count (Some sink) = refl
+
+-- at most one call of a sender's two sinks has failed since none of four had
+sent_of : {A B : Type 0} (x x' : Option A) (y y' : Option B) (first : A → ℕ) (last : B → ℕ) (m n : ℕ)
+    → sent.wanted_count first x' + sent.wanted_count last y' ≤ sent.wanted_count first x + sent.wanted_count last y + 1
+    → m + (n + (heard.wanted_count first x + heard.wanted_count last y)) ≡ 0 → m + (n + (heard.wanted_count first x' + heard.wanted_count last y')) ≤ 1
+sent_of x x' y y' first last m n few e =
+    omega (arith, few, e, same_count first x, same_count first x', same_count last y, same_count last y')
+
 pub conclude_records-requires : goal.conclude_records-requires
 conclude_records-requires g c =
     elim c.match-request.branch [
-      | in-Mod w ↦ rw w.records-is (none_of _ c.in_ok-records.ensures.fresh)
+      | in-Mod w ↦ rw w.records-is (sent_of c.in_ok-records.records.1.1.0 w.mod_command-exit.new.sinks.0 c.in_ok-records.records.1.1.1 w.mod_command-exit.new.sinks.1 (λ file. file.to.failed) (λ sink. sink.to.to.failed) _ _
+          w.mod_command-exit.ensures.few c.in_ok-records.ensures.fresh)
       | in-Demod w ↦ rw w.records-is (one_of _ _ w.demod_command-exit.ensures.few c.in_ok-records.ensures.fresh)
       | in-Run w ↦ rw w.records-is (one_of _ _ w.run_command-exit.ensures.few c.in_ok-records.ensures.fresh)
     ]

@@ -17,12 +17,7 @@ returns-in_default-clause-run g c =
 
 pub returns-clause-run : goal.returns-clause-run
 returns-clause-run g c =
-    rw (sym c.files.view_is, sym c.console.view_is) (without_memory (Loops g.K.Sink.takes g.K.Sink.fails c.args.words.now) (CausesWith g.K.Sink.count) _ (setup_of c.args.setup) _ _ c.in_ok-matrix.matrix c.of-link.result _
-    c.in_ok-matrix.ensures.rows c.in_ok-matrix.ensures.noted c.of-link.ensures (c.in_ok-matrix.ensures.no_other (λ e. cc)) (search rules) (none_failed_with g.K.Sink.count faults.NoMemory _))
-
-pub returns-in-Ok-on_link-clause-run : goal.returns-in-Ok-on_link-clause-run
-returns-in-Ok-on_link-clause-run g c =
     rw (sym c.files.view_is, sym c.console.view_is) (on_rows (Loops g.K.Sink.takes g.K.Sink.fails c.args.words.now) (CausesWith g.K.Sink.count) _ (setup_of c.args.setup) _ _ c.in_ok-matrix.matrix c.of-link.result _ _ c.loop_packets.result
     c.in_ok-matrix.ensures.rows c.in_ok-matrix.ensures.noted c.of-link.ensures (c.in_ok-matrix.ensures.no_other (λ e. cc))
-    (loops_on g.K.Sink.takes g.K.Sink.fails c.of-link.result c.args.words.now c.in-Ok.transmitter c.dummy_every.new.self c.in-Ok-on_link.receiver c.in-Ok.ensures.is c.dummy_every.ensures c.in-Ok-on_link.ensures _ _ _ _ c.loop_packets.ensures.loops)
+    (loops_on g.K.Sink.takes g.K.Sink.fails c.of-link.result c.args.words.now c.in-Ok.transmitter c.dummy_every.new.self c.in-Ok.ensures.is c.dummy_every.ensures _ _ _ _ c.loop_packets.ensures.loops)
     c.loop_packets.ensures.causes)

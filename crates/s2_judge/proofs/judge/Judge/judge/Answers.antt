@@ -7,7 +7,7 @@ use Rattle.s2_check.specs.Verdicts.{is_certified}
 use Rattle.s2_check.specs.declared.verdict.Verdict.TheVariants.{Sole}
 use Rattle.s2_check.proofs.Lists.{refilled}
 use Rattle.s2_split.specs.Scattered.{IsScattered}
-use Rattle.s2_judge.specs.Deciding.{decided, IsShown}
+use Rattle.s2_judge.specs.Deciding.{decided, rounds_run, IsShown}
 use Rattle.s2_judge.proofs.judge.Judge.judge.Goals as goal
 
 pub returns : goal.returns
@@ -28,6 +28,7 @@ returns c =
       verdict = was.verdict ∙ ap (λ d. d.verdict) is;
       bits = was.bits ∙ ap (λ d. d.bits) is;
       certificate = was.certificate ∙ ap (λ d. d.certificate) is;
+      rounds = was.rounds ∙ ap (rounds_run r n) values;
       likely = subst (λ (xs : List ℤ). IsTrue (is_certified verdict) → IsMostLikely (code_of r) xs bits) values was.likely;
       sole = subst (λ (xs : List ℤ). verdict ≡ Sole → IsSole (code_of r) xs bits) values was.sole;
       certified = subst (λ (xs : List ℤ). IsShown r xs (record { verdict = verdict; bits = bits; certificate = c.decide.new.self.certificate })) values was.certified;

@@ -1,0 +1,4 @@
+pub mod Sums
+pub mod Places
+pub mod Pieces
+pub mod Signs

@@ -1,0 +1,35 @@
+-- The sums of figures over frames (own).
+use Rattle.std.specs.Prelude.{ℕ, ◌+◌, ◌-◌, ◌^◌, min, Option, Some, None}
+use Rattle.s2_receive.specs.declared.figures.Figures.{Figures}
+use Rattle.s2_receive.specs.declared.figures.Sums.{Sums}
+use Rattle.s2_receive.specs.declared.figures.Tally.{Tally}
+use Rattle.s2_receive.specs.declared.report.Outcome.{Outcome}
+use Rattle.s2_receive.specs.declared.report.Outcome.TheVariants.{Delivered, NoWord, BadHeader}
+
+-- the sum of two numbers, at most 2 ^ 64 - 1
+abbrev pub saturated : ℕ → ℕ → ℕ
+saturated a b = min (a + b) (2 ^ 64 - 1)
+
+-- two sums in one, over the bits or symbols of both
+abbrev pub tally_sum : Tally → Tally → Tally
+tally_sum a b = record { sum = saturated a.sum b.sum; of = saturated a.of b.of }
+
+-- the sums over one frame
+abbrev pub sums_of : Figures → Sums
+sums_of f = record { changed = f.changed; known = f.known; payload = f.payload }
+
+-- the sums over one frame more
+abbrev pub sums_with : Sums → Figures → Sums
+sums_with s f = record { changed = tally_sum s.changed f.changed; known = tally_sum s.known f.known; payload = tally_sum s.payload f.payload }
+
+-- the sums after a frame, which has figures or not; there are none until a frame with figures comes
+abbrev pub sums_after : Option Sums → Option Figures → Option Sums
+sums_after sums None = sums
+sums_after None (Some f) = Some (sums_of f)
+sums_after (Some s) (Some f) = Some (sums_with s f)
+
+-- 1 for a frame with a BCH word whose header is refused, else 0
+abbrev pub refused_in : Outcome → ℕ
+refused_in (Delivered fixed) = 0
+refused_in NoWord = 0
+refused_in (BadHeader fault) = 1

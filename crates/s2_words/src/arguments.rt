@@ -1,0 +1,461 @@
+//! The arguments of all commands: options and files, with their forms, ranges, defaults and help.
+use clap::builder::ValueParser;
+use s2_link::{MAX_PASSES, MAX_ROLL_OFF, MAX_ROUNDS};
+use s2_minsum::{LEAST_FACTOR, MAX_FACTOR};
+use s2_mode::{MAX_BITS, MAX_GROUP, MAX_MODCOD};
+use s2_plframe::{HEADER_THRESHOLD, MAX_LOCK};
+use s2_rows::MAX_ADDRESSES;
+use s2_scramble::MAX_NUMBER;
+
+/// The decimal digits of the default rounds.
+pub(crate) const DEFAULT_ROUNDS_TEXT: &str = "50";
+
+/// The decimal digits of each divisor of soft values.
+pub(crate) const DIVISOR_TEXTS: [&str; 5] = ["4096", "8192", "16384", "32768", "65536"];
+
+/// The decimal digits of the default divisor.
+pub(crate) const DEFAULT_DIVISOR_TEXT: &str = "4096";
+
+/// The decimal digits of the default factor.
+pub(crate) const DEFAULT_FACTOR_TEXT: &str = "12";
+
+/// The decimal digits of the default lock.
+pub(crate) const DEFAULT_LOCK_TEXT: &str = "12";
+
+/// The form of an option on the command line.
+#[derive(Clone, Copy)]
+pub(crate) enum Form {
+    /// `--name`.
+    Flag,
+    /// `--name`, which excludes this other option.
+    FlagWithout(&'static str),
+    /// `--name VALUE`, a number in a range or of a list. It is required if it has no default.
+    Number {
+        value: &'static str,
+        allowed: ValueParser<'static>,
+        default: Option<&'static str>,
+    },
+    /// The same. If the value is not a number, the reader interprets it, or reports which values are accepted.
+    NumberOrText {
+        value: &'static str,
+        allowed: ValueParser<'static>,
+        default: Option<&'static str>,
+    },
+    /// `--name VALUE`, a number in a range, which may be left out.
+    NamedNumber {
+        value: &'static str,
+        allowed: ValueParser<'static>,
+    },
+    /// The same. If the value is not a number, the reader interprets it, or reports which values are accepted.
+    NamedNumberOrText {
+        value: &'static str,
+        allowed: ValueParser<'static>,
+    },
+    /// `--name VALUE`, which the reader interprets, and which may be left out. It may begin with a minus.
+    NamedText {
+        value: &'static str,
+    },
+    /// `--name FILE`.
+    NamedFile,
+    /// A file, by its place.
+    File,
+}
+
+/// An argument of a command: an option, or a file.
+#[derive(Clone, Copy)]
+pub(crate) struct Argument {
+    pub name: &'static str,
+    pub form: Form,
+    pub help: &'static str,
+}
+
+/// Any number of 64 bits.
+const ANY: ValueParser<'static> = ValueParser::Unsigned(0, u64::MAX);
+
+pub(crate) const GROUP: Argument = Argument {
+    name: "group",
+    form: Form::Number {
+        value: "G",
+        allowed: ValueParser::Signed(1, MAX_GROUP as i64),
+        default: None,
+    },
+    help: "Bits of a group, 1 to 360",
+};
+
+pub(crate) const GROUPS: Argument = Argument {
+    name: "groups",
+    form: Form::Number {
+        value: "N",
+        allowed: ValueParser::Signed(1, MAX_BITS as i64 - 1),
+        default: None,
+    },
+    help: "Groups of information bits, 1 to 64799",
+};
+
+pub(crate) const Q: Argument = Argument {
+    name: "q",
+    form: Form::Number {
+        value: "Q",
+        allowed: ValueParser::Signed(1, MAX_BITS as i64 - 1),
+        default: None,
+    },
+    help: "Checks by which a group's next bit moves on, 1 to 64799",
+};
+
+/// The numbers of a shape, for a command that takes a mode in their place.
+pub(crate) const GROUP_OR_MODE: Argument = Argument {
+    form: Form::NamedNumber {
+        value: "G",
+        allowed: ValueParser::Signed(1, MAX_GROUP as i64),
+    },
+    ..GROUP
+};
+
+pub(crate) const GROUPS_OR_MODE: Argument = Argument {
+    form: Form::NamedNumber {
+        value: "N",
+        allowed: ValueParser::Signed(1, MAX_BITS as i64 - 1),
+    },
+    ..GROUPS
+};
+
+pub(crate) const Q_OR_MODE: Argument = Argument {
+    form: Form::NamedNumber {
+        value: "Q",
+        allowed: ValueParser::Signed(1, MAX_BITS as i64 - 1),
+    },
+    ..Q
+};
+
+pub(crate) const WEIGHT: Argument = Argument {
+    name: "weight",
+    form: Form::Number {
+        value: "W",
+        allowed: ValueParser::Signed(1, MAX_ADDRESSES as i64),
+        default: None,
+    },
+    help: "Addresses of each row, 1 to 24",
+};
+
+pub(crate) const MODCOD: Argument = Argument {
+    name: "modcod",
+    form: Form::NumberOrText {
+        value: "M",
+        allowed: ValueParser::Signed(1, MAX_MODCOD as i64),
+        default: None,
+    },
+    help: "MODCOD, 1 to 17, or the mode's name, in small letters or in capitals, as qpsk3/4 or 8PSK2/3: `s2 modes` lists them",
+};
+
+/// The same option, for a command that can do without it.
+pub(crate) const MODCOD_OR_NONE: Argument = Argument {
+    form: Form::NamedNumberOrText {
+        value: "M",
+        allowed: ValueParser::Signed(1, MAX_MODCOD as i64),
+    },
+    ..MODCOD
+};
+
+pub(crate) const SHORT: Argument = Argument {
+    name: "short",
+    form: Form::Flag,
+    help: "Frames of 16200 bits, and not of 64800",
+};
+
+pub(crate) const PILOTS: Argument = Argument {
+    name: "pilots",
+    form: Form::Flag,
+    help: "Frames with pilot blocks; takes no value",
+};
+
+pub(crate) const NUMBER: Argument = Argument {
+    name: "number",
+    form: Form::Number {
+        value: "N",
+        allowed: ValueParser::Signed(0, MAX_NUMBER as i64),
+        default: Some("0"),
+    },
+    help: "Scrambling number, 0 to 262141",
+};
+
+pub(crate) const ROLL_OFF: Argument = Argument {
+    name: "ro",
+    form: Form::NumberOrText {
+        value: "R",
+        allowed: ValueParser::Signed(0, MAX_ROLL_OFF as i64),
+        default: Some("0"),
+    },
+    help: "Roll-off that headers tell: 0 for 0.35, 1 for 0.25, 2 for 0.20",
+};
+
+pub(crate) const DUMMY: Argument = Argument {
+    name: "dummy",
+    form: Form::Number {
+        value: "D",
+        allowed: ValueParser::Signed(0, u16::MAX as i64),
+        default: Some("0"),
+    },
+    help: "A dummy frame behind every D-th frame, 0 to 65535: 0 for none",
+};
+
+pub(crate) const ROUNDS: Argument = Argument {
+    name: "rounds",
+    form: Form::Number {
+        value: "K",
+        allowed: ValueParser::Signed(1, MAX_ROUNDS as i64),
+        default: Some(DEFAULT_ROUNDS_TEXT),
+    },
+    help: "Rounds of min-sum at most for each frame, 1 to 200",
+};
+
+pub(crate) const PASSES: Argument = Argument {
+    name: "passes",
+    form: Form::Number {
+        value: "P",
+        allowed: ValueParser::Signed(0, MAX_PASSES as i64),
+        default: Some("0"),
+    },
+    help: "Passes at most that look for a certificate of what has none yet, 0 to 1000",
+};
+
+pub(crate) const DIVISOR: Argument = Argument {
+    name: "divisor",
+    form: Form::Number {
+        value: "D",
+        allowed: ValueParser::Names(&DIVISOR_TEXTS),
+        default: Some(DEFAULT_DIVISOR_TEXT),
+    },
+    help: "What soft values are divided by: 8192 at low code rates, more for stronger symbols",
+};
+
+/// The same option, for a report that was made with it.
+pub(crate) const DIVISOR_OF_REPORT: Argument = Argument {
+    help: "What soft values were divided by: that of the reception, with --tuned 8192",
+    ..DIVISOR
+};
+
+pub(crate) const FACTOR: Argument = Argument {
+    name: "factor",
+    form: Form::Number {
+        value: "F",
+        allowed: ValueParser::Signed(LEAST_FACTOR as i64, MAX_FACTOR as i64),
+        default: Some(DEFAULT_FACTOR_TEXT),
+    },
+    help: "Sixteenths of a size that messages of min-sum have, 8 to 16: more at low code rates",
+};
+
+pub(crate) const LOCK: Argument = Argument {
+    name: "lock",
+    form: Form::Number {
+        value: "H",
+        allowed: ValueParser::Signed(HEADER_THRESHOLD as i64, MAX_LOCK as i64),
+        default: Some(DEFAULT_LOCK_TEXT),
+    },
+    help: "Bits of a header that may be wrong right behind a frame, 12 to 40; elsewhere 12 may",
+};
+
+pub(crate) const UNCERTIFIED: Argument = Argument {
+    name: "uncertified",
+    form: Form::FlagWithout("passes"),
+    help: "No certificate is looked for of what min-sum finds, which is `parity` then; not with --passes",
+};
+
+pub(crate) const TUNED: Argument = Argument {
+    name: "tuned",
+    form: Form::Flag,
+    help: "The factor that is best for the mode, --lock 30, --divisor 8192 and --passes 96; words that stand beside it win",
+};
+
+pub(crate) const SEED: Argument = Argument {
+    name: "seed",
+    form: Form::Number {
+        value: "S",
+        allowed: ANY,
+        default: None,
+    },
+    help: "Seed of the generator, any number of 64 bits",
+};
+
+pub(crate) const LEVEL: Argument = Argument {
+    name: "level",
+    form: Form::NamedNumber {
+        value: "L",
+        allowed: ValueParser::Signed(0, u16::MAX as i64),
+    },
+    help: "Level of the noise, 0 to 65535: a standard deviation of 0.816 L in each component, where a QPSK point has 700",
+};
+
+pub(crate) const ESN0: Argument = Argument {
+    name: "esn0",
+    form: Form::NamedText { value: "DB" },
+    help: "Es/N0 in dB, -10 to 40 with two decimals at most: Gaussian noise, for symbols of the amplitude that `mod` sends",
+};
+
+pub(crate) const RATE: Argument = Argument {
+    name: "rate",
+    form: Form::NamedText { value: "R" },
+    help: "Symbols a second, 1 to 1000000000, also as 27.5M, 27.5e6 or 27500k: adds the bits a second of the transport stream",
+};
+
+/// The same option, for a command that can have many seeds in its place.
+pub(crate) const SEED_OR_SEEDS: Argument = Argument {
+    form: Form::NamedNumber {
+        value: "S",
+        allowed: ANY,
+    },
+    ..SEED
+};
+
+pub(crate) const SEEDS: Argument = Argument {
+    name: "seeds",
+    form: Form::NamedText { value: "A..B" },
+    help: "In the place of --seed: one run for each seed from A to B, both among them, and a last line of sums",
+};
+
+pub(crate) const FIGURES: Argument = Argument {
+    name: "figures",
+    form: Form::Flag,
+    help: "Figures of the link at the end of each frame's line, and their sums at the end of the last line",
+};
+
+pub(crate) const STRICT: Argument = Argument {
+    name: "strict",
+    form: Form::Flag,
+    help: "Exit 2 also where symbols were passed over, a packet was bad or torn, or no frame was found in 90 symbols or more",
+};
+
+pub(crate) const QUIET: Argument = Argument {
+    name: "quiet",
+    form: Form::Flag,
+    help: "No notes on standard error",
+};
+
+/// The same option, for a command that shows progress.
+pub(crate) const QUIET_AND_STILL: Argument = Argument {
+    help: "No notes on standard error, and no progress but by --progress",
+    ..QUIET
+};
+
+pub(crate) const PROGRESS: Argument = Argument {
+    name: "progress",
+    form: Form::Flag,
+    help: "Progress on standard error, also where that is no terminal: a line that is rewritten once a second",
+};
+
+pub(crate) const HARD: Argument = Argument {
+    name: "hard",
+    form: Form::Flag,
+    help: "Decided bits, 0 and 1, in the place of soft values: 0 is the value 1, and 1 is -1",
+};
+
+pub(crate) const EACH_FRAME: Argument = Argument {
+    name: "each",
+    form: Form::Flag,
+    help: "Values of any number of frames, one after the other: a line of the report for each, and all certificates in one file",
+};
+
+pub(crate) const EACH_CERTIFICATE: Argument = Argument {
+    name: "each",
+    form: Form::Flag,
+    help: "Certificates of any number of frames, one after the other: a line of the report for each",
+};
+
+pub(crate) const CERTIFICATE: Argument = Argument {
+    name: "cert",
+    form: Form::NamedFile,
+    help: "File for the certificate of a word that is sole or most likely: none is made without it",
+};
+
+pub(crate) const CERTIFICATES: Argument = Argument {
+    name: "certificates",
+    form: Form::NamedFile,
+    help: "File for the certificates of all frames that are sole or most likely, as `check --each` reads them",
+};
+
+pub(crate) const VALUES: Argument = Argument {
+    name: "values",
+    form: Form::NamedFile,
+    help: "File for the soft values of each frame, a line each, as `judge` reads one",
+};
+
+pub(crate) const CODEWORDS: Argument = Argument {
+    name: "codewords",
+    form: Form::NamedFile,
+    help: "File for the decided bits of each frame, eight to a byte, the first one highest",
+};
+
+pub(crate) const BBFRAMES: Argument = Argument {
+    name: "bbframes",
+    form: Form::NamedFile,
+    help: "File for the BBFRAMEs, as `join` reads them: zeros for a frame that is lost, and before one that follows a gap",
+};
+
+pub(crate) const SENT_CODEWORDS: Argument = Argument {
+    help: "File for the codeword of each frame, eight bits to a byte, the first one highest, as `demod --codewords` writes it",
+    ..CODEWORDS
+};
+
+pub(crate) const SENT_BBFRAMES: Argument = Argument {
+    help: "File for the BBFRAME of each frame, not scrambled, as `join` reads it and `demod --bbframes` writes it",
+    ..BBFRAMES
+};
+
+/// An argument that is the name of a file.
+macro_rules! file {
+    ($name:literal, $help:literal) => {
+        Argument {
+            name: $name,
+            form: Form::File,
+            help: $help,
+        }
+    };
+}
+
+pub(crate) const ROWS: Argument = file!("ROWS", "Row file");
+
+pub(crate) const PACKETS: Argument = file!("PACKETS", "Transport stream, packets of 188 bytes");
+
+pub(crate) const SOFT_VALUES: Argument = file!(
+    "SOFT",
+    "Value file, one value for each bit of a codeword, or with --each of any number of codewords"
+);
+
+pub(crate) const CERTIFICATE_READ: Argument = file!("CERT", "Certificate file");
+
+pub(crate) const SYMBOLS_MADE: Argument = file!(
+    "SYMBOLS",
+    "File for the symbols, four bytes each: I and Q, signed, high byte first"
+);
+
+pub(crate) const CLEAN_SYMBOLS: Argument = file!("IN", "File of symbols");
+
+pub(crate) const NOISY_SYMBOLS: Argument = file!("OUT", "File for the symbols with noise");
+
+pub(crate) const SYMBOLS: Argument = file!(
+    "SYMBOLS",
+    "File of symbols, four bytes each: I and Q, signed, high byte first"
+);
+
+pub(crate) const PACKETS_MADE: Argument = file!("PACKETS", "File for the packets");
+
+pub(crate) const PACKETS_RECEIVED: Argument = file!(
+    "OUT",
+    "File for the packets that are received"
+);
+
+pub(crate) const RECORDING: Argument = file!(
+    "SYMBOLS",
+    "Recording, four bytes a symbol: I and Q, signed, in either byte order"
+);
+
+pub(crate) const BBFRAMES_READ: Argument = file!(
+    "BBFRAMES",
+    "File of BBFRAMEs, Kbch / 8 bytes each with the header, not scrambled"
+);
+
+pub(crate) const REPORT: Argument = file!("REPORT", "Report of `demod`");
+
+pub(crate) const CERTIFICATES_READ: Argument = file!(
+    "CERTIFICATES",
+    "Certificates that `demod --certificates` wrote"
+);
