@@ -5,6 +5,7 @@ ghost use Rattle.s2_bits.specs.Bits.{xor, bit_at, bit_of_bytes, byte_of, number,
 ghost use Rattle.s2_bits.specs.Lending.{LendsTruths};
 
 use crate::bools;
+use crate::spelling::byte_at;
 use std::alloc::{AllocError, Global};
 use std::marker::Model;
 
@@ -135,9 +136,9 @@ impl Bits {
         }
     }
 
-    /// Bits 8i to 8i + 7 as a byte, the first of them highest, with zeros past the end.
+    // a byte that may reach past the end
     #[tactic(auto, using(crate::proofs::Steps::byte_past))]
-    pub fn byte(&self, i: usize) -> u8
+    fn padded_byte(&self, i: usize) -> u8
         ensures { result ≡ byte_of (λ k. bit_at self.now (8 * i + k)) }
     {
         if i > self.truths.len() / 8 {
@@ -153,5 +154,16 @@ impl Bits {
             + 2 * self.bit(at + 6)
             + self.bit(at + 7);
         16 * high + low
+    }
+
+    /// Bits 8i to 8i + 7 as a byte, the first of them highest, with zeros past the end.
+    pub fn byte(&self, i: usize) -> u8
+        ensures { result ≡ byte_of (λ k. bit_at self.now (8 * i + k)) }
+    {
+        if i < self.truths.len() / 8 {
+            byte_at(&self.truths, 8 * i)
+        } else {
+            self.padded_byte(i)
+        }
     }
 }

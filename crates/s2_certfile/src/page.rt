@@ -37,6 +37,18 @@ pub(crate) fn put<W: CountedWrite>(out: &mut W, page: &mut Page, byte: u8) -> Re
     Ok(())
 }
 
+/// Puts bytes into the page, one after another, and writes it whenever it is full.
+fn put_each<W: CountedWrite>(out: &mut W, page: &mut Page, bytes: &[u8]) -> Result<(), WriteFault>
+    requires { CanCount (W.count out.old) }
+    ensures bytes { PutsThrough bytes.now (W.contents out.old) (W.contents out.new) page.old.items page.new.items result }
+    ensures cause { CountsFault (W.count out.old) (W.count out.new) result }
+{
+    for byte in bytes {
+        put(out, page, *byte)?;
+    }
+    Ok(())
+}
+
 /// Puts bytes into the page, and writes it whenever it is full.
 pub(crate) fn put_all<W: CountedWrite>(
     out: &mut W,
@@ -47,8 +59,8 @@ pub(crate) fn put_all<W: CountedWrite>(
     ensures bytes { PutsThrough bytes.now (W.contents out.old) (W.contents out.new) page.old.items page.new.items result }
     ensures cause { CountsFault (W.count out.old) (W.count out.new) result }
 {
-    for byte in bytes {
-        put(out, page, *byte)?;
+    if page.try_extend_from_slice(bytes).is_ok() {
+        return Ok(());
     }
-    Ok(())
+    put_each(out, page, bytes)
 }

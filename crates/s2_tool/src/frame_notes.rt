@@ -64,7 +64,10 @@ fn amplitude_start(amplitude: u64, whole: u64) -> Line
     ensures { result ≡ amplitude_start amplitude whole }
 {
     let mut line = Line::new();
-    line.push_number("s2: note: the headers' amplitude, noise included, is ", amplitude);
+    line.push_number(
+        "s2: note: the headers' amplitude, noise included, is ",
+        amplitude,
+    );
     line.push_number(", not 990: use --gain ", whole);
     line.push(".");
     line

@@ -1,7 +1,7 @@
 use Rattle.std.proofs.Common.{arith, refl, ◌∙◌}
 use Rattle.std.proofs.lemmas.Result.{err_from_is_err_and}
 use Rattle.s2_certfile.proofs.Pages.{byte_through, byte_part}
-use Rattle.s2_certfile.proofs.page.put_all.Goals as goal
+use Rattle.s2_certfile.proofs.page.put_each.Goals as goal
 
 pub returns-in_err-put-clause-bytes : goal.returns-in_err-put-clause-bytes
 returns-in_err-put-clause-bytes g c =

@@ -1,6 +1,6 @@
 use Rattle.std.proofs.Common.{◌≡◌, take}
 use Rattle.s2_certfile.specs.Pages.{GoesThrough}
-use Rattle.s2_certfile.proofs.page.put_all.Given as goal
+use Rattle.s2_certfile.proofs.page.put_each.Given as goal
 
 abbrev pub invariant-loop-byte : goal.invariant-loop-byte
 invariant-loop-byte g l = record {
