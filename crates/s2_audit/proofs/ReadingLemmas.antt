@@ -1,30 +1,39 @@
 -- What is read of a report and of a recording, byte by byte and symbol by symbol.
-use Rattle.std.proofs.Common.{◌≡◌, ℕ, ◌+◌, ◌*◌, ◌<◌, ◌≤◌, ◌==◌, Bool, true, false, List, [], ◌∷◌, ◌++◌, All, Option, Some, None, length, take, refl, sym, ap, subst, ◌∙◌, append-nil, length-append, arith, inl, inr}
+use Rattle.std.proofs.Common.{◌≡◌, ℕ, ◌+◌, ◌*◌, ◌<◌, ◌≤◌, ◌==◌, Bool, true, false, List, [], ◌∷◌, ◌++◌, All, Option, Some, None, length, take, refl, sym, ap, subst, ◌∙◌, append-nil, length-append, arith, inl, inr, Result, Ok, Err, IfOk}
 use Rattle.std.specs.Io.KnownBytes.{Consumes, IsAtEnd}
 use Rattle.std.proofs.KnownBytes.{Consumes-nil, Consumes-trans}
 use Rattle.std.proofs.lemmas.List.{length-take-le, take_all}
 use Rattle.std.proofs.lemmas.List.Elements.{All-nil, All-push}
-use Rattle.s2_mode.specs.declared.symbols.Symbol.{Symbol}
-use Rattle.s2_mode.specs.Symbols.{YieldsSymbol}
 use Rattle.s2_rows.specs.Text.{is_line_feed}
 use Rattle.s2_audit.specs.Entries.{IsLine}
 use Rattle.s2_audit.specs.Limits.{line_bytes}
-use Rattle.s2_audit.specs.Reading.{EndsBefore, GivesByte, GivesLine, ReadsAt, Skips}
+use Rattle.s2_audit.specs.Reading.{EndsBefore, GivesByte, GivesLine, ReadsAt, SkipsBytes}
 
--- ---- symbols
+-- ---- skipped bytes
 
-pub skip_none : (a : Option (List ℕ)) → Skips 0 a a true
-skip_none a = ([], refl, Consumes-nil a)
+pub skip_none : (n : ℕ) (a : Option (List ℕ)) → n ≡ 0 → SkipsBytes n a a true
+skip_none n a none = ([], sym none, Consumes-nil a)
 
-pub skip_more : (n : ℕ) (a b c : Option (List ℕ)) (symbol : Symbol) → Skips n a b true → YieldsSymbol b c (Some symbol) → Skips (n + 1) a c true
-skip_more n a b c symbol (bytes, long, read) (more, four, is, then) =
-    let total : length (bytes ++ more) ≡ length bytes + length more = length-append bytes more in
-    (bytes ++ more, omega (arith, total, long, four), Consumes-trans a b c bytes more read then)
+-- more bytes after those that were skipped, or fewer
+module _ (n m : ℕ) (a b c : Option (List ℕ)) where
+  pub skip_more : (total : ℕ) → total ≡ n + m → SkipsBytes n a b true → SkipsBytes m b c true → SkipsBytes total a c true
+  skip_more total is (bytes, long, read) (more, others, then) =
+      let whole : length (bytes ++ more) ≡ length bytes + length more = length-append bytes more in
+      (bytes ++ more, omega (arith, whole, long, others, is), Consumes-trans a b c bytes more read then)
 
-pub skip_ends : (n count : ℕ) (a b c : Option (List ℕ)) → n < count → Skips n a b true → YieldsSymbol b c None → EndsBefore (4 * count) a c
-skip_ends n count a b c few (bytes, long, read) (more, short, then, end) =
-    let total : length (bytes ++ more) ≡ length bytes + length more = length-append bytes more in
-    (bytes ++ more, omega (arith, total, long, short, few), Consumes-trans a b c bytes more read then, end)
+  pub skip_ends : (total : ℕ) → n + m ≤ total → SkipsBytes n a b true → SkipsBytes m b c false → SkipsBytes total a c false
+  skip_ends total few (bytes, long, read) (more, short, then, end) =
+      let whole : length (bytes ++ more) ≡ length bytes + length more = length-append bytes more in
+      (bytes ++ more, omega (arith, whole, long, short, few), Consumes-trans a b c bytes more read then, end)
+
+  pub skip_last : {F : Type 0} (total : ℕ) (went : Result Bool F) → total ≡ n + m → SkipsBytes n a b true → IfOk went (SkipsBytes m b c) → IfOk went (SkipsBytes total a c)
+  skip_last total (Ok true) is first last = skip_more total is first last
+  skip_last total (Ok false) is first last = skip_ends total (omega (arith, is)) first last
+  skip_last total (Err f) is first last = tt
+
+  -- the first bytes of a buffer, after others
+  pub skip_front : {F : Type 0} (k total : ℕ) (buf : List ℕ) (went : Result Bool F) → k ≤ length buf → k ≡ m → total ≡ n + m → SkipsBytes n a b true → IfOk went (SkipsBytes (length (take k buf)) b c) → IfOk went (SkipsBytes total a c)
+  skip_front k total buf went most is whole first last = skip_last total went whole first (subst (λ l. IfOk went (SkipsBytes l b c)) (length-take-le k buf most ∙ is) last)
 
 -- ---- a line
 
@@ -54,12 +63,12 @@ line_long a b line so long = (so.whole, so.read, inr long)
 pub ends_sooner : (n more : ℕ) (a b : Option (List ℕ)) → EndsBefore n a b → EndsBefore (n + more) a b
 ends_sooner n more a b (bytes, short, read, end) = (bytes, omega (arith, short), read, end)
 
-pub reads_less : (n k : ℕ) (a b c : Option (List ℕ)) (buf : List ℕ) → Skips n a b true → k ≤ length buf → k < length buf → Consumes b c (take k buf) → IsAtEnd c → EndsBefore (4 * n + length buf) a c
+pub reads_less : (n k : ℕ) (a b c : Option (List ℕ)) (buf : List ℕ) → SkipsBytes (4 * n) a b true → k ≤ length buf → k < length buf → Consumes b c (take k buf) → IsAtEnd c → EndsBefore (4 * n + length buf) a c
 reads_less n k a b c buf (bytes, long, read) most short then end =
     let part : length (take k buf) ≡ k = length-take-le k buf most in
     let total : length (bytes ++ take k buf) ≡ length bytes + length (take k buf) = length-append bytes (take k buf) in
     (bytes ++ take k buf, omega (arith, total, part, long, short), Consumes-trans a b c bytes (take k buf) read then, end)
 
-pub reads_there : (n k : ℕ) (a b c : Option (List ℕ)) (buf : List ℕ) → Skips n a b true → k ≤ length buf → length buf ≤ k → Consumes b c (take k buf) → ReadsAt n a c buf true
+pub reads_there : (n k : ℕ) (a b c : Option (List ℕ)) (buf : List ℕ) → SkipsBytes (4 * n) a b true → k ≤ length buf → length buf ≤ k → Consumes b c (take k buf) → ReadsAt n a c buf true
 reads_there n k a b c buf (bytes, long, read) most whole then =
     (bytes, long, Consumes-trans a b c bytes buf read (subst (Consumes b c) (take_all k buf (omega (arith, most, whole))) then))

@@ -45,10 +45,10 @@ NextEntry number old new (Err f) = (f ≡ line_fault number) × IsUnreadable old
 abbrev pub EndsBefore : ℕ → Option (List ℕ) → Option (List ℕ) → Type 0
 EndsBefore count old new = (bytes : List ℕ) × (length bytes < count) × Consumes old new bytes × IsAtEnd new
 
--- symbols were skipped, four bytes each, or the reader has fewer
-abbrev pub Skips : ℕ → Option (List ℕ) → Option (List ℕ) → Bool → Type 0
-Skips count old new true = (bytes : List ℕ) × (length bytes ≡ 4 * count) × Consumes old new bytes
-Skips count old new false = EndsBefore (4 * count) old new
+-- this many bytes were skipped, or the reader has fewer
+abbrev pub SkipsBytes : ℕ → Option (List ℕ) → Option (List ℕ) → Bool → Type 0
+SkipsBytes count old new true = (bytes : List ℕ) × (length bytes ≡ count) × Consumes old new bytes
+SkipsBytes count old new false = EndsBefore count old new
 
 -- symbols were skipped and these bytes follow them, or the reader has fewer
 abbrev pub ReadsAt : ℕ → Option (List ℕ) → Option (List ℕ) → List ℕ → Bool → Type 0

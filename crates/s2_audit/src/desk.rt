@@ -8,7 +8,7 @@ ghost use Rattle.s2_plframe.specs.Payload.{received_payload};
 ghost use Rattle.s2_soft.specs.Soft.{soft_values};
 ghost use Rattle.s2_audit.specs.Desks.{terms_of, FindsOrLacks, TakesBlock};
 ghost use Rattle.s2_audit.specs.Limits.{certificate_bytes, frame_bytes};
-ghost use Rattle.s2_audit.specs.Reading.{ReadsAt, Skips};
+ghost use Rattle.s2_audit.specs.Reading.{ReadsAt, SkipsBytes};
 ghost use Rattle.s2_audit.specs.Showing.{Finds};
 
 use crate::judging::{Finding, judge_bytes};
@@ -16,25 +16,52 @@ use s2_check::Verdict;
 use s2_console::Fault;
 use s2_link::Link;
 use s2_matrix::Matrix;
-use s2_mode::{CountedRead, Mode, ReadFault, Symbol, read_full, read_symbol, symbols_into};
+use s2_mode::{CountedRead, Mode, ReadFault, Symbol, read_full, symbols_into};
 use s2_plframe::payload_of;
 use s2_scramble::Gold;
 use s2_soft::{Divisor, soft_into};
 use std::alloc::{AllocError, Global};
 use std::marker::Model;
 
-/// Skips symbols. False if the reader has fewer.
-fn skip<R: CountedRead>(reader: &mut R, count: u64) -> Result<bool, ReadFault>
+/// Skips as many bytes as the buffer holds. False if the reader has fewer.
+fn skip_bytes<R: CountedRead>(reader: &mut R, bytes: &mut [u8]) -> Result<bool, ReadFault>
     requires { CanCount (R.count reader.old) }
-    ensures skips { IfOk result (Skips count (R.remaining reader.old) (R.remaining reader.new)) }
+    ensures skips { IfOk result (SkipsBytes (length bytes.old) (R.remaining reader.old) (R.remaining reader.new)) }
     ensures cause { CountsFault (R.count reader.old) (R.count reader.new) result }
 {
-    'symbols: for _taken in 0..count {
-        let Some(_symbol) = read_symbol(reader)? else {
-            return Ok(false);
-        };
+    if read_full(reader, bytes)? < bytes.len() {
+        return Ok(false);
     }
     Ok(true)
+}
+
+/// Skips blocks of 1024 symbols. False if the reader has fewer.
+fn skip_blocks<R: CountedRead>(reader: &mut R, count: u64) -> Result<bool, ReadFault>
+    requires { CanCount (R.count reader.old) }
+    ensures skips { IfOk result (SkipsBytes (4096 * count) (R.remaining reader.old) (R.remaining reader.new)) }
+    ensures cause { CountsFault (R.count reader.old) (R.count reader.new) result }
+{
+    'taken: for _done in 0..count {
+        let mut block = [0u8; 4096];
+        if !skip_bytes(reader, &mut block)? {
+            return Ok(false);
+        }
+    }
+    Ok(true)
+}
+
+/// Skips symbols, in blocks. False if the reader has fewer.
+fn skip<R: CountedRead>(reader: &mut R, count: u64) -> Result<bool, ReadFault>
+    requires { CanCount (R.count reader.old) }
+    ensures skips { IfOk result (SkipsBytes (4 * count) (R.remaining reader.old) (R.remaining reader.new)) }
+    ensures cause { CountsFault (R.count reader.old) (R.count reader.new) result }
+{
+    if !skip_blocks(reader, count / 1024)? {
+        return Ok(false);
+    }
+    let mut block = [0u8; 4096];
+    let rest = (count % 1024) as usize;
+    skip_bytes(reader, &mut block[..4 * rest])
 }
 
 /// Skips symbols, and fills the buffer with the bytes after them. False if the reader has fewer.

@@ -1,16 +1,9 @@
-use Rattle.std.proofs.Common.{rules, subst}
-use Rattle.s2_mode.specs.Symbols.{YieldsSymbol}
-use Rattle.s2_audit.proofs.ReadingLemmas.{skip_none, skip_more, skip_ends}
+use Rattle.std.proofs.Common.{◌≡◌, ◌*◌, ◌%◌, true, refl, rules, arith, subst}
+use Rattle.s2_audit.specs.Reading.{SkipsBytes}
+use Rattle.s2_audit.proofs.ReadingLemmas.{skip_front}
 use Rattle.s2_audit.proofs.desk.skip.Goals as goal
 
-pub symbols-init : goal.symbols-init
-symbols-init g c = record { skipped = skip_none _; reads = search rules }
-
-pub returns-in_default-clause-skips : goal.returns-in_default-clause-skips
-returns-in_default-clause-skips g c = skip_ends _ _ _ _ _ c.symbols-test.true c.symbols.invariant.skipped (subst (YieldsSymbol _ _) c.in_default.is c.in_ok-_symbol.ensures.symbol)
-
-pub symbols-preserved : goal.symbols-preserved
-symbols-preserved g c = record {
-  skipped = skip_more _ _ _ _ _ c.symbols.invariant.skipped (subst (YieldsSymbol _ _) c.in-Some.is c.in_ok-_symbol.ensures.symbol);
-  reads = search rules;
-}
+pub returns-clause-skips : goal.returns-clause-skips
+returns-clause-skips g c =
+    let went : c.in_ok-skip_blocks.field-0 ≡ true = search rules in
+    skip_front _ (4 * (c.args.count % 1024)) _ _ _ _ _ _ c.skip_bytes.result (omega arith) refl (omega arith) (subst (SkipsBytes _ _ _) went c.in_ok-skip_blocks.ensures.skips) c.skip_bytes.ensures.skips
