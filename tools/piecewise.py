@@ -4,7 +4,9 @@ What a receiver meets is a function of the symbols. After a frame its search dep
 a frame, and holds no symbols. So two receivers that report a frame at one position report the same frames from there on. A new receiver
 is put in that state by a dummy frame before its first symbol. The packets and their counts come from `s2 join`, which reads the BBFRAMEs."""
 import collections
+import contextlib
 import ctypes
+import fcntl
 import itertools
 import math
 import os
@@ -24,8 +26,8 @@ TOP = os.path.dirname(os.path.dirname(os.path.realpath(__file__)))
 SYMBOL, HEADER, DUMMY, BLOCK = 4, 90, 3330, 1 << 20
 # A header of a BBFRAME; a packet's body; the SYNCD of a field in which no packet begins.
 BBHEADER, BODY, NO_PLACE = 10, 187, 65535
-# of Linux: the signal that a process gets when the one that began it ends
-PR_SET_PDEATHSIG = 1
+# of Linux: the signal that a process gets when the one that began it ends, and the size of a pipe
+PR_SET_PDEATHSIG, F_SETPIPE_SZ = 1, 1031
 # Seconds for which the removal of a folder is tried again.
 REMOVAL = 5
 RECORDS = ("certificates", "values", "codewords", "bbframes")
@@ -140,6 +142,9 @@ class Receiver(typing.NamedTuple):
         before = [bytes.fromhex(self.dummy)] if stretch.follows else []
         with open(f"{folder}/report", "wb") as report, open(f"{folder}/notes", "wb") as notes:
             child = subprocess.Popen(words, stdin=subprocess.PIPE, stdout=report, stderr=notes)
+            # fewer turns between the two; refused where the user has no room for it
+            with contextlib.suppress(OSError):
+                fcntl.fcntl(child.stdin, F_SETPIPE_SZ, BLOCK)
             try:
                 feed(child.stdin, itertools.chain(before, symbols))
                 code = child.wait()
