@@ -5,7 +5,7 @@ use super::toy::{
     put_symbols, receive, receive_in_bytes, receive_within, take, take_within, totals, toy,
 };
 use s2_mode::{ByOne, MAX_SYMBOLS, StreamFault, WriteFault};
-use s2_receive::{Fault, Received, Step, Totals, laws};
+use s2_receive::{Fault, Received, Step, Totals};
 use std::alloc::{AllocError, Global};
 use std::process::Abort;
 use std::test::Fail;
@@ -123,17 +123,6 @@ fn assert_joined<A: Abort>(rt: &A, alloc: Global, bytes: &[u8]) -> Result<(), Fa
 fn writes_a_packet_and_a_line_of_each_frame(rt: HostRuntime) -> Result<(), Fail> {
     let bytes = frames_of(rt.alloc(), &[-1, 1], 0, 2)?;
     assert_joined(&rt, rt.alloc(), &bytes)
-}
-
-#[test]
-fn keeps_its_laws(_rt: HostRuntime) -> Result<(), Fail> {
-    laws::joining();
-    laws::reception();
-    laws::front();
-    laws::searching();
-    laws::same_bytes();
-    laws::two_runs();
-    Ok(())
 }
 
 /// A frame after 1100 symbols that lacks its last byte.
