@@ -1,5 +1,5 @@
 -- Gaussian noise (this project's own): how strong it is by Es/N0, and what a component gains by it. Symbols have the energy
--- Es = 2 · 700², and each component gains noise of the variance N0/2.
+-- Es = 2 · 700². The noise of a component has the variance N0/2 before it is rounded to a whole number.
 use Rattle.std.specs.Prelude.{Bool, ◌&&◌, nat_le, ℕ, zero, suc, ℤ, pos, ◌+◌, ◌-◌, ◌*◌, ◌/◌, ◌^◌, ◌-ℤ◌}
 
 -- the highest Es/N0, 40 dB, in hundredths of a dB above the lowest, -10 dB
@@ -28,9 +28,10 @@ amplitude_at (suc n) = nearest (amplitude_at n * hundredth)
 unfoldable pub gaussian_gain : ℕ → ℕ → ℤ
 gaussian_gain a drawn = pos (nearest ((drawn - 8160) * a)) -ℤ pos (nearest ((8160 - drawn) * a))
 
--- An amplitude gives a component noise of the variance N0/2, to 0.001 %. The variance is 349520 times its square, in units of
--- 2^-60. It is 490000 times 10 for -10 dB, and 10^(1/100) times less for each tenth of a dB. The hundredth powers are compared,
--- which are whole numbers.
+-- The sum of 64 bytes less its mean, times this amplitude, has the variance N0/2, to 0.001 %. This is the noise of a component
+-- before it is rounded. The sum has the variance 349520, so the product has 349520 times the square of the amplitude, in units
+-- of 2^-60. N0/2 is 490000 times 10 for -10 dB, and 10^(1/100) times less for each tenth of a dB. The hundredth powers are
+-- compared, which are whole numbers.
 unfoldable pub has_variance : ℕ → ℕ → Bool
 has_variance tenths a =
     let variance = (100000 * 349520 * a ^ 2) ^ 100 * 10 ^ tenths in

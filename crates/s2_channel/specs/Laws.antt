@@ -21,6 +21,6 @@ SilentLaw = (g : Lcg) (s : Symbol) → FitsSigned w16 s.i → FitsSigned w16 s.q
 abbrev pub SilentStreamLaw : Type 0
 SilentStreamLaw = (g : Lcg) (bytes : List ℕ) → All (λ b. b < 256) bytes → noisy silence g (symbols_of bytes) ≡ take (length bytes / 4 * 4) bytes
 
--- the amplitude is right at each tenth of a dB from -10 dB to 40 dB
+-- at each tenth of a dB from -10 dB to 40 dB, the amplitude gives noise of the variance N0/2, before it is rounded
 abbrev pub VarianceLaw : Type 0
 VarianceLaw = (tenths : ℕ) → tenths ≤ 500 → IsTrue (has_variance tenths (amplitude_at (10 * tenths)))

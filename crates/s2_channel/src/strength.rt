@@ -18,7 +18,7 @@ const HUNDREDTH: u64 = 1_072_506_344;
 
 /// An Es/N0 of -10 to 40 dB, in hundredths of a dB. Its value is the number of hundredths above -10 dB.
 ///
-/// Es is the energy of a symbol, 2 · 700², and N0 twice the variance of the noise in each component.
+/// Es is the energy of a symbol, 2 · 700², and N0 twice the variance of the noise in each component before it is rounded.
 #[derive(Clone, Copy, Debug, PartialEq, Eq)]
 pub struct EsN0 {
     above: u16,
