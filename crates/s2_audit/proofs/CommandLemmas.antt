@@ -9,7 +9,7 @@ use Rattle.s2_console.specs.declared.fault.Fault.{Fault}
 use Rattle.s2_console.specs.declared.fault.Fault.TheVariants as faults
 use Rattle.s2_link.specs.Link.{Link, link_of}
 use Rattle.s2_link.specs.declared.setup.Setup.{Setup}
-use Rattle.s2_evidence.specs.Inputs.{rows_in}
+use Rattle.s2_inputs.specs.Inputs.{rows_in}
 use Rattle.s2_audit.specs.Auditing.{ReachesLimit}
 use Rattle.s2_audit.specs.Commands.{AuditExits, AuditRuns, AuditsLink, Causes, Files}
 use Rattle.std.specs.Io.KnownBytes.{Appends}

@@ -10,7 +10,7 @@ use Rattle.s2_console.specs.Exits.{Complains, Follows, counted, exit_of}
 use Rattle.s2_console.specs.Screens.{Screen}
 use Rattle.s2_link.specs.Link.{Link, link_of}
 use Rattle.s2_link.specs.declared.setup.Setup.{Setup}
-use Rattle.s2_evidence.specs.Inputs.{rows_in}
+use Rattle.s2_inputs.specs.Inputs.{rows_in}
 use Rattle.s2_audit.specs.Desks.{terms_of}
 use Rattle.s2_audit.specs.Turns.{Evidence}
 use Rattle.s2_audit.specs.Auditing.{AuditsToEnd, ReachesLimit}

@@ -10,7 +10,7 @@ ghost use Rattle.s2_audit.specs.Auditing.{ReachesLimit};
 use crate::auditing::audit_lines;
 use crate::desk::Desk;
 use s2_console::{Console, Exit, Fault};
-use s2_evidence::read_matrix;
+use s2_inputs::read_matrix;
 use s2_link::{Link, LinkSetup};
 use s2_mode::{CountedRead, CountedWrite};
 use s2_soft::Divisor;

@@ -43,37 +43,35 @@ fn has_the_numbers_of_the_table(rt: HostRuntime) {
     }
 }
 
-// The constellation, the code rate, the Es/N0 in hundredths of a dB (tables 12 and 13), and the measured factor of each
-// MODCOD from 1 on.
-const MODCODS: [(Modulation, &str, i16, u32); 17] = [
-    (Modulation::Qpsk, "1/4", -235, 15),
-    (Modulation::Qpsk, "1/3", -124, 14),
-    (Modulation::Qpsk, "2/5", -30, 13),
-    (Modulation::Qpsk, "1/2", 100, 13),
-    (Modulation::Qpsk, "3/5", 223, 11),
-    (Modulation::Qpsk, "2/3", 310, 13),
-    (Modulation::Qpsk, "3/4", 403, 13),
-    (Modulation::Qpsk, "4/5", 468, 13),
-    (Modulation::Qpsk, "5/6", 518, 13),
-    (Modulation::Qpsk, "8/9", 620, 13),
-    (Modulation::Qpsk, "9/10", 642, 13),
-    (Modulation::Psk8, "3/5", 550, 13),
-    (Modulation::Psk8, "2/3", 662, 13),
-    (Modulation::Psk8, "3/4", 791, 12),
-    (Modulation::Psk8, "5/6", 935, 12),
-    (Modulation::Psk8, "8/9", 1069, 13),
-    (Modulation::Psk8, "9/10", 1098, 13),
+// The constellation, the code rate, and the Es/N0 in hundredths of a dB (tables 12 and 13) of each MODCOD from 1 on.
+const MODCODS: [(Modulation, &str, i16); 17] = [
+    (Modulation::Qpsk, "1/4", -235),
+    (Modulation::Qpsk, "1/3", -124),
+    (Modulation::Qpsk, "2/5", -30),
+    (Modulation::Qpsk, "1/2", 100),
+    (Modulation::Qpsk, "3/5", 223),
+    (Modulation::Qpsk, "2/3", 310),
+    (Modulation::Qpsk, "3/4", 403),
+    (Modulation::Qpsk, "4/5", 468),
+    (Modulation::Qpsk, "5/6", 518),
+    (Modulation::Qpsk, "8/9", 620),
+    (Modulation::Qpsk, "9/10", 642),
+    (Modulation::Psk8, "3/5", 550),
+    (Modulation::Psk8, "2/3", 662),
+    (Modulation::Psk8, "3/4", 791),
+    (Modulation::Psk8, "5/6", 935),
+    (Modulation::Psk8, "8/9", 1069),
+    (Modulation::Psk8, "9/10", 1098),
 ];
 
 #[test]
 fn has_the_modcods_of_the_standard(rt: HostRuntime) -> Result<(), Fail> {
-    for (at, (modulation, rate, ideal, factor)) in MODCODS.iter().enumerate() {
+    for (at, (modulation, rate, ideal)) in MODCODS.iter().enumerate() {
         let mode = Mode::of(at as u8 + 1, false, false).ok_or("none")?;
         assert_eq!(rt; mode.modulation(), *modulation, "at {at}");
         assert_eq!(rt; mode.code_rate(), *rate, "at {at}");
         assert_eq!(rt; mode.rate_index(), LINES[at], "at {at}");
         assert_eq!(rt; mode.ideal(), *ideal, "at {at}");
-        assert_eq!(rt; mode.tuned_factor(), *factor, "at {at}");
     }
     Ok(())
 }

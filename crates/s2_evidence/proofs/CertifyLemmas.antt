@@ -1,7 +1,7 @@
 -- What a command leaves of the file for a certificate.
 use Rattle.std.proofs.Common.{◌≡◌, ◌≢◌, ℤ, List, ℕ, Option, Result, Ok, Err, OnErr, inl, inr, subst, sym, refl}
 use Rattle.s2_rows.specs.Rows.{Rows}
-use Rattle.s2_link.specs.Tuning.{Tuning}
+use Rattle.s2_tuning.specs.Tuning.{Tuning}
 use Rattle.s2_judge.specs.Deciding.{decided, IsShown}
 use Rattle.s2_console.specs.declared.printed.Printed.{Printed}
 use Rattle.s2_console.specs.declared.exit.Exit.{Exit}

@@ -19,7 +19,7 @@ use Rattle.std.proofs.lemmas.Bool.{cases_Bool}
 use Rattle.std.specs.Prelude.{nat_le}
 use Rattle.s2_mode.specs.Shape.{Shape, shape_of}
 use Rattle.s2_rows.specs.RowFiles as row_files
-use Rattle.s2_evidence.specs.Inputs.{taken, rows_said, rows_in, max_bytes}
+use Rattle.s2_inputs.specs.Inputs.{taken, rows_said, rows_in, max_bytes}
 use Rattle.s2_evidence.specs.Checking.{IsAnswered}
 use Rattle.s2_evidence.specs.CheckingEach.{AreRowsFor, AreRowsRefused, AnsweredSoFar, CutLine, Stops, EndsEach, ChecksEach, AnswersNext, ChecksNext}
 use Rattle.s2_evidence.specs.Each.{worse, SaysEach}

@@ -11,7 +11,8 @@ use Rattle.s2_console.specs.declared.exit.Exit.{Exit}
 use Rattle.s2_console.specs.declared.fault.Fault.{Fault}
 use Rattle.s2_console.specs.declared.fault.Fault.TheVariants as faults
 use Rattle.s2_console.specs.Exits.{Follows, CommandAnswers}
-use Rattle.s2_evidence.specs.Inputs.{taken, rows_said, rows_in, values_by, then_values, inputs_by, AreInputsBy, IsOnly}
+use Rattle.s2_inputs.specs.Inputs.{taken, rows_said, rows_in}
+use Rattle.s2_evidence.specs.Inputs.{values_by, then_values, inputs_by, AreInputsBy, IsOnly}
 use Rattle.s2_evidence.specs.Checking.{certificate_said, with_rows, beside, then_parts, parts_in, ArePartsIn, AreCheckInputs, IsAnswered}
 use Rattle.s2_console.proofs.CommandLemmas.{answers_moved, refuses, told}
 

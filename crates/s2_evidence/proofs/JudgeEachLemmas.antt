@@ -13,7 +13,7 @@ use Rattle.s2_rows.specs.declared.values.ValueFault.{ValueFault}
 use Rattle.s2_matrix.specs.Code.{code_of}
 use Rattle.s2_check.specs.Views.{View}
 use Rattle.s2_check.specs.CertificateBytes.{bytes_of}
-use Rattle.s2_link.specs.Tuning.{Tuning}
+use Rattle.s2_tuning.specs.Tuning.{Tuning}
 use Rattle.s2_judge.specs.Deciding.{decided, IsShown}
 use Rattle.s2_console.specs.declared.exit.Exit.{Exit}
 use Rattle.s2_console.specs.declared.exit.Exit.TheVariants as exits

@@ -5,8 +5,8 @@ use Rattle.s2_rows.specs.Rows.{Rows}
 use Rattle.s2_check.specs.Verdicts.{is_certified}
 use Rattle.s2_check.specs.declared.verdict.Verdict.{Verdict}
 use Rattle.s2_check.specs.declared.verdict.Verdict.TheVariants as verdicts
-use Rattle.s2_link.specs.Limits.{default_rounds}
-use Rattle.s2_link.specs.Tuning.{Tuning, tuning_of}
+use Rattle.s2_tuning.specs.Limits.{default_rounds}
+use Rattle.s2_tuning.specs.Tuning.{Tuning, tuning_of}
 use Rattle.s2_judge.specs.Deciding.{decided}
 use Rattle.s2_console.specs.declared.printed.Printed.{Printed}
 use Rattle.s2_console.specs.declared.exit.Exit.{Exit}

@@ -6,7 +6,7 @@ use Rattle.s2_mode.specs.Shape.{Shape}
 use Rattle.s2_rows.specs.Rows.{Rows}
 use Rattle.s2_check.specs.CertificateBytes.{bytes_of}
 use Rattle.s2_check.specs.Views.{View}
-use Rattle.s2_link.specs.Tuning.{Tuning}
+use Rattle.s2_tuning.specs.Tuning.{Tuning}
 use Rattle.s2_judge.specs.Deciding.{decided, IsShown}
 use Rattle.s2_console.specs.declared.exit.Exit.{Exit}
 use Rattle.s2_console.specs.declared.fault.Fault.{Fault}

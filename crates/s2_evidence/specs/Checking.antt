@@ -22,7 +22,7 @@ use Rattle.s2_console.specs.declared.fault.Fault.{Fault}
 use Rattle.s2_console.specs.declared.fault.Fault.TheVariants as faults
 use Rattle.s2_console.specs.Exits.{CommandExits}
 use Rattle.s2_console.specs.Screens.{Screen}
-use Rattle.s2_evidence.specs.Inputs.{taken, rows_said}
+use Rattle.s2_inputs.specs.Inputs.{taken, rows_said}
 use Rattle.s2_evidence.specs.Lines.{answer_line, examined_line}
 
 -- ---- the input

@@ -13,7 +13,7 @@ use Rattle.s2_console.specs.Exits.{exit_of, CommandCounts, Complains}
 use Rattle.s2_console.specs.Screens.{Screen}
 use Rattle.s2_evidence.specs.Checking.{IsAnswered}
 use Rattle.s2_evidence.specs.Each.{SaysEach, max_each}
-use Rattle.s2_evidence.specs.Inputs.{taken, rows_in}
+use Rattle.s2_inputs.specs.Inputs.{taken, rows_in}
 use Rattle.s2_evidence.specs.Pieces.{TakesPiece}
 
 -- the rows have the shape of the first certificate; without a certificate there are none

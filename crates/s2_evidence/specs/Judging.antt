@@ -6,8 +6,8 @@ use Rattle.s2_check.specs.Cost.{cost, IsMostLikely}
 use Rattle.s2_check.specs.Strict.{IsSole}
 use Rattle.s2_check.specs.declared.verdict.Verdict.{Verdict}
 use Rattle.s2_check.specs.declared.verdict.Verdict.TheVariants as verdicts
-use Rattle.s2_link.specs.Limits.{default_rounds}
-use Rattle.s2_link.specs.Tuning.{Tuning, tuning_of}
+use Rattle.s2_tuning.specs.Limits.{default_rounds}
+use Rattle.s2_tuning.specs.Tuning.{Tuning, tuning_of}
 use Rattle.s2_judge.specs.Deciding.{Decided, decided}
 use Rattle.s2_console.specs.declared.exit.Exit.{Exit}
 use Rattle.s2_console.specs.declared.exit.Exit.TheVariants as exits

@@ -9,7 +9,7 @@ use Rattle.s2_rows.specs.declared.values.ValueFault.{ValueFault}
 use Rattle.s2_matrix.specs.Code.{code_of}
 use Rattle.s2_check.specs.CertificateBytes.{bytes_of}
 use Rattle.s2_check.specs.Views.{View}
-use Rattle.s2_link.specs.Tuning.{Tuning}
+use Rattle.s2_tuning.specs.Tuning.{Tuning}
 use Rattle.s2_judge.specs.Deciding.{decided, IsShown}
 use Rattle.s2_console.specs.declared.exit.Exit.{Exit}
 use Rattle.s2_console.specs.declared.fault.Fault.{Fault}
@@ -23,7 +23,7 @@ use Rattle.s2_evidence.specs.Files.{Written, JudgeFiles}
 use Rattle.s2_evidence.specs.Bytewise.{TakesFrame}
 use Rattle.s2_evidence.specs.Frames.{words_in, Reads, AreRead, IsRefusedFrame, max_text}
 use Rattle.s2_evidence.specs.HardNotes.{is_bit, look_hard, exit_in, Concludes}
-use Rattle.s2_evidence.specs.Inputs.{rows_in}
+use Rattle.s2_inputs.specs.Inputs.{rows_in}
 use Rattle.s2_evidence.specs.Judging.{IsJudged}
 
 -- the most frames of one run, 2^32 - 1

@@ -7,9 +7,9 @@ ghost use Rattle.s2_console.specs.Exits.{Follows, CommandAnswers, CommandRuns, C
 ghost use Rattle.s2_evidence.specs.Checking.{certificate_said, ArePartsIn, AreCheckInputs, answer_exit, SaysAnswer, IsAnswered, CheckExits};
 
 use crate::lines::{answer_line, examined_line};
-use crate::reading::{matrix_of, read_bytes};
 use s2_check::{Answer, CertFault, CertView, Certificate, Refusal, examine};
 use s2_console::{Console, Exit, Fault, Printed};
+use s2_inputs::{matrix_of, read_bytes};
 use s2_matrix::Matrix;
 use s2_mode::{CountedRead, CountedWrite};
 use std::alloc::Global;

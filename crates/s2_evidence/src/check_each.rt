@@ -6,13 +6,13 @@ ghost use Rattle.s2_console.specs.Screens.{CanShow};
 ghost use Rattle.s2_console.specs.Exits.{CommandCounts};
 ghost use Rattle.s2_evidence.specs.CheckingEach.{AnsweredSoFar, AreRowsFor, ChecksEach, ChecksNext, CheckEachExits};
 ghost use Rattle.s2_evidence.specs.Each.{worse};
-ghost use Rattle.s2_evidence.specs.Inputs.{taken};
+ghost use Rattle.s2_inputs.specs.Inputs.{taken};
 ghost use Rattle.s2_evidence.specs.Pieces.{max_piece};
 
 use crate::check::answered;
 use crate::next::{next_certificate, piece_room};
-use crate::reading::{matrix_of, read_bytes};
 use s2_console::{Console, Exit, Fault};
+use s2_inputs::{matrix_of, read_bytes};
 use s2_matrix::Matrix;
 use s2_mode::{CountedRead, CountedWrite};
 use std::alloc::Global;

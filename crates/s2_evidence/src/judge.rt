@@ -17,8 +17,8 @@ use crate::reading::{Judged, read_judged};
 use s2_console::{Console, Exit, Fault, Printed};
 use s2_files::{Destination, Output};
 use s2_judge::Judge;
-use s2_link::Tuning;
 use s2_mode::{CountedRead, CountedWrite, Shape};
+use s2_tuning::Tuning;
 use std::alloc::Global;
 
 /// Decides on soft values. The certificate, if there is one, is written to the file, if there is one.

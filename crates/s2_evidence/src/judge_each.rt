@@ -17,13 +17,13 @@ use crate::decision::{certify, decide_by};
 use crate::files::JudgeFiles;
 use crate::frames::Frames;
 use crate::hard_note::{Ran, are_bits, conclude_judged};
-use crate::reading::read_matrix;
 use s2_console::{Console, Exit, Fault, Printed};
 use s2_files::{Destination, Output};
+use s2_inputs::read_matrix;
 use s2_judge::Judge;
-use s2_link::Tuning;
 use s2_matrix::Matrix;
 use s2_mode::{CountedRead, CountedWrite, Shape};
+use s2_tuning::Tuning;
 use std::alloc::Global;
 
 /// Prints the verdict on a frame.

@@ -11,7 +11,7 @@
 //! like hard decisions, a note on the errors says so.
 //!
 //! [`self_command`] judges its input under the toy rows, and prints most likely also if the bits are sole. The files of
-//! `judge` are one value ([`JudgeFiles`]). [`read_matrix`] reads rows for other commands too.
+//! `judge` are one value ([`JudgeFiles`]).
 //!
 //! In the literature, soft values are quantized LLRs, and a certificate is an ML certificate.
 //!
@@ -43,7 +43,6 @@ pub use files::JudgeFiles;
 pub use judge::judge_command;
 pub use judge_each::judge_each_command;
 pub use own::{TOY_ROWS, self_command};
-pub use reading::{MAX_BYTES, read_matrix};
 
 #[cfg(test)]
 mod tests;

@@ -4,8 +4,8 @@ ghost use Rattle.s2_mode.specs.Counts.{CanCount};
 ghost use Rattle.s2_mode.specs.Shape.{shape_of};
 ghost use Rattle.s2_matrix.specs.Code.{code_of};
 ghost use Rattle.s2_check.specs.Views.{IsSoft};
-ghost use Rattle.s2_link.specs.Limits.{default_rounds};
-ghost use Rattle.s2_link.specs.Tuning.{tuning_of};
+ghost use Rattle.s2_tuning.specs.Limits.{default_rounds};
+ghost use Rattle.s2_tuning.specs.Tuning.{tuning_of};
 ghost use Rattle.s2_console.specs.Screens.{CanShow};
 ghost use Rattle.s2_console.specs.Exits.{CommandAnswers, CommandRuns, CommandCounts};
 ghost use Rattle.s2_evidence.specs.Inputs.{AreInputs, IsOnly};
@@ -15,8 +15,8 @@ use crate::decision::own_decision;
 use crate::reading::{Judged, read_judged};
 use s2_console::{Console, Exit, Fault, Printed};
 use s2_judge::Judge;
-use s2_link::{DEFAULT_ROUNDS, Tuning};
 use s2_mode::{CountedRead, CountedWrite, InMemory, Shape};
+use s2_tuning::{DEFAULT_ROUNDS, Tuning};
 use std::alloc::Global;
 
 /// The row file of the toy shape.

@@ -3,8 +3,8 @@
 use crate::{JudgeFiles, TOY_ROWS, judge_command, judge_each_command};
 use s2_console::{Console, Exit};
 use s2_files::Destination;
-use s2_link::Tuning;
 use s2_mode::{Counting, FailAt, InMemory, Shape};
+use s2_tuning::Tuning;
 use std::alloc::Global;
 use std::io;
 use std::io::{ErrorKind, Write};

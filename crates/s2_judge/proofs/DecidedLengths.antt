@@ -7,7 +7,7 @@ use Rattle.s2_check.specs.Views.{View}
 use Rattle.s2_split.specs.Scattered.{repaired}
 use Rattle.s2_check.specs.declared.verdict.Verdict.TheVariants.{Parity, Broken}
 use Rattle.s2_judge.specs.Deciding.{uncertified, satisfies, decoded_bits, with_made, decided, min_sum_view}
-use Rattle.s2_link.specs.Tuning.{Tuning}
+use Rattle.s2_tuning.specs.Tuning.{Tuning}
 use Rattle.s2_split.proofs.Repairs.{length-repaired}
 use Rattle.s2_judge.proofs.Decisions.{length-decoded, found_codeword, by_ways}
 

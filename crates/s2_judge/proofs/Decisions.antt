@@ -18,7 +18,7 @@ use Rattle.s2_check.specs.Strict.{AreStrict}
 use Rattle.s2_check.specs.Verdicts.{is_certified}
 use Rattle.s2_split.specs.Scattered.{repaired}
 use Rattle.s2_judge.specs.Deciding.{Decided, is_strict, verdict_by, certified, satisfies, decoded_bits, first_codeword, without_certificate, with_made, min_sum_view, by_min_sum, repair_view, by_repair, decided, view_for, rounds_by, rounds_run}
-use Rattle.s2_link.specs.Tuning.{Tuning}
+use Rattle.s2_tuning.specs.Tuning.{Tuning}
 
 -- ---- the test of every check
 

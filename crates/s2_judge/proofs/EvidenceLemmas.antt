@@ -14,7 +14,7 @@ use Rattle.s2_split.proofs.Passes.{fold_upto}
 use Rattle.s2_mode.specs.Limits.{max_soft}
 use Rattle.s2_minsum.specs.Plain.{State, start, round, decision}
 use Rattle.s2_minsum.specs.Decoding.{AreWithin, Decoding, decoded}
-use Rattle.s2_link.specs.Tuning.{Tuning}
+use Rattle.s2_tuning.specs.Tuning.{Tuning}
 use Rattle.s2_judge.specs.declared.evidence.Evidence.{Evidence}
 use Rattle.s2_judge.specs.declared.evidence.Evidence.TheVariants.{HardDecision, Found, Checks, Nothing}
 use Rattle.s2_judge.specs.Deciding.{Decided, is_strict, verdict_by, certified, uncertified, satisfies, after_rounds, decoded_bits, first_codeword, with_made, by_min_sum, repair_view, by_repair, decided, min_sum_view, rounds_until, rounds_by, rounds_run}

@@ -14,7 +14,7 @@ use Rattle.s2_check.proofs.BoundListed.{check_at}
 use Rattle.s2_split.proofs.RepairLemmas.{odd_is, hard_at, count_some, repair_lem}
 use Rattle.s2_check.specs.Verdicts.{is_certified}
 use Rattle.s2_judge.specs.Deciding.{Decided, is_strict, satisfies, repair_view, view_for, ScatteredLaw}
-use Rattle.s2_link.specs.Tuning.{Tuning}
+use Rattle.s2_tuning.specs.Tuning.{Tuning}
 use Rattle.s2_judge.proofs.Certificates.{scattered_found}
 use Rattle.s2_judge.proofs.Decisions.{satisfied_codeword, codeword_satisfied, certified_by, repair_made, by_ways}
 

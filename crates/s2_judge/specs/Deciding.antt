@@ -19,7 +19,7 @@ use Rattle.s2_split.specs.Making.{made_view, greedy_view}
 use Rattle.s2_settle.specs.Settled.{settled}
 unfoldable pub use Rattle.s2_settle.specs.Settled.{is_strict}
 use Rattle.s2_minsum.specs.Plain.{State, start, round, decision}
-use Rattle.s2_link.specs.Tuning.{Tuning}
+use Rattle.s2_tuning.specs.Tuning.{Tuning}
 use Rattle.s2_check.specs.declared.verdict.Verdict.{Verdict}
 use Rattle.s2_check.specs.declared.verdict.Verdict.TheVariants.{Sole, MostLikely, Parity, Broken}
 

@@ -7,7 +7,7 @@ use Rattle.s2_check.specs.declared.verdict.Verdict.{Verdict}
 use Rattle.s2_check.specs.declared.verdict.Verdict.TheVariants.{Parity, Broken}
 use Rattle.s2_split.specs.Making.{Shared, shared_views}
 use Rattle.s2_minsum.specs.Decoding.{Decoding}
-use Rattle.s2_link.specs.Tuning.{Tuning}
+use Rattle.s2_tuning.specs.Tuning.{Tuning}
 use Rattle.s2_judge.specs.declared.evidence.Evidence.{Evidence}
 use Rattle.s2_judge.specs.declared.evidence.Evidence.TheVariants.{HardDecision, Found, Checks, Nothing}
 use Rattle.s2_judge.specs.Deciding.{Decided, verdict_by}

@@ -16,9 +16,9 @@ use crate::evidence::Evidence;
 use crate::steps::decide_by_steps;
 use s2_bits::Bits;
 use s2_check::{CertView, Verdict};
-use s2_link::Tuning;
 use s2_matrix::Matrix;
 use s2_minsum::Decoder;
+use s2_tuning::Tuning;
 use std::alloc::{AllocError, Global};
 use std::marker::Model;
 

@@ -2,7 +2,7 @@
 //! decided bits, a verdict on them, and a certificate if they are shown to be sole or most likely.
 //!
 //! A [`Judge`] uses the checker, both makers of certificates and min-sum; the receiver uses it. It takes all its memory
-//! when it is made. Its [`s2_link::Tuning`] limits its work. It decides exactly what the definition `decided` says of
+//! when it is made. Its [`s2_tuning::Tuning`] limits its work. It decides exactly what the definition `decided` says of
 //! the address rows, the tuning and the soft values, whatever was decided before. Bits that are called sole or
 //! most likely satisfy every check, and no bits that satisfy every check cost less. If they are called sole, all others
 //! cost more. These bits, and only these, have a certificate, and the checker accepts it. Bits that are not called

@@ -16,9 +16,9 @@ use crate::mending::mends_nothing;
 use crate::odd::has_odd_check;
 use s2_bits::Bits;
 use s2_check::{judge_unsplit, none_is_zero};
-use s2_link::Tuning;
 use s2_matrix::Matrix;
 use s2_minsum::{Decoder, Factor};
+use s2_tuning::Tuning;
 
 /// Looks for a certificate of the repair. Returns whether it found one, and whether the repair satisfies every check.
 /// If so, the repair is written. If a few checks of the hard decision show that it does not, the repair is not made.

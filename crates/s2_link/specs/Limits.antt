@@ -1,27 +1,11 @@
 -- The limits of a link (own).
 use Rattle.std.specs.Prelude.{◌≡◌, ℕ}
 use Rattle.s2_link.specs.declared.roll_off.TheConstants.{MAX_ROLL_OFF}
-use Rattle.s2_link.specs.declared.tuning.TheConstants.{DEFAULT_ROUNDS, MAX_ROUNDS, MAX_PASSES}
 
 -- the highest number of a roll-off: 0.35, 0.25, 0.20
 abbrev pub max_roll_off : ℕ
 max_roll_off = 2
 
--- the most rounds of min-sum that are tried
-abbrev pub max_rounds : ℕ
-max_rounds = 200
-
--- the default number of rounds of min-sum
-abbrev pub default_rounds : ℕ
-default_rounds = 50
-
--- the most passes of settling that are tried
-abbrev pub max_passes : ℕ
-max_passes = 1000
-
--- the limits that the code tests are these
+-- the limit that the code tests is this
 pub record LimitsLaw : Type 0 where
   pub roll_off : MAX_ROLL_OFF ≡ max_roll_off
-  pub rounds : MAX_ROUNDS ≡ max_rounds
-  pub default : DEFAULT_ROUNDS ≡ default_rounds
-  pub passes : MAX_PASSES ≡ max_passes

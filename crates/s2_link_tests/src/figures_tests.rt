@@ -2,7 +2,7 @@
 use super::hearing::{assert_sample, hear_figured, show};
 use s2_channel::Noise;
 use s2_code_tests::values::are_soft;
-use s2_link::{Setup, Tuning};
+use s2_link::Setup;
 use s2_matrix::Matrix;
 use s2_mode::{Mode, Symbol};
 use s2_modem::Judge;
@@ -10,6 +10,7 @@ use s2_receive::{Figures, Outcome, Step, Tally};
 use s2_stream_tests::streams::{
     ROUNDS, Sample, link_in, packet_of, put_symbol, sample_of, symbols_of,
 };
+use s2_tuning::Tuning;
 use std::alloc::{AllocError, Global};
 use std::process::Abort;
 use std::test::Fail;

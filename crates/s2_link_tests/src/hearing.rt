@@ -5,7 +5,7 @@ ghost use Rattle.s2_receive.specs.Receiving.{IsLive, begun};
 
 use s2_bits::Bits;
 use s2_check::{Answer, check};
-use s2_link::{Link, Tuning};
+use s2_link::Link;
 use s2_matrix::Matrix;
 use s2_mode::{Counted, MAX_SYMBOLS, StreamFault};
 use s2_modem::{DemodFault, Receiver, SetupFault, demodulate};
@@ -16,6 +16,7 @@ use s2_stream_tests::streams::{
     ALL, Fed, Heard, ROUNDS, Reader, Sample, Sides, Source, Steps, Writer, first_bytes, reader_of,
     taken, writer_of,
 };
+use s2_tuning::Tuning;
 use std::alloc::{AllocError, Global};
 use std::process::Abort;
 use std::test::Fail;

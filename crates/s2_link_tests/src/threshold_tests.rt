@@ -8,7 +8,6 @@ use s2_channel::Noise;
 use s2_check::Verdict;
 use s2_code_tests::values::{are_soft, next_number};
 use s2_ldpc::encode_into;
-use s2_link::Tuning;
 use s2_map::map_into;
 use s2_matrix::Matrix;
 use s2_mode::{Mode, Symbol};
@@ -18,6 +17,7 @@ use s2_rows::make_rows;
 use s2_scramble::Gold;
 use s2_soft::{Divisor, soft_into};
 use s2_split::Maker;
+use s2_tuning::Tuning;
 use std::alloc::{AllocError, Global};
 use std::test::Fail;
 

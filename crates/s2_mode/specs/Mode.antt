@@ -15,7 +15,7 @@ pub record Mode : Type 0 where
 
 -- the line of its MODCOD
 abbrev pub modcod_of : Mode → Modcod
-modcod_of m = get_or modcods (m.modcod - 1) (line modulations.Qpsk 0 (pos 0) 0)
+modcod_of m = get_or modcods (m.modcod - 1) (line modulations.Qpsk 0 (pos 0))
 
 -- its constellation
 unfoldable pub modulation_of : Mode → Modulation
@@ -33,10 +33,6 @@ is_qpsk m = names_qpsk (modulation_of m)
 -- the Es/N0 of its MODCOD, in hundredths of a dB; it is that of normal frames
 unfoldable pub ideal_of : Mode → ℤ
 ideal_of m = (modcod_of m).ideal
-
--- the factor of min-sum's messages that is best for its MODCOD
-unfoldable pub tuned_factor_of : Mode → ℕ
-tuned_factor_of m = (modcod_of m).tuned_factor
 
 -- the place of its code rate
 unfoldable pub rate_index : Mode → ℕ

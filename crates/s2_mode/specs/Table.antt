@@ -40,31 +40,30 @@ rates =
 unfoldable pub code_rate_text : CodeRate → List ℕ
 code_rate_text rate = decimal rate.over ++ codes "/" ++ decimal rate.under
 
--- The line of a MODCOD. It has its constellation, the place of its code rate, its ideal Es/N0, and the measured best
--- factor of min-sum's messages. The Es/N0 is in hundredths of a dB; quasi error free reception begins there over a
--- channel with noise alone
-abbrev pub line : Modulation → ℕ → ℤ → ℕ → Modcod
-line modulation rate_index ideal tuned_factor =
-    record { modulation = modulation; rate_index = rate_index; ideal = ideal; tuned_factor = tuned_factor }
+-- The line of a MODCOD. It has its constellation, the place of its code rate, and its ideal Es/N0 in hundredths of a dB.
+-- Quasi error free reception begins there over a channel with noise alone
+abbrev pub line : Modulation → ℕ → ℤ → Modcod
+line modulation rate_index ideal =
+    record { modulation = modulation; rate_index = rate_index; ideal = ideal }
 
 -- MODCOD 1 to 17: QPSK 1/4 to 9/10, then 8PSK 3/5, 2/3, 3/4, 5/6, 8/9, 9/10
 abbrev pub modcods : List Modcod
 modcods =
-    line modulations.Qpsk 0 (neg_ℤ (pos 235)) 15
-    ∷ line modulations.Qpsk 1 (neg_ℤ (pos 124)) 14
-    ∷ line modulations.Qpsk 2 (neg_ℤ (pos 30)) 13
-    ∷ line modulations.Qpsk 3 (pos 100) 13
-    ∷ line modulations.Qpsk 4 (pos 223) 11
-    ∷ line modulations.Qpsk 5 (pos 310) 13
-    ∷ line modulations.Qpsk 6 (pos 403) 13
-    ∷ line modulations.Qpsk 7 (pos 468) 13
-    ∷ line modulations.Qpsk 8 (pos 518) 13
-    ∷ line modulations.Qpsk 9 (pos 620) 13
-    ∷ line modulations.Qpsk 10 (pos 642) 13
-    ∷ line modulations.Psk8 4 (pos 550) 13
-    ∷ line modulations.Psk8 5 (pos 662) 13
-    ∷ line modulations.Psk8 6 (pos 791) 12
-    ∷ line modulations.Psk8 8 (pos 935) 12
-    ∷ line modulations.Psk8 9 (pos 1069) 13
-    ∷ line modulations.Psk8 10 (pos 1098) 13
+    line modulations.Qpsk 0 (neg_ℤ (pos 235))
+    ∷ line modulations.Qpsk 1 (neg_ℤ (pos 124))
+    ∷ line modulations.Qpsk 2 (neg_ℤ (pos 30))
+    ∷ line modulations.Qpsk 3 (pos 100)
+    ∷ line modulations.Qpsk 4 (pos 223)
+    ∷ line modulations.Qpsk 5 (pos 310)
+    ∷ line modulations.Qpsk 6 (pos 403)
+    ∷ line modulations.Qpsk 7 (pos 468)
+    ∷ line modulations.Qpsk 8 (pos 518)
+    ∷ line modulations.Qpsk 9 (pos 620)
+    ∷ line modulations.Qpsk 10 (pos 642)
+    ∷ line modulations.Psk8 4 (pos 550)
+    ∷ line modulations.Psk8 5 (pos 662)
+    ∷ line modulations.Psk8 6 (pos 791)
+    ∷ line modulations.Psk8 8 (pos 935)
+    ∷ line modulations.Psk8 9 (pos 1069)
+    ∷ line modulations.Psk8 10 (pos 1098)
     ∷ []

@@ -2,7 +2,7 @@
 //! readers and writers that count their failed calls.
 //!
 //! A [`Mode`] is made by [`Mode::of`] alone, so it is one that EN 302 307-1 has. One table has a line for each MODCOD
-//! ([`Mode::modulation`] to [`Mode::tuned_factor`]), another the sizes of each code rate ([`Mode::kbch`] to
+//! ([`Mode::modulation`] to [`Mode::ideal`]), another the sizes of each code rate ([`Mode::kbch`] to
 //! [`Mode::symbols`]). [`Mode::shape`] is the shape of its LDPC code. [`Shape::new`] makes any other shape of at most
 //! 64800 bits. A soft value (LLR, log-likelihood ratio) is an integer from -[`MAX_SOFT`] to [`MAX_SOFT`]; it is
 //! positive for a 0.

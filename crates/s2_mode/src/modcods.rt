@@ -17,8 +17,6 @@ pub(crate) struct Modcod {
     pub(crate) rate_index: usize,
     /// The Es/N0 at which quasi error free reception begins over a channel with noise alone, in hundredths of a dB.
     pub(crate) ideal: i16,
-    /// The factor of min-sum's messages that was measured to be best.
-    pub(crate) tuned_factor: u32,
 }
 
 /// MODCOD 1 to 17.
@@ -28,118 +26,101 @@ pub(crate) const MODCODS: [Modcod; 17] = [
         modulation: Modulation::Qpsk,
         rate_index: 0,
         ideal: -235,
-        tuned_factor: 15,
     },
     // QPSK 1/3
     Modcod {
         modulation: Modulation::Qpsk,
         rate_index: 1,
         ideal: -124,
-        tuned_factor: 14,
     },
     // QPSK 2/5
     Modcod {
         modulation: Modulation::Qpsk,
         rate_index: 2,
         ideal: -30,
-        tuned_factor: 13,
     },
     // QPSK 1/2
     Modcod {
         modulation: Modulation::Qpsk,
         rate_index: 3,
         ideal: 100,
-        tuned_factor: 13,
     },
     // QPSK 3/5
     Modcod {
         modulation: Modulation::Qpsk,
         rate_index: 4,
         ideal: 223,
-        tuned_factor: 11,
     },
     // QPSK 2/3
     Modcod {
         modulation: Modulation::Qpsk,
         rate_index: 5,
         ideal: 310,
-        tuned_factor: 13,
     },
     // QPSK 3/4
     Modcod {
         modulation: Modulation::Qpsk,
         rate_index: 6,
         ideal: 403,
-        tuned_factor: 13,
     },
     // QPSK 4/5
     Modcod {
         modulation: Modulation::Qpsk,
         rate_index: 7,
         ideal: 468,
-        tuned_factor: 13,
     },
     // QPSK 5/6
     Modcod {
         modulation: Modulation::Qpsk,
         rate_index: 8,
         ideal: 518,
-        tuned_factor: 13,
     },
     // QPSK 8/9
     Modcod {
         modulation: Modulation::Qpsk,
         rate_index: 9,
         ideal: 620,
-        tuned_factor: 13,
     },
     // QPSK 9/10
     Modcod {
         modulation: Modulation::Qpsk,
         rate_index: 10,
         ideal: 642,
-        tuned_factor: 13,
     },
     // 8PSK 3/5
     Modcod {
         modulation: Modulation::Psk8,
         rate_index: 4,
         ideal: 550,
-        tuned_factor: 13,
     },
     // 8PSK 2/3
     Modcod {
         modulation: Modulation::Psk8,
         rate_index: 5,
         ideal: 662,
-        tuned_factor: 13,
     },
     // 8PSK 3/4
     Modcod {
         modulation: Modulation::Psk8,
         rate_index: 6,
         ideal: 791,
-        tuned_factor: 12,
     },
     // 8PSK 5/6
     Modcod {
         modulation: Modulation::Psk8,
         rate_index: 8,
         ideal: 935,
-        tuned_factor: 12,
     },
     // 8PSK 8/9
     Modcod {
         modulation: Modulation::Psk8,
         rate_index: 9,
         ideal: 1069,
-        tuned_factor: 13,
     },
     // 8PSK 9/10
     Modcod {
         modulation: Modulation::Psk8,
         rate_index: 10,
         ideal: 1098,
-        tuned_factor: 13,
     },
 ];

@@ -1,7 +1,7 @@
 //! Modes.
 ghost use Rattle.std.specs.Prelude.{◌≡◌, ◌<◌, ◌↔◌, IsSome, IfSome};
 ghost use Rattle.s2_mode.specs.Table.{code_rate_text};
-ghost use Rattle.s2_mode.specs.Mode.{mode_of, IsMode, modcod_of, modulation_of, is_qpsk, rate_index, ideal_of, tuned_factor_of, kbch_of, k_of, n_of, t_of, q_of, rate_of, width_of, slots_of, pilot_blocks_of, symbols_in, shape_in, HasCodeSizes, HasFrameSizes};
+ghost use Rattle.s2_mode.specs.Mode.{mode_of, IsMode, modcod_of, modulation_of, is_qpsk, rate_index, ideal_of, kbch_of, k_of, n_of, t_of, q_of, rate_of, width_of, slots_of, pilot_blocks_of, symbols_in, shape_in, HasCodeSizes, HasFrameSizes};
 
 use crate::limits::{HEADER_SYMBOLS, MAX_MODCOD};
 use crate::modcods::{MODCODS, Modcod, Modulation};
@@ -111,15 +111,6 @@ impl Mode {
         ensures valid { IsMode self.now }
     {
         self.line().ideal
-    }
-
-    /// The factor of min-sum's messages that was measured to be best.
-    #[tactic(auto, unfolding(crate::specs::Mode::tuned_factor_of))]
-    pub fn tuned_factor(&self) -> u32
-        ensures is { result ≡ tuned_factor_of self.now }
-        ensures valid { IsMode self.now }
-    {
-        self.line().tuned_factor
     }
 
     /// The MODCOD, 1 to 17.

@@ -65,7 +65,7 @@ pub use Rattle.s2_check.specs.declared.verdict.Verdict.{Verdict}
 pub use Rattle.s2_check.specs.declared.verdict.Verdict.TheVariants.{Broken, Sole}
 pub use Rattle.s2_check.proofs.Lists.{refilled}
 pub use Rattle.s2_link.specs.Link.{Link, link_of, setup_of}
-pub use Rattle.s2_link.specs.Tuning.{Tuning}
+pub use Rattle.s2_tuning.specs.Tuning.{Tuning}
 pub use Rattle.s2_judge.specs.Deciding.{Decided, IsShown, decided, rounds_run}
 pub use Rattle.s2_judge.proofs.Decisions.{codeword_satisfied, rounds_hard}
 pub use Rattle.s2_judge.proofs.DecidedLengths.{decided_long}

@@ -12,7 +12,7 @@ use Rattle.s2_soft.specs.Divisors.{IsDivisor}
 use Rattle.s2_soft.specs.Soft.{soft_values}
 use Rattle.s2_soft.specs.Clean.{DecidesTo}
 use Rattle.s2_figures.specs.Errors.{known_places, payload_places}
-use Rattle.s2_link.specs.Tuning.{Tuning}
+use Rattle.s2_tuning.specs.Tuning.{Tuning}
 use Rattle.s2_receive.specs.declared.figures.Figures.{Figures}
 
 -- the header of a codeword's frame is found, and the soft values of its payload by this divisor say the codeword; none

@@ -19,7 +19,7 @@ use Rattle.s2_check.specs.declared.verdict.Verdict.TheVariants.{Sole}
 use Rattle.s2_mode.specs.Limits.{max_symbols}
 use Rattle.s2_soft.specs.Divisors.{IsDivisor}
 use Rattle.s2_link.specs.Limits.{max_roll_off}
-use Rattle.s2_link.specs.Tuning.{Tuning}
+use Rattle.s2_tuning.specs.Tuning.{Tuning}
 use Rattle.s2_send.specs.declared.outcome.Counts.{Counts}
 use Rattle.s2_link.specs.Link.{Link}
 use Rattle.s2_send.specs.Laws.{IsLinkOf, ReadFails}

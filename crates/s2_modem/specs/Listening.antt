@@ -14,7 +14,7 @@ use Rattle.s2_receive.specs.declared.parts.Decided.{Decided}
 use Rattle.s2_receive.specs.declared.report.Outcome.{Outcome}
 use Rattle.s2_receive.specs.declared.report.Outcome.TheVariants.{NoWord}
 use Rattle.s2_link.specs.Link.{Link}
-use Rattle.s2_link.specs.Tuning.{Tuning}
+use Rattle.s2_tuning.specs.Tuning.{Tuning}
 use Rattle.s2_bch.specs.Decoding.{nearest}
 use Rattle.s2_figures.specs.Figures.{FigureFinder, figures_of, finder_of}
 use Rattle.s2_receive.specs.declared.figures.Figures.{Figures}

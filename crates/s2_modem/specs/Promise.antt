@@ -18,7 +18,7 @@ use Rattle.s2_plframe.specs.declared.receive.found.Found.{Found}
 use Rattle.s2_plframe.specs.declared.receive.found.Found.TheVariants as founds
 use Rattle.s2_check.specs.Verdicts.{is_certified}
 use Rattle.s2_soft.specs.Divisors.{IsDivisor}
-use Rattle.s2_link.specs.Tuning.{Tuning}
+use Rattle.s2_tuning.specs.Tuning.{Tuning}
 use Rattle.s2_link.specs.Link.{Link}
 use Rattle.s2_link.specs.Limits.{max_roll_off}
 use Rattle.s2_send.specs.Frames.{IsCodewordFor}

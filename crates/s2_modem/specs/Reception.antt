@@ -23,7 +23,7 @@ use Rattle.s2_link.specs.declared.fault.SetupFault.{SetupFault}
 use Rattle.s2_link.specs.declared.fault.SetupFault.TheVariants as faults
 use Rattle.s2_modem.specs.declared.demodulation.DemodFault.{DemodFault}
 use Rattle.s2_modem.specs.declared.demodulation.DemodFault.TheVariants as demod_faults
-use Rattle.s2_link.specs.Tuning.{Tuning, IsTuning, RefusesTuning}
+use Rattle.s2_tuning.specs.Tuning.{Tuning, IsTuning, RefusesTuning}
 use Rattle.s2_link.specs.Link.{Link, link_of, IsSetUp, RefusesLink}
 use Rattle.s2_receive.specs.Windows.{found_as}
 use Rattle.s2_judge.specs.Deciding.{IsShown}

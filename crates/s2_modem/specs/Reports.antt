@@ -18,7 +18,7 @@ use Rattle.s2_link.specs.Link.{Link}
 use Rattle.s2_figures.specs.Figures.{figures_of}
 use Rattle.s2_figures.specs.Header.{energy_of}
 use Rattle.s2_judge.specs.Deciding.{Decided, decided, rounds_run}
-use Rattle.s2_link.specs.Tuning.{Tuning}
+use Rattle.s2_tuning.specs.Tuning.{Tuning}
 use Rattle.s2_bch.specs.Decoding.{nearest}
 
 -- the soft values of a frame's codeword, by the divisor of a tuning

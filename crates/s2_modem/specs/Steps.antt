@@ -3,7 +3,7 @@ use Rattle.std.specs.Prelude.{ℕ, Bool, List}
 use Rattle.s2_mode.specs.declared.symbols.Symbol.{Symbol}
 use Rattle.s2_bbframe.specs.DataStream.{header_at}
 use Rattle.s2_link.specs.Link.{Link}
-use Rattle.s2_link.specs.Tuning.{Tuning}
+use Rattle.s2_tuning.specs.Tuning.{Tuning}
 use Rattle.s2_modem.specs.Reports.{message_of, frame_decision}
 use Rattle.s2_modem.specs.Both.{IsDeliveredCertified}
 use Rattle.s2_modem.specs.Headline.{IsSent, AllCorrected}

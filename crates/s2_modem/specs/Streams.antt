@@ -16,7 +16,7 @@ use Rattle.s2_receive.specs.Receiving.{Rules, State, Processed, RunsTo, begun}
 use Rattle.s2_receive.specs.Laws.{Piece, coded, dummy, IsDummy, SpellSymbols, joined, stream_symbols}
 use Rattle.s2_check.specs.Verdicts.{is_certified}
 use Rattle.s2_soft.specs.Divisors.{IsDivisor}
-use Rattle.s2_link.specs.Tuning.{Tuning}
+use Rattle.s2_tuning.specs.Tuning.{Tuning}
 use Rattle.s2_link.specs.Limits.{max_roll_off}
 use Rattle.s2_link.specs.Link.{Link}
 use Rattle.s2_send.specs.Laws.{IsLinkOf}

@@ -10,9 +10,10 @@ use s2_bits::Bits;
 use s2_check::{CertView, Verdict};
 use s2_figures::{FigureFinder, header_energy};
 use s2_judge::Judge;
-use s2_link::{Link, RollOff, Tuning};
+use s2_link::{Link, RollOff};
 use s2_mode::{Mode, Symbol};
 use s2_receive::{Decide, Decided, Frame, Outcome};
+use s2_tuning::Tuning;
 use std::alloc::{AllocError, Global};
 use std::marker::Model;
 

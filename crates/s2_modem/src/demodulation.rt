@@ -4,15 +4,16 @@ ghost use Rattle.s2_mode.specs.Counts.{CanCount};
 ghost use Rattle.s2_mode.specs.Streams.{OnlyFailed};
 ghost use Rattle.s2_receive.specs.Answers.{bytes_by};
 ghost use Rattle.s2_link.specs.Link.{link_of};
-ghost use Rattle.s2_link.specs.Tuning.{tuning_of};
+ghost use Rattle.s2_tuning.specs.Tuning.{tuning_of};
 ghost use Rattle.s2_modem.specs.Reception.{Demodulates, DemodulatesOn};
 ghost use Rattle.s2_modem.specs.Promise.{IsHeadline};
 
 use crate::receiver::build;
-use s2_link::{Link, Setup, SetupFault, Tuning};
+use s2_link::{Link, Setup, SetupFault};
 use s2_matrix::Matrix;
 use s2_mode::CountedWrite;
 use s2_receive::{Totals, receive_bytes};
+use s2_tuning::Tuning;
 use std::alloc::Global;
 use thiserror::Error;
 

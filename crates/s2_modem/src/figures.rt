@@ -6,9 +6,10 @@ ghost use Rattle.s2_modem.specs.Listening.{figures_found, finder_by};
 
 use s2_figures::FigureFinder;
 use s2_judge::Judge;
-use s2_link::{Link, Tuning};
+use s2_link::Link;
 use s2_mode::Symbol;
 use s2_receive::Figures;
+use s2_tuning::Tuning;
 use std::alloc::{AllocError, Global};
 
 /// The finder of the figures of a link's frames, if the tuning asks for them. Otherwise it takes no memory.

@@ -53,6 +53,7 @@ mod receiver;
 pub use demodulation::{DemodFault, demodulate};
 pub use receiver::Receiver;
 pub use s2_judge::Judge;
-pub use s2_link::{Link, MAX_PASSES, MAX_ROLL_OFF, MAX_ROUNDS, RollOff, Setup, SetupFault, Tuning};
+pub use s2_link::{Link, MAX_ROLL_OFF, RollOff, Setup, SetupFault};
 pub use s2_send::{Counts, MAX_PACKETS, SendFault, Transmitter};
 pub use s2_soft::{DEFAULT_DIVISOR, DIVISORS, Divisor};
+pub use s2_tuning::{MAX_PASSES, MAX_ROUNDS, Tuning};

@@ -8,7 +8,7 @@ use Rattle.s2_console.specs.declared.fault.Fault.{Fault}
 use Rattle.s2_console.specs.declared.fault.Fault.TheVariants as faults
 use Rattle.s2_console.specs.Exits.{Follows, CommandAnswers}
 use Rattle.s2_console.proofs.CommandLemmas.{refuses}
-use Rattle.s2_evidence.specs.Inputs.{rows_in}
+use Rattle.s2_inputs.specs.Inputs.{rows_in}
 use Rattle.s2_table.specs.Tables.{AreRowsIn}
 
 -- a fault says of itself what it says

@@ -8,7 +8,7 @@ use Rattle.s2_names.specs.Names.{mode_words}
 use Rattle.s2_console.specs.declared.exit.Exit.{Exit}
 use Rattle.s2_console.specs.declared.exit.Exit.TheVariants as exits
 use Rattle.s2_console.specs.declared.fault.Fault.{Fault}
-use Rattle.s2_evidence.specs.Inputs.{rows_in}
+use Rattle.s2_inputs.specs.Inputs.{rows_in}
 use Rattle.s2_table.specs.Rising.{HasSum}
 use Rattle.s2_table.specs.RowSums.{standard_row_sums, FirstOther}
 use Rattle.s2_table.specs.Sums.{standard_sum}

@@ -11,7 +11,7 @@ use crate::first::first_other_row;
 use crate::standard::is_standard;
 use crate::wanted::conclude_noted;
 use s2_console::{Console, Exit, Fault, Line, Printed};
-use s2_evidence::read_matrix;
+use s2_inputs::read_matrix;
 use s2_matrix::Matrix;
 use s2_mode::{CountedRead, CountedWrite, Mode};
 use std::alloc::Global;

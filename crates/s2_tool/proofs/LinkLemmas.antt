@@ -1,5 +1,5 @@
 -- A command on a link, or on none: a setup, and its row file that is read by this shape.
-use Rattle.s2_tool.proofs.Names.{◌≡◌, ◌≢◌, ◌+◌, ◌∙◌, Bool, false, ℕ, Result, Ok, Err, IfSome, ap, refl, subst, inl, inr, shape_in, max_symbols, Rows, Link, link_of, Setup, Tuning, Receiver, IsNew, rules_for, link_rules, Received, Taking, Transmitter, new_transmitter, RunWords, Exit, Fault, Follows, rows_in, Files, LinkCommand, DoesOn, OnLink, Ends, BeginsWith, CausesWith, ReceivesToEnd, Demodulates, Sent, SentTaking, SendsBy, transmitter_on, Modulates, LoopsBy, Loops}
+use Rattle.s2_tool.proofs.Names.{◌≡◌, ◌≢◌, ◌+◌, ◌∙◌, Bool, false, ℕ, Result, Ok, Err, IfSome, ap, refl, subst, inl, inr, shape_in, max_symbols, Rows, Link, link_of, Setup, Tuning, Receiver, IsNew, rules_for, link_rules, Received, Taking, Transmitter, new_transmitter, RunOptions, Exit, Fault, Follows, rows_in, Files, LinkCommand, DoesOn, OnLink, Ends, BeginsWith, CausesWith, ReceivesToEnd, Demodulates, Sent, SentTaking, SendsBy, transmitter_on, Modulates, LoopsBy, Loops}
 use Rattle.s2_tool.proofs.Names.faults
 
 -- nothing failed that is counted
@@ -65,7 +65,7 @@ sends_on takes fails link dummy made told is set begun old new ended h =
     inl (subst (λ t. BeginsWith (SendsBy takes fails t) begun old new ended) (told_transmitter link dummy made told is set) h)
 
 -- a new transmitter on a link sends, and what becomes of its symbols is received on the link
-pub loops_on : {K : Type 0} (takes fails : Taking K) (link : Link) (words : RunWords) (made told : Transmitter) → made ≡ new_transmitter link → told ≡ record made { dummy_every = words.dummy }
+pub loops_on : {K : Type 0} (takes fails : Taking K) (link : Link) (words : RunOptions) (made told : Transmitter) → made ≡ new_transmitter link → told ≡ record made { dummy_every = words.dummy }
     → (begun : Bool) (old new : Ends K) (ended : Result (Sent Received) Fault) → LoopsBy takes fails told (link_rules link words.tuning max_symbols) words.channel words.seeds begun old new ended → DoesOn (Loops takes fails words) (Ok link) begun old new ended
 loops_on takes fails link words made told is set begun old new ended h =
     inl (subst (λ t. LoopsBy takes fails t (link_rules link words.tuning max_symbols) words.channel words.seeds begun old new ended) (told_transmitter link words.dummy made told is set) h)

@@ -18,13 +18,13 @@ pub use Rattle.s2_link.specs.Link.{Link, link_of, setup_of}
 pub use Rattle.s2_link.specs.declared.setup.Setup.{Setup}
 pub use Rattle.s2_words.specs.declared.request.NoteWords.{NoteWords}
 pub use Rattle.s2_receive.specs.declared.report.Received.{Received}
-pub use Rattle.s2_evidence.specs.Inputs.{rows_in}
+pub use Rattle.s2_inputs.specs.Inputs.{rows_in}
 pub use Rattle.s2_mode.specs.Limits.{max_symbols}
-pub use Rattle.s2_link.specs.Tuning.{Tuning}
+pub use Rattle.s2_tuning.specs.Tuning.{Tuning}
 pub use Rattle.s2_modem.specs.Reception.{Receiver, IsNew, link_rules, rules_for}
 pub use Rattle.s2_send.specs.Transmitter.{Transmitter, new_transmitter}
-pub use Rattle.s2_words.specs.declared.request.ChannelWords.{ChannelWords}
-pub use Rattle.s2_words.specs.declared.request.RunWords.{RunWords}
+pub use Rattle.s2_tool.specs.declared.options.Channel.{Channel}
+pub use Rattle.s2_tool.specs.declared.options.RunOptions.{RunOptions}
 pub use Rattle.s2_words.specs.declared.request.Seeds.{Seeds}
 pub use Rattle.s2_tool.specs.Links.{LinkCommand, DoesOn, OnLink, link_on}
 pub use Rattle.s2_mode.specs.declared.stream_fault.StreamFault.{StreamFault}

@@ -1,5 +1,5 @@
 -- Commands that send packets: how they end, and what becomes of symbols in memory beside the input.
-use Rattle.s2_tool.proofs.Names.{◌≡◌, ◌≢◌, ◌⊎◌, ◌+◌, ℕ, Bool, List, Option, Some, None, Result, Ok, Err, ap, inl, inr, refl, IsErrOf, OneFailed, NoneFailed, Ends, ends_of, CausesWith, Taking, Rules, Received, ChannelWords, Seeds, Exit, Fault, Counts, SendFault, Sent, sent_by, refused_by, ReceivesNoisy, ReceivesWithNoise, ReceivesRuns}
+use Rattle.s2_tool.proofs.Names.{◌≡◌, ◌≢◌, ◌⊎◌, ◌+◌, ℕ, Bool, List, Option, Some, None, Result, Ok, Err, ap, inl, inr, refl, IsErrOf, OneFailed, NoneFailed, Ends, ends_of, CausesWith, Taking, Rules, Received, Channel, Seeds, Exit, Fault, Counts, SendFault, Sent, sent_by, refused_by, ReceivesNoisy, ReceivesWithNoise, ReceivesRuns}
 use Rattle.s2_tool.proofs.Names.faults
 use Rattle.s2_tool.proofs.Names.refusals
 
@@ -30,14 +30,14 @@ noisy_beside : {K : Type 0} (takes fails : Taking K) (rules : Rules) (noisy : Li
 noisy_beside takes fails rules noisy (Ok exit) begun old new taken taken_after reads reads_after ended h = h
 noisy_beside takes fails rules noisy (Err f) begun old new taken taken_after reads reads_after ended h = h
 
-noise_beside : {K : Type 0} (takes fails : Taking K) (rules : Rules) (channel : ChannelWords) (symbols : List ℕ) (begun : Bool) (old new : Ends K) (taken taken_after : Option (List ℕ)) (reads reads_after : ℕ) (ended : Result Received Fault)
+noise_beside : {K : Type 0} (takes fails : Taking K) (rules : Rules) (channel : Channel) (symbols : List ℕ) (begun : Bool) (old new : Ends K) (taken taken_after : Option (List ℕ)) (reads reads_after : ℕ) (ended : Result Received Fault)
     → ReceivesWithNoise takes fails rules channel symbols begun old new ended
     → ReceivesWithNoise takes fails rules channel symbols begun (ends_of (record old.streams { taken = taken; reads = reads }) old.sinks) (ends_of (record new.streams { taken = taken_after; reads = reads_after }) new.sinks) ended
 noise_beside takes fails rules channel symbols begun old new taken taken_after reads reads_after ended (inl (added, left, noisy, failed, adds, receives)) =
     inl (added, left, noisy, failed, adds, noisy_beside takes fails rules noisy added begun old new taken taken_after reads reads_after ended receives)
 noise_beside takes fails rules channel symbols begun old new taken taken_after reads reads_after ended (inr none) = inr none
 
-pub runs_beside : {K : Type 0} (takes fails : Taking K) (rules : Rules) (channel : ChannelWords) (seeds : Option Seeds) (symbols : List ℕ) (begun : Bool) (old new : Ends K) (taken taken_after : Option (List ℕ)) (reads reads_after : ℕ) (ended : Result Received Fault)
+pub runs_beside : {K : Type 0} (takes fails : Taking K) (rules : Rules) (channel : Channel) (seeds : Option Seeds) (symbols : List ℕ) (begun : Bool) (old new : Ends K) (taken taken_after : Option (List ℕ)) (reads reads_after : ℕ) (ended : Result Received Fault)
     → ReceivesRuns takes fails rules channel seeds symbols begun old new ended
     → ReceivesRuns takes fails rules channel seeds symbols begun (ends_of (record old.streams { taken = taken; reads = reads }) old.sinks) (ends_of (record new.streams { taken = taken_after; reads = reads_after }) new.sinks) ended
 runs_beside takes fails rules channel None symbols begun old new taken taken_after reads reads_after ended h =

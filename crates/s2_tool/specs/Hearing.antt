@@ -8,7 +8,7 @@ use Rattle.s2_console.specs.declared.exit.Exit.{Exit}
 use Rattle.s2_console.specs.declared.fault.Fault.{Fault}
 use Rattle.s2_console.specs.declared.fault.Fault.TheVariants as faults
 use Rattle.s2_console.specs.Files.{piped}
-use Rattle.s2_words.specs.declared.request.ChannelWords.{ChannelWords}
+use Rattle.s2_tool.specs.declared.options.Channel.{Channel}
 use Rattle.s2_tool.specs.Ends.{BeginsWith, Ends, ends_of}
 use Rattle.s2_tool.specs.AddingNoise.{AddsNoise}
 use Rattle.s2_tool.specs.Receptions.{ReceivesToEnd}
@@ -35,7 +35,7 @@ abbrev pub written_by : {P W : Type 0} → (P → Option (List ℕ)) → (P → 
 written_by given writes out prints p w = record { taken = None; given = given p; out = out w; reads = 0; writes = writes p; prints = prints w }
 
 -- noise is added to symbols in memory, and this becomes of the result
-abbrev pub Noised : ChannelWords → List ℕ → (Becomes : List ℕ → Result Exit Fault → Type 0) → Type 0
+abbrev pub Noised : Channel → List ℕ → (Becomes : List ℕ → Result Exit Fault → Type 0) → Type 0
 Noised channel symbols Becomes =
     (added : Result Exit Fault) × (left noisy : List ℕ) × (failed : ℕ)
     × AddsNoise channel (piped (Some symbols) 0 (Some []) 0) (piped (Some left) 0 (Some noisy) failed) added × Becomes noisy added
@@ -47,6 +47,6 @@ ReceivesNoisy takes fails rules noisy (Ok exit) begun old new ended =
 ReceivesNoisy takes fails rules noisy (Err f) begun old new ended = EndsAll (kept_fault f) begun old new ended
 
 -- noise is added to symbols in memory, and the result is received by a new receiver; or there is no memory for it
-abbrev pub ReceivesWithNoise : {K : Type 0} → (takes fails : Taking K) → Rules → ChannelWords → List ℕ → (begun : Bool) → (old new : Ends K) → Result Received Fault → Type 0
+abbrev pub ReceivesWithNoise : {K : Type 0} → (takes fails : Taking K) → Rules → Channel → List ℕ → (begun : Bool) → (old new : Ends K) → Result Received Fault → Type 0
 ReceivesWithNoise takes fails rules channel symbols begun old new ended =
     Noised channel symbols (λ noisy added. ReceivesNoisy takes fails rules noisy added begun old new ended) ⊎ EndsAll faults.NoMemory begun old new ended

@@ -4,7 +4,7 @@ use Rattle.s2_mode.specs.Limits.{max_symbols}
 use Rattle.s2_mode.specs.Mode.{Mode}
 use Rattle.s2_mode.specs.declared.stream_fault.StreamFault.TheVariants as stream_faults
 use Rattle.s2_rows.specs.Rows.{Rows}
-use Rattle.s2_link.specs.Tuning.{Tuning}
+use Rattle.s2_tuning.specs.Tuning.{Tuning}
 use Rattle.s2_link.specs.declared.setup.Setup.{Setup}
 use Rattle.s2_receive.specs.Receiving.{Rules, State, begun}
 use Rattle.s2_receive.specs.Sinks.{Taking, RunAnswersWith}
@@ -15,7 +15,7 @@ use Rattle.s2_console.specs.declared.fault.Fault.TheVariants as faults
 use Rattle.s2_console.specs.declared.exit.Exit.{Exit}
 use Rattle.s2_console.specs.Files.{Files, reporting}
 use Rattle.s2_console.specs.Screens.{Screen}
-use Rattle.s2_words.specs.declared.request.DemodWords.{DemodWords}
+use Rattle.s2_tool.specs.declared.options.DemodOptions.{DemodOptions}
 use Rattle.s2_tool.specs.Ends.{BeginsWith, CausesWith, Ends, ends_of}
 use Rattle.s2_tool.specs.Links.{LinkCommand, OnLink}
 use Rattle.s2_tool.specs.Losses.{Finishes}
@@ -34,7 +34,7 @@ abbrev pub Demodulates : {K : Type 0} → (takes fails : Taking K) → Tuning �
 Demodulates takes fails tuning link begun old new ended = BeginsWith (ReceivesToEnd takes fails (link_rules link tuning max_symbols)) begun old new ended
 
 -- `demod` has ended with this exit: so it did on its files and its sinks, and so it reported how it ended
-abbrev pub DemodExits : {K : Type 0} → (takes fails : Taking K) → (count : K → ℕ) → Setup → DemodWords → ((quiet : Bool) → Mode → Result Rows Fault → Type 0) → Files → Files → K → K → Screen → Screen → Exit → Type 0
+abbrev pub DemodExits : {K : Type 0} → (takes fails : Taking K) → (count : K → ℕ) → Setup → DemodOptions → ((quiet : Bool) → Mode → Result Rows Fault → Type 0) → Files → Files → K → K → Screen → Screen → Exit → Type 0
 DemodExits takes fails count setup words Noted files left sinks_old sinks_new old new exit =
     (reception : Result Received Fault)
     × OnLink (Demodulates takes fails words.tuning) (CausesWith count) (Noted words.notes.quiet setup.mode) setup files left (ends_of (reporting files old) sinks_old) (ends_of (reporting left new) sinks_new) reception

@@ -8,7 +8,7 @@ use Rattle.s2_receive.specs.declared.report.Received.{Received}
 use Rattle.s2_console.specs.declared.exit.Exit.{Exit}
 use Rattle.s2_console.specs.declared.fault.Fault.{Fault}
 use Rattle.s2_console.specs.declared.fault.Fault.TheVariants as faults
-use Rattle.s2_words.specs.declared.request.ChannelWords.{ChannelWords}
+use Rattle.s2_tool.specs.declared.options.Channel.{Channel}
 use Rattle.s2_words.specs.declared.request.Seeds.{Seeds}
 use Rattle.s2_tool.specs.Ends.{Ends}
 use Rattle.s2_tool.specs.Hearing.{kept_fault, Stops, hearing, Noised}
@@ -21,12 +21,12 @@ HearsNoisy takes fails rules noisy (Ok exit) old new ended = (left : Option (Lis
 HearsNoisy takes fails rules noisy (Err f) old new ended = Stops (kept_fault f) old new ended
 
 -- the noise of a seed is added to the symbols, and the result is received by a new receiver; or there is no memory for it
-abbrev pub HearsSeed : {K : Type 0} → (takes fails : Taking K) → Rules → ChannelWords → List ℕ → (seed : ℕ) → (old new : Ends K) → Result Received Fault → Type 0
+abbrev pub HearsSeed : {K : Type 0} → (takes fails : Taking K) → Rules → Channel → List ℕ → (seed : ℕ) → (old new : Ends K) → Result Received Fault → Type 0
 HearsSeed takes fails rules channel symbols seed old new ended =
     Noised (record channel { seed = seed }) symbols (λ noisy added. HearsNoisy takes fails rules noisy added old new ended) ⊎ Stops faults.NoMemory old new ended
 
 -- this number of seeds, from the first one on, is received to the end, one after another, with this sum
-unfoldable pub HearsSeeds : {K : Type 0} → (takes fails : Taking K) → Rules → ChannelWords → List ℕ → (first seeds : ℕ) → (old new : Ends K) → (sum : Received) → Type 0
+unfoldable pub HearsSeeds : {K : Type 0} → (takes fails : Taking K) → Rules → Channel → List ℕ → (first seeds : ℕ) → (old new : Ends K) → (sum : Received) → Type 0
 HearsSeeds takes fails rules channel symbols first zero old new sum = (new ≡ old) × (sum ≡ nothing_received)
 HearsSeeds {K} takes fails rules channel symbols first (suc seeds) old new sum =
     (mid : Ends K) × (before one : Received) × HearsSeeds takes fails rules channel symbols first seeds old mid before
@@ -41,19 +41,19 @@ PrintsSum seeds sum old new (Err faults.Write) =
 PrintsSum seeds sum old new (Err f) = ⊥
 
 -- a seed of a range is not received to the end, for this fault, and those before it are
-abbrev pub FailsSeed : {K : Type 0} → (takes fails : Taking K) → Rules → ChannelWords → Seeds → List ℕ → (old new : Ends K) → Fault → Type 0
+abbrev pub FailsSeed : {K : Type 0} → (takes fails : Taking K) → Rules → Channel → Seeds → List ℕ → (old new : Ends K) → Fault → Type 0
 FailsSeed {K} takes fails rules channel seeds symbols old new f =
     (passed : ℕ) × (mid : Ends K) × (sum : Received) × (passed < seeds_in seeds)
     × HearsSeeds takes fails rules channel symbols seeds.first passed old mid sum × HearsSeed takes fails rules channel symbols (seeds.first + passed) mid new (Err f)
 
 -- all seeds of a range are received to the end, with this sum, or a seed is not
-abbrev pub SeedsAnswer : {K : Type 0} → (takes fails : Taking K) → Rules → ChannelWords → Seeds → List ℕ → (old new : Ends K) → Result Received Fault → Type 0
+abbrev pub SeedsAnswer : {K : Type 0} → (takes fails : Taking K) → Rules → Channel → Seeds → List ℕ → (old new : Ends K) → Result Received Fault → Type 0
 SeedsAnswer takes fails rules channel seeds symbols old new (Ok sum) = HearsSeeds takes fails rules channel symbols seeds.first (seeds_in seeds) old new sum
 SeedsAnswer takes fails rules channel seeds symbols old new (Err f) = FailsSeed takes fails rules channel seeds symbols old new f
 
 -- All seeds of a range are received to the end, and then the line of their sum is printed. Or a seed is not received to the
 -- end, which ends all
-abbrev pub HearsRange : {K : Type 0} → (takes fails : Taking K) → Rules → ChannelWords → Seeds → List ℕ → (old new : Ends K) → Result Received Fault → Type 0
+abbrev pub HearsRange : {K : Type 0} → (takes fails : Taking K) → Rules → Channel → Seeds → List ℕ → (old new : Ends K) → Result Received Fault → Type 0
 HearsRange {K} takes fails rules channel seeds symbols old new ended =
     ((mid : Ends K) × (sum : Received) × SeedsAnswer takes fails rules channel seeds symbols old mid (Ok sum) × PrintsSum seeds sum mid new ended)
     ⊎ ((f : Fault) × (ended ≡ Err f) × SeedsAnswer takes fails rules channel seeds symbols old new (Err f))

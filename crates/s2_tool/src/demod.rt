@@ -13,14 +13,15 @@ ghost use Rattle.s2_tool.specs.Receptions.{ReceivesToEnd, Demodulates, DemodExit
 
 use crate::link_files::LinkFiles;
 use crate::losses::conclude_reception;
+use crate::options::DemodOptions;
 use s2_console::{Console, Exit, Fault};
 use s2_files::{Destination, Output};
-use s2_link::{Link, LinkSetup, Tuning};
+use s2_link::{Link, LinkSetup};
 use s2_mode::{CountedRead, CountedWrite, StreamFault};
 use s2_modem::Receiver;
 use s2_receive::{Received, Sink};
 use s2_table::read_noted;
-use s2_words::DemodWords;
+use s2_tuning::Tuning;
 use std::alloc::Global;
 
 /// Receives to the end of the symbols. Frame by frame, the sinks take the frame, and then its packets and its line are
@@ -82,7 +83,7 @@ pub(crate) fn receive_begun<K: Sink, S: CountedRead, W: Output, O: CountedWrite>
 fn receive_files<K: Sink, R: CountedRead, W: Output, O: CountedWrite, E: CountedWrite>(
     alloc: Global,
     setup: LinkSetup,
-    words: &DemodWords<'_>,
+    words: &DemodOptions,
     files: &mut LinkFiles<R, W>,
     sinks: &mut K,
     console: &mut Console<O, E>,
@@ -123,7 +124,7 @@ fn receive_files<K: Sink, R: CountedRead, W: Output, O: CountedWrite, E: Counted
 pub fn demod_command<K: Sink, R: CountedRead, W: Output, O: CountedWrite, E: CountedWrite>(
     alloc: Global,
     setup: LinkSetup,
-    words: &DemodWords<'_>,
+    words: &DemodOptions,
     files: &mut LinkFiles<R, W>,
     sinks: &mut K,
     console: &mut Console<O, E>,

@@ -8,13 +8,14 @@ ghost use Rattle.s2_tool.specs.Hearing.{kept_fault, ReceivesWithNoise, written_b
 
 use crate::demod::receive_begun;
 use crate::noise::add_noise;
+use crate::options::Channel;
 use s2_console::Fault;
 use s2_files::{Destination, Output};
-use s2_link::{Link, Tuning};
+use s2_link::Link;
 use s2_mode::{CountedWrite, Counting, InMemory};
 use s2_modem::Receiver;
 use s2_receive::{Received, Sink};
-use s2_words::ChannelWords;
+use s2_tuning::Tuning;
 use std::alloc::Global;
 
 /// The fault of a part whose output is kept in memory.
@@ -32,7 +33,7 @@ pub(crate) fn receive_noisy<K: Sink, W: Output, O: CountedWrite>(
     alloc: Global,
     link: &Link<'_>,
     tuning: Tuning,
-    channel: ChannelWords,
+    channel: Channel,
     symbols: &[u8],
     sinks: &mut K,
     to: &mut Destination<W>,

@@ -6,32 +6,44 @@ ghost use Rattle.s2_console.specs.Screens.{CanNote};
 use crate::demod::demod_command;
 use crate::modulate::mod_command;
 use crate::opening::{open_link, show_on};
+use crate::options::{DemodOptions, RunOptions, demod_options, run_options};
 use crate::records::{conclude_records, open_records};
 use crate::run::run_command;
 use crate::serve::mode_of;
 use s2_console::{Console, Exit, Fault};
 use s2_files::{Disk, Opener};
-use s2_link::LinkSetup;
-use s2_mode::{CountedWrite, Mode};
+use s2_link::{LinkSetup, RollOff};
+use s2_mode::{CountedWrite, FaultText, Mode};
 use s2_progress::{Pace, Show, Terminal};
+use s2_scramble::ScramblingNumber;
 use s2_words::{DemodWords, LinkWords, ModWords, Progress, RecordWords, RunWords};
 use std::time::Clock;
 
-/// A request that works on a link, by its words.
+/// A request that works on a link: its words, and its options in the types of the command.
 #[derive(Clone, Copy)]
 pub(crate) enum LinkRequest<'w, 'a> {
     Mod(&'w ModWords<'a>),
-    Demod(&'w DemodWords<'a>),
-    Run(&'w RunWords<'a>),
+    Demod(&'w DemodWords<'a>, DemodOptions),
+    Run(&'w RunWords<'a>, RunOptions),
 }
 
 impl<'w, 'a> LinkRequest<'w, 'a> {
+    /// The request of `demod`.
+    pub(crate) fn demod(words: &'w DemodWords<'a>) -> Result<LinkRequest<'w, 'a>, Fault<'a>> {
+        Ok(LinkRequest::Demod(words, demod_options(words)?))
+    }
+
+    /// The request of `run`.
+    pub(crate) fn run(words: &'w RunWords<'a>) -> Result<LinkRequest<'w, 'a>, Fault<'a>> {
+        Ok(LinkRequest::Run(words, run_options(words)?))
+    }
+
     /// The options of its link.
     fn link(self) -> LinkWords {
         match self {
             LinkRequest::Mod(words) => words.link,
-            LinkRequest::Demod(words) => words.link,
-            LinkRequest::Run(words) => words.link,
+            LinkRequest::Demod(words, _) => words.link,
+            LinkRequest::Run(words, _) => words.link,
         }
     }
 
@@ -39,8 +51,8 @@ impl<'w, 'a> LinkRequest<'w, 'a> {
     fn names(self) -> [&'a str; 3] {
         match self {
             LinkRequest::Mod(words) => [words.rows, words.packets, words.symbols],
-            LinkRequest::Demod(words) => [words.rows, words.symbols, words.packets],
-            LinkRequest::Run(words) => [words.rows, words.packets, words.to],
+            LinkRequest::Demod(words, _) => [words.rows, words.symbols, words.packets],
+            LinkRequest::Run(words, _) => [words.rows, words.packets, words.to],
         }
     }
 
@@ -48,16 +60,16 @@ impl<'w, 'a> LinkRequest<'w, 'a> {
     fn records(self) -> RecordWords<'a> {
         match self {
             LinkRequest::Mod(words) => words.records,
-            LinkRequest::Demod(words) => words.records,
-            LinkRequest::Run(words) => words.records,
+            LinkRequest::Demod(words, _) => words.records,
+            LinkRequest::Run(words, _) => words.records,
         }
     }
 
     /// Whether its input has a buffer. `demod` reads many bytes at a time, so its symbols have none.
     fn is_buffered(self) -> bool {
         match self {
-            LinkRequest::Mod(_) | LinkRequest::Run(_) => true,
-            LinkRequest::Demod(_) => false,
+            LinkRequest::Mod(_) | LinkRequest::Run(_, _) => true,
+            LinkRequest::Demod(_, _) => false,
         }
     }
 
@@ -66,8 +78,8 @@ impl<'w, 'a> LinkRequest<'w, 'a> {
         let frame = mode.symbols() as u64;
         match self {
             LinkRequest::Mod(_) => Pace::Sending { frame },
-            LinkRequest::Demod(_) => Pace::Receiving { frame },
-            LinkRequest::Run(_) => Pace::Looping,
+            LinkRequest::Demod(_, _) => Pace::Receiving { frame },
+            LinkRequest::Run(_, _) => Pace::Looping,
         }
     }
 
@@ -75,8 +87,8 @@ impl<'w, 'a> LinkRequest<'w, 'a> {
     fn progress(self) -> Progress {
         match self {
             LinkRequest::Mod(words) => words.progress,
-            LinkRequest::Demod(words) => words.progress,
-            LinkRequest::Run(words) => words.progress,
+            LinkRequest::Demod(words, _) => words.progress,
+            LinkRequest::Run(words, _) => words.progress,
         }
     }
 }
@@ -85,8 +97,12 @@ impl<'w, 'a> LinkRequest<'w, 'a> {
 pub(crate) fn setup_of(words: LinkWords) -> Result<LinkSetup, Fault<'static>> {
     Ok(LinkSetup {
         mode: mode_of(words.modcod, words.short, words.pilots)?,
-        number: words.number,
-        roll_off: words.roll_off,
+        number: ScramblingNumber::new(words.number).ok_or(Fault::refused(FaultText::of(
+            "no such scrambling number",
+        )))?,
+        roll_off: RollOff::new(words.roll_off).ok_or(Fault::refused(FaultText::of(
+            "no such roll-off",
+        )))?,
     })
 }
 
@@ -121,10 +137,12 @@ pub(crate) fn with_link<'a, R: Disk + Clock + AllocGlobal, O: CountedWrite, E: C
             console,
             notes,
         ),
-        LinkRequest::Demod(words) => demod_command(
-            alloc, setup, words, open, sinks, console, notes,
+        LinkRequest::Demod(_, options) => demod_command(
+            alloc, setup, &options, open, sinks, console, notes,
         ),
-        LinkRequest::Run(words) => run_command(alloc, setup, words, open, sinks, console, notes),
+        LinkRequest::Run(_, options) => run_command(
+            alloc, setup, &options, open, sinks, console, notes,
+        ),
     };
     show.finish();
     conclude_records(exit, files.to.is_begun(), records)

@@ -10,6 +10,7 @@ mod losses;
 mod modulate;
 mod noise;
 mod opening;
+mod options;
 mod records;
 mod refusals;
 mod rows;

@@ -4,15 +4,15 @@ ghost use Rattle.s2_mode.specs.Counts.{CanCount};
 ghost use Rattle.s2_tool.specs.Links.{Begins};
 ghost use Rattle.s2_tool.specs.AddingNoise.{piped_by, AddsNoise, NoiseExits};
 
+use crate::options::Channel;
 use s2_channel::{Noise, add_to_all};
 use s2_console::{Console, Exit, Fault};
 use s2_files::{Destination, Output};
 use s2_mode::{CountedRead, CountedWrite, StreamFault};
-use s2_words::ChannelWords;
 
 /// Writes the symbols of a reader with noise.
 pub(crate) fn add_noise<R: CountedRead, W: CountedWrite>(
-    channel: ChannelWords,
+    channel: Channel,
     from: &mut R,
     to: &mut W,
 ) -> Result<Exit, Fault<'static>>
@@ -31,7 +31,7 @@ pub(crate) fn add_noise<R: CountedRead, W: CountedWrite>(
 
 /// Truncates the output, and writes the symbols of a reader with noise.
 fn add_noise_begun<R: CountedRead, W: Output>(
-    channel: ChannelWords,
+    channel: Channel,
     from: &mut R,
     to: &mut Destination<W>,
 ) -> Result<Exit, Fault<'static>>
@@ -50,7 +50,7 @@ fn add_noise_begun<R: CountedRead, W: Output>(
 /// `noise`: writes the symbols of a reader with noise. A seed and a strength, which is a level or an Es/N0, determine
 /// the noise. It prints nothing. One to three bytes that are left at the end are dropped.
 pub fn noise_command<R: CountedRead, W: Output, O: CountedWrite, E: CountedWrite>(
-    channel: ChannelWords,
+    channel: Channel,
     from: &mut R,
     to: &mut Destination<W>,
     console: &mut Console<O, E>,

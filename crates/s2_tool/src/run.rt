@@ -15,6 +15,7 @@ ghost use Rattle.s2_tool.specs.Looping.{FinishesRun, LoopsBy, Loops, ReceivesRun
 use crate::hearing::receive_noisy;
 use crate::link_files::LinkFiles;
 use crate::losses::conclude_reception;
+use crate::options::RunOptions;
 use crate::refusals::{Ended, refused_by, report_refusal, sent_by};
 use crate::seeds::receive_range;
 use s2_console::{Console, Exit, Fault};
@@ -24,7 +25,7 @@ use s2_mode::{CountedRead, CountedWrite, Counting, Mode};
 use s2_receive::{Received, Sink};
 use s2_send::{SendFault, Transmitter};
 use s2_table::read_noted;
-use s2_words::{NoteWords, RunWords};
+use s2_words::NoteWords;
 use std::alloc::Global;
 
 /// How a refusal ends a command that sends into memory.
@@ -41,7 +42,7 @@ fn refused_in_memory(refusal: SendFault) -> Ended<Received>
 fn receive_runs<K: Sink, W: Output, O: CountedWrite>(
     alloc: Global,
     link: &Link<'_>,
-    words: &RunWords<'_>,
+    words: &RunOptions,
     symbols: &[u8],
     sinks: &mut K,
     to: &mut Destination<W>,
@@ -78,7 +79,7 @@ fn loop_packets<K: Sink, S: CountedRead, W: Output, O: CountedWrite>(
     alloc: Global,
     transmitter: &mut Transmitter<'_>,
     link: &Link<'_>,
-    words: &RunWords<'_>,
+    words: &RunOptions,
     from: &mut S,
     sinks: &mut K,
     to: &mut Destination<W>,
@@ -108,7 +109,7 @@ fn loop_packets<K: Sink, S: CountedRead, W: Output, O: CountedWrite>(
 fn loop_files<K: Sink, R: CountedRead, W: Output, O: CountedWrite, E: CountedWrite>(
     alloc: Global,
     setup: LinkSetup,
-    words: &RunWords<'_>,
+    words: &RunOptions,
     files: &mut LinkFiles<R, W>,
     sinks: &mut K,
     console: &mut Console<O, E>,
@@ -174,7 +175,7 @@ fn conclude_run<O: CountedWrite, E: CountedWrite>(
 pub fn run_command<K: Sink, R: CountedRead, W: Output, O: CountedWrite, E: CountedWrite>(
     alloc: Global,
     setup: LinkSetup,
-    words: &RunWords<'_>,
+    words: &RunOptions,
     files: &mut LinkFiles<R, W>,
     sinks: &mut K,
     console: &mut Console<O, E>,

@@ -10,14 +10,16 @@ ghost use Rattle.s2_tool.specs.Seeding.{HearsRange, HearsSeed, SeedsAnswer};
 use crate::demod::receive_to_end;
 use crate::hearing::kept_fault;
 use crate::noise::add_noise;
+use crate::options::{Channel, RunOptions};
 use crate::sums::{nothing_received, received_sum, sums_line};
 use s2_console::Fault;
 use s2_files::{Destination, Output};
-use s2_link::{Link, Tuning};
+use s2_link::Link;
 use s2_mode::{CountedWrite, Counting, InMemory, write_full};
 use s2_modem::Receiver;
 use s2_receive::{Received, Sink};
-use s2_words::{ChannelWords, RunWords, Seeds};
+use s2_tuning::Tuning;
+use s2_words::Seeds;
 use std::alloc::Global;
 
 /// Adds a channel's noise to symbols, and receives the result on a link.
@@ -25,7 +27,7 @@ fn receive_seed<K: Sink, W: CountedWrite, O: CountedWrite>(
     alloc: Global,
     link: &Link<'_>,
     tuning: Tuning,
-    channel: ChannelWords,
+    channel: Channel,
     symbols: &[u8],
     sinks: &mut K,
     packets: &mut W,
@@ -61,7 +63,7 @@ fn receive_seed<K: Sink, W: CountedWrite, O: CountedWrite>(
 fn receive_seeds<K: Sink, W: CountedWrite, O: CountedWrite>(
     alloc: Global,
     link: &Link<'_>,
-    words: &RunWords<'_>,
+    words: &RunOptions,
     seeds: Seeds,
     symbols: &[u8],
     sinks: &mut K,
@@ -80,7 +82,7 @@ fn receive_seeds<K: Sink, W: CountedWrite, O: CountedWrite>(
 {
     let mut sum = nothing_received();
     'seeds: for seed in seeds.first..=seeds.last {
-        let channel = ChannelWords {
+        let channel = Channel {
             seed,
             ..words.channel
         };
@@ -103,7 +105,7 @@ fn receive_seeds<K: Sink, W: CountedWrite, O: CountedWrite>(
 fn sum_seeds<K: Sink, W: CountedWrite, O: CountedWrite>(
     alloc: Global,
     link: &Link<'_>,
-    words: &RunWords<'_>,
+    words: &RunOptions,
     seeds: Seeds,
     symbols: &[u8],
     sinks: &mut K,
@@ -131,7 +133,7 @@ fn sum_seeds<K: Sink, W: CountedWrite, O: CountedWrite>(
 pub(crate) fn receive_range<K: Sink, W: Output, O: CountedWrite>(
     alloc: Global,
     link: &Link<'_>,
-    words: &RunWords<'_>,
+    words: &RunOptions,
     seeds: Seeds,
     symbols: &[u8],
     sinks: &mut K,

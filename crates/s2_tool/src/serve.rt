@@ -8,6 +8,7 @@ use crate::noise::noise_command;
 use crate::opening::{
     open_audit, open_input, open_inputs, open_join, open_judge, open_noise, screen_beside, show_on,
 };
+use crate::options::{channel_of, divisor_of, judging_of};
 use crate::rows::rows_command;
 use clap::Error;
 use clap::error::ErrorKind;
@@ -132,16 +133,16 @@ pub(crate) fn run_request<R: Disk + Clock + AllocGlobal, O: CountedWrite, E: Cou
         Request::Join(words) => conclude(serve_join(rt, words, console), console),
         Request::Audit(words) => conclude(serve_audit(rt, words, console), console),
         Request::Mod(words) => {
-            let request = LinkRequest::Mod(words);
-            conclude(with_link(rt, terminal, request, console, notes), console)
+            let request = Ok(LinkRequest::Mod(words));
+            conclude(serve_link(rt, terminal, request, console, notes), console)
         }
         Request::Demod(words) => {
-            let request = LinkRequest::Demod(words);
-            conclude(with_link(rt, terminal, request, console, notes), console)
+            let request = LinkRequest::demod(words);
+            conclude(serve_link(rt, terminal, request, console, notes), console)
         }
         Request::Run(words) => {
-            let request = LinkRequest::Run(words);
-            conclude(with_link(rt, terminal, request, console, notes), console)
+            let request = LinkRequest::run(words);
+            conclude(serve_link(rt, terminal, request, console, notes), console)
         }
     }
 }
@@ -163,6 +164,21 @@ fn shape_by(code: CodeWords) -> Result<Shape, Fault<'static>> {
 /// The mode of a MODCOD and two flags.
 pub(crate) fn mode_of(modcod: u8, short: bool, pilots: bool) -> Result<Mode, Fault<'static>> {
     Mode::of(modcod, short, pilots).ok_or(Fault::refused(FaultText::of("no such mode")))
+}
+
+/// `mod`, `demod` and `run`, if their options could be read.
+fn serve_link<'a, R: Disk + Clock + AllocGlobal, O: CountedWrite, E: CountedWrite>(
+    rt: &R,
+    terminal: &Terminal<'_, R>,
+    request: Result<LinkRequest<'_, 'a>, Fault<'a>>,
+    console: &mut Console<O, E>,
+    notes: &mut E,
+) -> Result<Exit, Fault<'a>>
+    requires console { CanNote console.old }
+    requires notes { CanCount (E.count notes.old) }
+    ensures { OnErr result (CanCount console.new.errors_failed) }
+{
+    with_link(rt, terminal, request?, console, notes)
 }
 
 /// `modes`.
@@ -219,6 +235,7 @@ fn serve_judge<'a, R: Disk + AllocGlobal, O: CountedWrite, E: CountedWrite>(
     ensures { OnErr result (CanCount console.new.errors_failed) }
 {
     let shape = shape_by(words.code)?;
+    let tuning = judging_of(words)?;
     let mut files = open_judge(rt, words)?;
     if words.each {
         return Ok(judge_each_command(
@@ -226,7 +243,7 @@ fn serve_judge<'a, R: Disk + AllocGlobal, O: CountedWrite, E: CountedWrite>(
             shape,
             words.hard,
             words.quiet,
-            words.tuning,
+            tuning,
             &mut files,
             console,
         ));
@@ -236,7 +253,7 @@ fn serve_judge<'a, R: Disk + AllocGlobal, O: CountedWrite, E: CountedWrite>(
         shape,
         words.hard,
         words.quiet,
-        words.tuning,
+        tuning,
         &mut files,
         console,
     ))
@@ -269,9 +286,10 @@ fn serve_noise<'a, R: Disk + Clock + AllocGlobal, O: CountedWrite, E: CountedWri
     requires { CanNote console.old }
     ensures { OnErr result (CanCount console.new.errors_failed) }
 {
+    let channel = channel_of(words.channel)?;
     let show = show_on(terminal, Pace::AddingNoise, words.progress);
     let (mut from, mut to) = open_noise(rt, &show, words.from, words.to)?;
-    let exit = noise_command(words.channel, &mut from, &mut to, console);
+    let exit = noise_command(channel, &mut from, &mut to, console);
     show.finish();
     match to.into_inner().into_inner().finish() {
         Err(_) if exit == Exit::Fine => Err(Fault::Write),
@@ -316,11 +334,12 @@ fn serve_audit<'a, R: Disk + AllocGlobal, O: CountedWrite, E: CountedWrite>(
     ensures { OnErr result (CanCount console.new.errors_failed) }
 {
     let setup = setup_of(words.link)?;
+    let divisor = divisor_of(words.divisor)?;
     let (mut rows, mut symbols, mut report, mut certificates) = open_audit(rt, words)?;
     Ok(audit_command(
         rt.alloc(),
         setup,
-        words.divisor,
+        divisor,
         &mut rows,
         &mut symbols,
         &mut report,

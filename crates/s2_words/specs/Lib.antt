@@ -1,4 +1,2 @@
-pub mod Defaults
 pub mod Options
 pub mod SeedRanges
-pub mod Tuned

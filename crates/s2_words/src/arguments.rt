@@ -1,11 +1,10 @@
 //! The arguments of all commands: options and files, with their forms, ranges, defaults and help.
+use crate::limits::{
+    LEAST_FACTOR, LEAST_LOCK, MAX_ADDRESSES, MAX_FACTOR, MAX_LOCK, MAX_NUMBER, MAX_PASSES,
+    MAX_ROLL_OFF, MAX_ROUNDS,
+};
 use clap::builder::ValueParser;
-use s2_link::{MAX_PASSES, MAX_ROLL_OFF, MAX_ROUNDS};
-use s2_minsum::{LEAST_FACTOR, MAX_FACTOR};
 use s2_mode::{MAX_BITS, MAX_GROUP, MAX_MODCOD};
-use s2_plframe::{HEADER_THRESHOLD, MAX_LOCK};
-use s2_rows::MAX_ADDRESSES;
-use s2_scramble::MAX_NUMBER;
 
 /// The decimal digits of the default rounds.
 pub(crate) const DEFAULT_ROUNDS_TEXT: &str = "50";
@@ -248,7 +247,7 @@ pub(crate) const LOCK: Argument = Argument {
     name: "lock",
     form: Form::Number {
         value: "H",
-        allowed: ValueParser::Signed(HEADER_THRESHOLD as i64, MAX_LOCK as i64),
+        allowed: ValueParser::Signed(LEAST_LOCK as i64, MAX_LOCK as i64),
         default: Some(DEFAULT_LOCK_TEXT),
     },
     help: "Bits of a header that may be wrong right behind a frame, 12 to 40; elsewhere 12 may",

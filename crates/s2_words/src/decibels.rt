@@ -1,7 +1,7 @@
 //! Es/N0 as a text of the command line.
 ghost use Rattle.std.specs.Prelude.{◌≤ℤ◌, pos, IfSome};
 
-use s2_channel::EsN0;
+use crate::limits::{LEAST_ESN0, MAX_ESN0};
 
 /// The number of a text of decimal digits and nothing else.
 fn digits(text: &str) -> Option<u16> {
@@ -25,10 +25,15 @@ fn hundredths(text: &str) -> Option<i32>
     Some(100 * i32::from(digits(whole)?) + least)
 }
 
-/// An Es/N0 in dB, with a sign or without.
-pub(crate) fn read_esn0(text: &str) -> Option<EsN0> {
-    match text.strip_prefix("-") {
-        Some(size) => EsN0::new(-hundredths(size)?),
-        None => EsN0::new(hundredths(text.strip_prefix("+").unwrap_or(text))?),
+/// An Es/N0 in dB, with a sign or without, in hundredths.
+pub(crate) fn read_esn0(text: &str) -> Option<i32> {
+    let number = match text.strip_prefix("-") {
+        Some(size) => -hundredths(size)?,
+        None => hundredths(text.strip_prefix("+").unwrap_or(text))?,
+    };
+    if LEAST_ESN0 <= number && number <= MAX_ESN0 {
+        Some(number)
+    } else {
+        None
     }
 }

@@ -14,7 +14,7 @@
 mod arguments;
 mod decibels;
 mod help;
-pub mod laws;
+pub mod limits;
 mod options;
 mod parser;
 mod reading;
@@ -26,6 +26,6 @@ mod table;
 pub use reading::read_words;
 pub use request::{
     AuditWords, ChannelWords, CheckWords, CodeWords, DemodWords, JoinWords, JudgeWords, LinkWords,
-    ModWords, ModesWords, NoiseWords, NoteWords, Progress, RecordWords, Request, RowsWords,
-    RunWords, ScanWords, Seeds, ShapeWords, TableWords,
+    ModWords, ModesWords, NoiseWords, NoteWords, NumberWords, Progress, RecordWords, Request,
+    RowsWords, RunWords, ScanWords, Seeds, ShapeWords, StrengthWords, TableWords, TuningWords,
 };

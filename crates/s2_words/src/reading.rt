@@ -1,22 +1,18 @@
 //! The request of the command line.
 use crate::decibels::read_esn0;
-use crate::options::{Number, TuningWords, judging_by, progress_by, read_modcod, tuning_by};
+use crate::limits::MAX_ROLL_OFF;
+use crate::options::{progress_by, read_modcod};
 use crate::parser::program;
 use crate::refusal::{misused, not_understood, values_in};
 use crate::request::{
     AuditWords, ChannelWords, CheckWords, CodeWords, DemodWords, JoinWords, JudgeWords, LinkWords,
-    ModWords, ModesWords, NoiseWords, NoteWords, Progress, RecordWords, Request, RowsWords,
-    RunWords, ScanWords, Seeds, ShapeWords, TableWords,
+    ModWords, ModesWords, NoiseWords, NoteWords, NumberWords, Progress, RecordWords, Request,
+    RowsWords, RunWords, ScanWords, Seeds, ShapeWords, StrengthWords, TableWords, TuningWords,
 };
 use crate::seed_range::read_seeds;
 use clap::parser::ValueSource;
 use clap::{ArgMatches, Error};
-use s2_channel::Strength;
-use s2_link::{RollOff, Tuning};
-use s2_mode::Mode;
 use s2_names::SymbolRate;
-use s2_scramble::ScramblingNumber;
-use s2_soft::Divisor;
 use std::alloc::Global;
 
 fn shape_of(m: &ArgMatches<'_>) -> Option<ShapeWords> {
@@ -37,13 +33,21 @@ fn code_of(m: &ArgMatches<'_>) -> Option<CodeWords> {
     }
 }
 
+/// The number of a roll-off, if there is such a one.
+pub(crate) fn roll_off_of(m: &ArgMatches<'_>) -> Option<u8> {
+    match m.get_one::<u8>("ro") {
+        Some(number) if number <= MAX_ROLL_OFF => Some(number),
+        _ => None,
+    }
+}
+
 fn link_of(m: &ArgMatches<'_>) -> Option<LinkWords> {
     Some(LinkWords {
         modcod: read_modcod(m.get_str("modcod")?)?,
         short: m.get_flag("short"),
         pilots: m.get_flag("pilots"),
-        number: ScramblingNumber::new(m.get_one::<u32>("number")?)?,
-        roll_off: RollOff::new(m.get_one::<u8>("ro")?)?,
+        number: m.get_one::<u32>("number")?,
+        roll_off: roll_off_of(m)?,
     })
 }
 
@@ -54,16 +58,15 @@ fn is_given(m: &ArgMatches<'_>, name: &str) -> bool {
     }
 }
 
-fn number_of(m: &ArgMatches<'_>, name: &str) -> Option<Number> {
-    Some(Number {
+fn number_of(m: &ArgMatches<'_>, name: &str) -> Option<NumberWords> {
+    Some(NumberWords {
         is_given: is_given(m, name),
         value: m.get_one::<u32>(name)?,
     })
 }
 
-fn tuning_of(m: &ArgMatches<'_>) -> Option<Tuning> {
-    let mode = Mode::of(read_modcod(m.get_str("modcod")?)?, false, false)?;
-    let words = TuningWords {
+fn tuning_of(m: &ArgMatches<'_>) -> Option<TuningWords> {
+    Some(TuningWords {
         rounds: m.get_one::<u32>("rounds")?,
         passes: number_of(m, "passes")?,
         divisor: number_of(m, "divisor")?,
@@ -72,14 +75,13 @@ fn tuning_of(m: &ArgMatches<'_>) -> Option<Tuning> {
         tuned: m.get_flag("tuned"),
         uncertified: m.get_flag("uncertified"),
         figures: m.get_flag("figures"),
-    };
-    tuning_by(&mode, words)
+    })
 }
 
-fn strength_of(m: &ArgMatches<'_>) -> Option<Strength> {
+fn strength_of(m: &ArgMatches<'_>) -> Option<StrengthWords> {
     match m.get_str("esn0") {
-        Some(text) => read_esn0(text).map(Strength::EsN0),
-        None => m.get_one::<u16>("level").map(Strength::Level),
+        Some(text) => read_esn0(text).map(StrengthWords::EsN0),
+        None => m.get_one::<u16>("level").map(StrengthWords::Level),
     }
 }
 
@@ -177,13 +179,14 @@ fn modes_of<'a>(m: &ArgMatches<'a>) -> Option<Request<'a>> {
 }
 
 fn judge_of<'a>(m: &ArgMatches<'a>) -> Option<Request<'a>> {
-    let (passes, factor) = (m.get_one::<u32>("passes")?, m.get_one::<u32>("factor")?);
     Some(Request::Judge(JudgeWords {
         code: code_of(m)?,
         each: m.get_flag("each"),
         hard: m.get_flag("hard"),
         quiet: m.get_flag("quiet"),
-        tuning: judging_by(passes, factor, m.get_flag("uncertified"))?,
+        passes: m.get_one::<u32>("passes")?,
+        factor: m.get_one::<u32>("factor")?,
+        uncertified: m.get_flag("uncertified"),
         certificate: m.get_str("cert"),
         rows: m.get_str("ROWS")?,
         soft: m.get_str("SOFT")?,
@@ -268,7 +271,7 @@ fn join_of<'a>(m: &ArgMatches<'a>) -> Option<Request<'a>> {
 fn audit_of<'a>(m: &ArgMatches<'a>) -> Option<Request<'a>> {
     Some(Request::Audit(AuditWords {
         link: link_of(m)?,
-        divisor: Divisor::new(m.get_one::<u32>("divisor")?)?,
+        divisor: m.get_one::<u32>("divisor")?,
         rows: m.get_str("ROWS")?,
         symbols: m.get_str("SYMBOLS")?,
         report: m.get_str("REPORT")?,

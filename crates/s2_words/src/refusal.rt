@@ -2,11 +2,11 @@
 use crate::decibels::read_esn0;
 use crate::options::read_modcod;
 use crate::parser::{Values, command_of, program};
+use crate::reading::roll_off_of;
 use crate::seed_range::read_seeds;
 use crate::table::{Entry, commands};
 use clap::error::ErrorKind;
 use clap::{ArgMatches, Error};
-use s2_link::RollOff;
 use s2_mode::{MAX_MODCOD, Mode, Modulation};
 use s2_names::{Case, SymbolRate, constellation};
 use std::alloc::{AllocError, Global};
@@ -131,11 +131,9 @@ fn modcod_message(alloc: Global, m: &ArgMatches<'_>) -> Result<Option<String>, A
 /// What is said of a number that is no roll-off.
 fn roll_off_message(alloc: Global, m: &ArgMatches<'_>) -> Result<Option<String>, AllocError> {
     match m.get_str("ro") {
-        Some(name) if m.get_one::<u8>("ro").and_then(RollOff::new).is_none() => Ok(Some(
-            format!(in alloc;
-                "invalid value '{name}' for '--ro <R>': it is 0 for 0.35, 1 for 0.25, or 2 for 0.20"
-            )?,
-        )),
+        Some(name) if roll_off_of(m).is_none() => Ok(Some(format!(in alloc;
+            "invalid value '{name}' for '--ro <R>': it is 0 for 0.35, 1 for 0.25, or 2 for 0.20"
+        )?)),
         _ => Ok(None),
     }
 }

@@ -1,9 +1,5 @@
 //! The requests of a command line.
-use s2_channel::Strength;
-use s2_link::{RollOff, Tuning};
 use s2_names::SymbolRate;
-use s2_scramble::ScramblingNumber;
-use s2_soft::Divisor;
 
 /// The numbers of a shape.
 #[derive(Clone, Copy, PartialEq, Eq)]
@@ -19,15 +15,42 @@ pub struct LinkWords {
     pub modcod: u8,
     pub short: bool,
     pub pilots: bool,
-    pub number: ScramblingNumber,
-    pub roll_off: RollOff,
+    pub number: u32,
+    pub roll_off: u8,
+}
+
+/// How strong noise is: its level, or an Es/N0 in hundredths of a dB.
+#[derive(Clone, Copy, PartialEq, Eq)]
+pub enum StrengthWords {
+    Level(u16),
+    EsN0(i32),
 }
 
 /// The seed of a channel's noise, and how strong that is.
 #[derive(Clone, Copy, PartialEq, Eq)]
 pub struct ChannelWords {
     pub seed: u64,
-    pub strength: Strength,
+    pub strength: StrengthWords,
+}
+
+/// A number of the line, or its default if it is not there.
+#[derive(Clone, Copy, PartialEq, Eq)]
+pub struct NumberWords {
+    pub is_given: bool,
+    pub value: u32,
+}
+
+/// What the line says of how a receiver is tuned.
+#[derive(Clone, Copy, PartialEq, Eq)]
+pub struct TuningWords {
+    pub rounds: u32,
+    pub passes: NumberWords,
+    pub divisor: NumberWords,
+    pub factor: NumberWords,
+    pub max_header_errors: NumberWords,
+    pub tuned: bool,
+    pub uncertified: bool,
+    pub figures: bool,
 }
 
 /// A range of seeds, from the first to the last: `first` is at most `last`.
@@ -53,14 +76,16 @@ pub enum CodeWords {
 }
 
 /// `judge`: a code, whether there are many frames, whether the values are decided bits, whether notes are left out, the
-/// tuning, and the files.
+/// passes and the factor, whether what min-sum finds stays uncertified, and the files.
 #[derive(Clone, Copy, PartialEq, Eq)]
 pub struct JudgeWords<'a> {
     pub code: CodeWords,
     pub each: bool,
     pub hard: bool,
     pub quiet: bool,
-    pub tuning: Tuning,
+    pub passes: u32,
+    pub factor: u32,
+    pub uncertified: bool,
     pub certificate: Option<&'a str>,
     pub rows: &'a str,
     pub soft: &'a str,
@@ -152,7 +177,7 @@ impl<'a> RecordWords<'a> {
 #[derive(Clone, Copy, PartialEq, Eq)]
 pub struct DemodWords<'a> {
     pub link: LinkWords,
-    pub tuning: Tuning,
+    pub tuning: TuningWords,
     pub notes: NoteWords,
     pub progress: Progress,
     pub records: RecordWords<'a>,
@@ -168,7 +193,7 @@ pub struct DemodWords<'a> {
 pub struct RunWords<'a> {
     pub link: LinkWords,
     pub dummy: u16,
-    pub tuning: Tuning,
+    pub tuning: TuningWords,
     pub channel: ChannelWords,
     pub seeds: Option<Seeds>,
     pub notes: NoteWords,
@@ -198,7 +223,7 @@ pub struct JoinWords<'a> {
 #[derive(Clone, Copy, PartialEq, Eq)]
 pub struct AuditWords<'a> {
     pub link: LinkWords,
-    pub divisor: Divisor,
+    pub divisor: u32,
     pub rows: &'a str,
     pub symbols: &'a str,
     pub report: &'a str,

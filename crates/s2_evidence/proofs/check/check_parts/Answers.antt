@@ -5,7 +5,7 @@ use Rattle.s2_rows.specs.RowFiles as row_files
 use Rattle.s2_certfile.specs.File.{File}
 use Rattle.s2_certfile.specs.Format.{file_of_bytes}
 use Rattle.s2_console.proofs.CommandLemmas.{refuses}
-use Rattle.s2_evidence.specs.Inputs.{rows_said}
+use Rattle.s2_inputs.specs.Inputs.{rows_said}
 use Rattle.s2_evidence.specs.Checking.{certificate_said, with_rows, beside, ArePartsIn, IsAnswered}
 use Rattle.s2_evidence.proofs.InputLemmas.{parts_of}
 use Rattle.s2_evidence.proofs.check.check_parts.Goals as goal

@@ -6,7 +6,7 @@ use Rattle.s2_matrix.specs.Code.{code_of, IsCodeword}
 use Rattle.s2_split.specs.Making.{shared_view}
 use Rattle.s2_split.specs.Scattered.{repaired}
 use Rattle.s2_split.proofs.Repairs.{length-repaired}
-use Rattle.s2_link.specs.Tuning.{tuning_of}
+use Rattle.s2_tuning.specs.Tuning.{tuning_of}
 use Rattle.s2_judge.specs.Deciding.{is_strict, satisfies}
 use Rattle.s2_judge.specs.Certifying.{Certifying}
 use Rattle.s2_judge.proofs.Certificates.{found_or_none, view_by_certifier}

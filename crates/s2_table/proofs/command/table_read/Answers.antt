@@ -5,7 +5,7 @@ use Rattle.s2_mode.specs.Mode.{shape_in}
 use Rattle.s2_mode.specs.Shape.{Shape}
 use Rattle.s2_rows.specs.Rows.{Rows}
 use Rattle.s2_console.specs.Exits.{Follows}
-use Rattle.s2_evidence.specs.Inputs.{rows_in}
+use Rattle.s2_inputs.specs.Inputs.{rows_in}
 use Rattle.s2_table.specs.Tables.{SaysStandard}
 use Rattle.s2_table.proofs.TableLemmas.{refused_rows}
 use Rattle.s2_table.proofs.command.table_read.Goals as goal

@@ -7,7 +7,7 @@ use Rattle.s2_check.specs.Strict.{IsSole}
 use Rattle.s2_check.specs.Verdicts.{is_certified}
 use Rattle.s2_check.specs.Views.{unsplit_view}
 use Rattle.s2_check.specs.declared.verdict.Verdict.TheVariants.{Sole, Broken}
-use Rattle.s2_link.specs.Tuning.{Tuning}
+use Rattle.s2_tuning.specs.Tuning.{Tuning}
 use Rattle.s2_judge.specs.Deciding.{Decided, is_strict, rounds_run, IsShown}
 use Rattle.s2_judge.specs.Judging.{Judging}
 use Rattle.s2_judge.proofs.DecidingLemmas.{clean_lem, likely_lem, sole_lem, certified_lem, broken_lem}

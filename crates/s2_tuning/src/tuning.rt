@@ -1,12 +1,12 @@
 //! How a receiver is tuned.
 ghost use Rattle.std.specs.Prelude.{◌≡◌, ◌≤◌, IfOk, IfErr, true};
-ghost use Rattle.s2_link.specs.Limits.{max_rounds, max_passes};
+ghost use Rattle.s2_tuning.specs.Limits.{max_rounds, max_passes};
 ghost use Rattle.s2_soft.specs.Divisors.{IsDivisor};
 ghost use Rattle.s2_minsum.specs.Factors.{IsFactor};
 ghost use Rattle.s2_plframe.specs.Search.{IsLock};
-ghost use Rattle.s2_link.specs.Tuning.{tuning_of, IsTuning, RefusesTuning};
+ghost use Rattle.s2_tuning.specs.Tuning.{tuning_of, IsTuning, RefusesTuning};
 
-use crate::fault::SetupFault;
+use s2_link::SetupFault;
 use s2_minsum::Factor;
 use s2_plframe::Lock;
 use s2_soft::Divisor;
@@ -38,7 +38,7 @@ pub struct Tuning {
 }
 
 impl Model for Tuning {
-    ghost use Rattle.s2_link.specs.Tuning.{Tuning as TuningValue, IsTuning};
+    ghost use Rattle.s2_tuning.specs.Tuning.{Tuning as TuningValue, IsTuning};
 
     ghost Value = { TuningValue };
 

@@ -6,7 +6,7 @@ use Rattle.s2_plframe.specs.Constants.{header_threshold}
 use Rattle.s2_plframe.specs.Search.{IsLock}
 use Rattle.s2_link.specs.declared.fault.SetupFault.{SetupFault}
 use Rattle.s2_link.specs.declared.fault.SetupFault.TheVariants as faults
-use Rattle.s2_link.specs.Limits.{max_rounds, max_passes}
+use Rattle.s2_tuning.specs.Limits.{max_rounds, max_passes}
 
 -- The parameters of a receiver: rounds of min-sum, passes of settling, the divisor of soft values, and the factor of
 -- min-sum's messages. Then the most bits of a header that may be wrong right after a frame, and whether what min-sum

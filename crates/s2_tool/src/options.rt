@@ -1,0 +1,130 @@
+//! What the words of the command line ask for, in the types of the commands. This is plain code.
+//!
+//! The parser has tested every number: its ranges are those of these types (below). So no refusal here can be met.
+use crate::link_request::setup_of;
+use s2_channel::{EsN0, Strength};
+use s2_console::Fault;
+use s2_mode::{FaultText, Mode};
+use s2_soft::Divisor;
+use s2_tuning::{Number, Tuning, Wanted, judging_by, tuning_by};
+use s2_words::{
+    ChannelWords, DemodWords, JudgeWords, NoteWords, NumberWords, RunWords, Seeds, StrengthWords,
+    TuningWords, limits,
+};
+
+const _: () = prove!(limits::MAX_ADDRESSES as usize == s2_rows::MAX_ADDRESSES);
+
+const _: () = prove!(limits::MAX_NUMBER == s2_scramble::MAX_NUMBER);
+
+const _: () = prove!(limits::MAX_ROLL_OFF == s2_link::MAX_ROLL_OFF);
+
+const _: () = prove!(limits::MAX_ROUNDS == s2_tuning::MAX_ROUNDS);
+
+const _: () = prove!(limits::MAX_PASSES == s2_tuning::MAX_PASSES);
+
+const _: () = prove!(limits::LEAST_FACTOR == s2_minsum::LEAST_FACTOR);
+
+const _: () = prove!(limits::MAX_FACTOR == s2_minsum::MAX_FACTOR);
+
+const _: () = prove!(limits::LEAST_LOCK == s2_plframe::HEADER_THRESHOLD);
+
+const _: () = prove!(limits::MAX_LOCK == s2_plframe::MAX_LOCK);
+
+const _: () = prove!(limits::LEAST_ESN0 == s2_channel::LEAST_ESN0);
+
+const _: () = prove!(limits::MAX_ESN0 == s2_channel::MAX_ESN0);
+
+/// A channel: the seed of its noise, and how strong that is.
+#[derive(Clone, Copy, PartialEq, Eq)]
+pub struct Channel {
+    pub seed: u64,
+    pub strength: Strength,
+}
+
+/// What `demod` is asked for, besides its link and its files.
+#[derive(Clone, Copy, PartialEq, Eq)]
+pub struct DemodOptions {
+    pub tuning: Tuning,
+    pub notes: NoteWords,
+}
+
+/// What `run` is asked for, besides its link and its files: the number of frames between dummy frames (0 for none), the
+/// tuning, a channel, the seeds of its runs if there are many (the channel's seed is then the first of them), and the
+/// notes.
+#[derive(Clone, Copy, PartialEq, Eq)]
+pub struct RunOptions {
+    pub dummy: u16,
+    pub tuning: Tuning,
+    pub channel: Channel,
+    pub seeds: Option<Seeds>,
+    pub notes: NoteWords,
+}
+
+/// The channel of two options.
+pub(crate) fn channel_of(words: ChannelWords) -> Result<Channel, Fault<'static>> {
+    let strength = match words.strength {
+        StrengthWords::Level(level) => Strength::Level(level),
+        StrengthWords::EsN0(number) => Strength::EsN0(EsN0::new(number).ok_or(Fault::refused(
+            FaultText::of("no such Es/N0"),
+        ))?),
+    };
+    Ok(Channel {
+        seed: words.seed,
+        strength,
+    })
+}
+
+/// The divisor of soft values of this number.
+pub(crate) fn divisor_of(number: u32) -> Result<Divisor, Fault<'static>> {
+    Divisor::new(number).ok_or(Fault::refused(FaultText::of("no such divisor")))
+}
+
+fn number_of(words: NumberWords) -> Number {
+    Number {
+        is_given: words.is_given,
+        value: words.value,
+    }
+}
+
+/// The tuning of a receiver of a mode.
+fn tuning_of(mode: &Mode, words: TuningWords) -> Result<Tuning, Fault<'static>> {
+    let wanted = Wanted {
+        rounds: words.rounds,
+        passes: number_of(words.passes),
+        divisor: number_of(words.divisor),
+        factor: number_of(words.factor),
+        max_header_errors: number_of(words.max_header_errors),
+        tuned: words.tuned,
+        uncertified: words.uncertified,
+        figures: words.figures,
+    };
+    tuning_by(mode, wanted).ok_or(Fault::refused(FaultText::of("no such tuning")))
+}
+
+/// The tuning of `judge`.
+pub(crate) fn judging_of(words: &JudgeWords<'_>) -> Result<Tuning, Fault<'static>> {
+    judging_by(words.passes, words.factor, words.uncertified).ok_or(Fault::refused(FaultText::of(
+        "no such tuning",
+    )))
+}
+
+/// The options of `demod`.
+pub(crate) fn demod_options(words: &DemodWords<'_>) -> Result<DemodOptions, Fault<'static>> {
+    let setup = setup_of(words.link)?;
+    Ok(DemodOptions {
+        tuning: tuning_of(&setup.mode, words.tuning)?,
+        notes: words.notes,
+    })
+}
+
+/// The options of `run`.
+pub(crate) fn run_options(words: &RunWords<'_>) -> Result<RunOptions, Fault<'static>> {
+    let setup = setup_of(words.link)?;
+    Ok(RunOptions {
+        dummy: words.dummy,
+        tuning: tuning_of(&setup.mode, words.tuning)?,
+        channel: channel_of(words.channel)?,
+        seeds: words.seeds,
+        notes: words.notes,
+    })
+}

@@ -1,0 +1,4 @@
+pub mod Limits
+pub mod Tuning
+pub mod Best
+pub mod Wanted

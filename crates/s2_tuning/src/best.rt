@@ -1,0 +1,82 @@
+//! The settings of a receiver that are best for each code, as they were measured (`docs/formats.md`).
+ghost use Rattle.std.specs.Prelude.{◌≡◌};
+ghost use Rattle.s2_tuning.specs.Best.{best_of};
+
+use s2_mode::Mode;
+
+/// The settings that are best for a code.
+#[derive(Clone, Copy)]
+pub(crate) struct Best {
+    /// The factor of min-sum's messages.
+    pub(crate) factor: u32,
+    /// The divisor of soft values.
+    pub(crate) divisor: u32,
+    /// The passes of settling.
+    pub(crate) passes: u32,
+}
+
+/// The line of a code: factor, divisor and passes.
+macro_rules! best {
+    ($factor:literal, $divisor:literal, $passes:literal) => {
+        Best {
+            factor: $factor,
+            divisor: $divisor,
+            passes: $passes,
+        }
+    };
+}
+
+/// Normal frames, MODCOD 1 to 17.
+const NORMAL: [Best; 17] = [
+    best!(15, 8192, 96), // QPSK 1/4
+    best!(14, 8192, 96), // QPSK 1/3
+    best!(13, 8192, 96), // QPSK 2/5
+    best!(13, 8192, 96), // QPSK 1/2
+    best!(11, 8192, 96), // QPSK 3/5
+    best!(13, 8192, 96), // QPSK 2/3
+    best!(13, 8192, 96), // QPSK 3/4
+    best!(13, 8192, 96), // QPSK 4/5
+    best!(13, 8192, 96), // QPSK 5/6
+    best!(13, 8192, 96), // QPSK 8/9
+    best!(13, 8192, 96), // QPSK 9/10
+    best!(13, 8192, 96), // 8PSK 3/5
+    best!(13, 8192, 96), // 8PSK 2/3
+    best!(12, 8192, 96), // 8PSK 3/4
+    best!(12, 8192, 96), // 8PSK 5/6
+    best!(13, 8192, 96), // 8PSK 8/9
+    best!(13, 8192, 96), // 8PSK 9/10
+];
+
+/// Short frames, MODCOD 1 to 17. There are none of 9/10, so these lines are not used.
+const SHORT: [Best; 17] = [
+    best!(15, 8192, 96), // QPSK 1/4
+    best!(14, 8192, 96), // QPSK 1/3
+    best!(13, 8192, 96), // QPSK 2/5
+    best!(13, 8192, 96), // QPSK 1/2
+    best!(11, 8192, 96), // QPSK 3/5
+    best!(13, 8192, 96), // QPSK 2/3
+    best!(13, 8192, 96), // QPSK 3/4
+    best!(13, 8192, 96), // QPSK 4/5
+    best!(13, 8192, 96), // QPSK 5/6
+    best!(13, 8192, 96), // QPSK 8/9
+    best!(13, 8192, 96), // QPSK 9/10
+    best!(13, 8192, 96), // 8PSK 3/5
+    best!(13, 8192, 96), // 8PSK 2/3
+    best!(12, 8192, 96), // 8PSK 3/4
+    best!(12, 8192, 96), // 8PSK 5/6
+    best!(13, 8192, 96), // 8PSK 8/9
+    best!(13, 8192, 96), // 8PSK 9/10
+];
+
+/// The settings that are best for the code of a mode.
+#[tactic(auto, unfolding(crate::specs::Best::best_of))]
+pub(crate) fn best_of(mode: &Mode) -> Best
+    ensures { result ≡ best_of mode.now }
+{
+    let at = usize::from(mode.modcod()) - 1;
+    if mode.is_short() {
+        SHORT[at]
+    } else {
+        NORMAL[at]
+    }
+}
