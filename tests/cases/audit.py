@@ -128,6 +128,15 @@ def cases(symbols, report, certificates):
     frame = end - first
     for less in (1, 4, 4 * frame):
         yield case(report, symbols[: len(symbols) - less], certificates, NO, ahead + failed(line, "no symbols"))
+    # of two reasons the first one in the order of docs/formats.md
+    unread, elsewhere = changed(one, 0, 0x54), with_value(one, 0, other)
+    for text in (unread, elsewhere, wrong):
+        yield case(report, symbols[:-1], before + text, NO, ahead + failed(line, "no symbols"))
+    yield case(report, symbols[:-1], before, NO, ahead + failed(line, "no certificate"))
+    for at, byte in ((0, 0x54), (6, 0)):
+        yield case(report, symbols, before + changed(elsewhere, at, byte), NO, ahead + failed(line, "not accepted"))
+    both = changed(elsewhere, HEAD + 2 * n, one[HEAD + 2 * n] ^ 0x80)
+    yield case(report, symbols, before + both, NO, ahead + failed(line, "other values"))
     # a certificate is cut
     for less in (1, len(one) - 1):
         yield stopped(report, symbols, certificates[: len(certificates) - less], ahead, "certificate: cut")
@@ -166,6 +175,14 @@ def likely_cases(symbols, report, certificates):
     claimed = report.replace(f"{' '.join(line[:4])} most-likely", f"{' '.join(line[:4])} sole")
     yield case(report, symbols, certificates, 0, "".join(lines) + last(report))
     yield case(claimed, symbols, certificates, NO, "".join(lines[:at]) + failed(line, "not sole"))
+    # it is not sole, but has other values, or another word, too
+    *_, n = code(each[at])
+    soft = int.from_bytes(each[at][HEAD : HEAD + 2], "big", signed=True)
+    elsewhere = with_value(each[at], 0, soft - 1 if soft > 0 else soft + 1)
+    wrong = changed(each[at], HEAD + 2 * n, each[at][HEAD + 2 * n] ^ 0x80)
+    for text, reason in ((elsewhere, "other values"), (wrong, "not accepted")):
+        others = b"".join([*each[:at], text, *each[at + 1 :]])
+        yield case(claimed, symbols, others, NO, "".join(lines[:at]) + failed(line, reason))
 
 
 # Rows are read first, and are refused as by other commands.

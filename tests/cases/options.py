@@ -186,17 +186,22 @@ def both(option, words, ends, channel, more):
 def tuning_effects(two, report):
     """`report` returns the report of the noisy symbols after two rounds, for a divisor and a factor."""
     noisy = {"reads": {"in": spoilt(two, *NOISY)}}
-    by = {pair: received(report(*pair), NO) for pair in ((4096, 12), (8192, 12), (4096, 13), (8192, 15))}
+    by = {pair: received(report(*pair), NO) for pair in ((4096, 12), (8192, 12), (4096, 13), (8192, 15), (4096, 15))}
     usual, words = by[4096, 12], f"{LINK} --rounds 2 {{}}"
     yield from both("--divisor", words, by_default("--divisor", 4096, 8192, usual, by[8192, 12]), NOISY, noisy)
     yield from both("--factor", words, by_default("--factor", 12, 13, usual, by[4096, 13]), NOISY, noisy)
     yield from both("--tuned", words, {"": usual, "--tuned": by[8192, 15]}, NOISY, noisy)
+    # beside --tuned each option that it sets wins
+    words = f"{LINK} --rounds 2 --tuned {{}}"
+    yield from both("--divisor", words, by_default("--divisor", 8192, 4096, by[8192, 15], by[4096, 15]), NOISY, noisy)
+    yield from both("--factor", words, by_default("--factor", 15, 12, by[8192, 15], by[8192, 12]), NOISY, noisy)
     # the result of fifty rounds, the default, is only known to differ from those of one and two
     many, one = ({"code": ANY, "out": ANY, "errors": errors, "writes": {"out": ANY}} for errors in ("", ANY))
     ends = {"": many, "--rounds 50": many, "--rounds 2": usual, "--rounds 1": one}
     yield from both("--rounds", f"{LINK} {{}}", ends, NOISY, noisy)
     hard, soft = {"reads": {"in": spoilt(two, 1, 500)}}, {"reads": {"in": spoilt(two, 1, 400)}}
     yield from both("--passes", f"{LINK} {{}}", by_default("--passes", 0, 96, UNCERTIFIED, WELL), (1, 500), hard)
+    yield from both("--passes", f"{LINK} --tuned {{}}", by_default("--passes", 96, 0, WELL, UNCERTIFIED), (1, 500), hard)
     yield from both("--uncertified", f"{LINK} {{}}", {"": CERTIFIED, "--uncertified": UNCERTIFIED}, (1, 400), soft)
 
 
@@ -235,6 +240,10 @@ def demod_effects(two, pilots):
     for wrong in (13, 20, 30, 40):
         by_lock = {f"--lock {lock}": WELL if wrong <= lock else UNFOUND for lock in sorted({12, wrong - 1, wrong, 30, 40})}
         yield Effect("--lock", f"demod {LINK} {{}} made in out", {"": UNFOUND} | by_lock, {"reads": {"in": wrong_headers(two, wrong)}})
+    for wrong in (20, 30, 40):
+        by_lock = {f"--lock {lock}": WELL if wrong <= lock else UNFOUND for lock in sorted({12, wrong - 1, wrong, 30, 40})}
+        ends = {"": by_lock["--lock 30"]} | by_lock
+        yield Effect("--lock", f"demod {LINK} --tuned {{}} made in out", ends, {"reads": {"in": wrong_headers(two, wrong)}})
     gap = ["100 symbols passed over in 1 place, the first at 16380"]
     ends = {"": received(TWO, notes=gap), "--strict": received(TWO, NO, notes=gap)}
     yield Effect("--strict", f"demod {LINK} {{}} made in out", ends, {"reads": {"in": two + bytes(400)}})

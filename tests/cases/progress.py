@@ -3,12 +3,14 @@ command has ended, and between the lines of a report, nothing of it may be left.
 import re
 
 from cases.common import LINK, PACKET
+from cases.drawn import made_rows
 
 # Symbols of a frame of LINK and packets sent; seconds between two readings of the clock of `meter.c`, and the least bytes between them.
 FRAME, PACKETS = 8190, 100
 STEPS = {"mod": 0.15, "noise": 0.15, "demod": 0.15, "run": 0.4}
 PIECES = {"mod": 1 << 16, "noise": 1 << 16, "demod": 1 << 16, "run": 1 << 11}
-FILES = {"many": PACKETS * PACKET}
+# The second has the rows of the first, and lines without words: more bytes than any of these commands reads or writes besides.
+FILES = {"many": PACKETS * PACKET, "padded": made_rows(360, 9, 36, 3, 1) + 2_000_000 * b"\n"}
 WORDS = {
     "mod": f"mod {LINK} made many out",
     "noise": "noise --seed 1 --level 0 frames out",
@@ -16,6 +18,10 @@ WORDS = {
     "run": f"run {LINK} --seed 1 --level 0 made many out",
 }
 READS = {"mod": "many", "noise": "frames", "demod": "frames", "run": "many"}
+# Where many seeds are run, and how many.
+SEEDED, RUNS = (f"run {LINK} --seeds 1..3 --level 0 made many out", 3)
+# Numbers that no line exceeds, besides those of bytes: of frames, and of packets in each run.
+FRAMES = PACKETS // 2 + 1
 # Additional words, whether standard error is a terminal, and whether progress is shown.
 ASKED = [
     ("", False, False),
@@ -28,7 +34,6 @@ ASKED = [
 ]
 # Commands that print their report while progress is shown, and whether on standard output; and the reports.
 REPORTED = [(WORDS["mod"], True), (WORDS["demod"], True), (WORDS["run"], True), (WORDS["mod"][:-3] + "-", False), (WORDS["demod"][:-3] + "-", False)]
-FRAMES = PACKETS // 2 + 1
 SENT = [f"packets {PACKETS} frames {FRAMES}"]
 RECEIVED = [f"frame {at + 1} at {FRAME * at} sole fixed 0" for at in range(FRAMES)] + [f"end frames {FRAMES} delivered {FRAMES} packets {PACKETS} bad 0"]
 LINE = re.compile(
@@ -41,6 +46,8 @@ SHOWN = {
     "demod": {"frames", "packets", "rate", "share", "left"},
     "run": {"packets", "share", "left"},
 }
+# Shown only if the length of the input is known.
+OF_LENGTH = {"share", "left"}
 
 
 def rendered(seen):
@@ -80,7 +87,7 @@ def units(number, size):
     return Range(number * size, number * size + size - 1)
 
 
-def passed(name, shown, length):
+def passed(name, shown, length, runs):
     """Returns the bytes done, the bytes read and written, and the bytes of symbols."""
     both = units(round(10 * float(shown["mega"])), 100_000)
     if name == "noise":
@@ -89,19 +96,24 @@ def passed(name, shown, length):
     packets = units(int(shown["packets"]), 188)
     if name == "run":
         # the line counts received packets as soon as there are some; all packets are read by then
-        done = packets.plus(Range(length, length)) if int(shown["share"]) >= 50 else packets
+        done = packets.plus(Range(length, length)) if int(shown["share"]) * (runs + 1) >= 100 else packets
         return done, done, None
     frames = units(int(shown["frames"]), 4 * FRAME)
     return packets if name == "mod" else frames, packets.plus(frames), frames
 
 
-def is_line(name, shown, number, length):
+def has_numbers(shown, wanted):
+    """Whether a line has the numbers of these names, and no others."""
+    return shown and {key for key in ("frames", "packets", "rate", "share", "left") if shown[key]} == wanted
+
+
+def is_line(name, shown, number, length, runs=1):
     """Whether the numbers of a line agree with each other and with the length of the input. Line N is written N seconds after the start,
     or later by at most one reading of the clock for each line."""
-    if not shown or {key for key in ("frames", "packets", "rate", "share", "left") if shown[key]} != SHOWN[name]:
+    if not has_numbers(shown, SHOWN[name]):
         return False
-    done, both, symbols = passed(name, shown, length)
-    whole, least, most = 2 * length if name == "run" else length, number, (number + 1) * (1 + STEPS[name])
+    done, both, symbols = passed(name, shown, length, runs)
+    whole, least, most = (1 + runs) * length if name == "run" else length, number, (number + 1) * (1 + STEPS[name])
     fine = [done.gives(int(shown["share"]), whole, 100), both.gives(round(10 * float(shown["mega"])), 100_000)]
     left = (whole - done.most) * least / done.most - 1, (whole - done.least) * most / max(1, done.least)
     fine.append(left[0] <= int(shown["left"]) <= left[1])
@@ -110,9 +122,10 @@ def is_line(name, shown, number, length):
     return all(fine)
 
 
-def is_possible(shown, length, size):
-    """Whether the line counts no more bytes than both files have."""
-    return round(10 * float(shown["mega"])) <= (length + size) // 100_000
+def is_possible(shown, length, size, runs=1):
+    """Whether the line counts no more bytes, frames and packets than both files have."""
+    counts = int(shown["frames"] or 0) <= FRAMES and int(shown["packets"] or 0) <= runs * PACKETS
+    return counts and round(10 * float(shown["mega"])) <= (length + size) // 100_000
 
 
 def most_readings(name, passing):

@@ -244,6 +244,15 @@ MISUSES = [
     (f"rows {PAIR} --weight 1 --seed -1", "error: unexpected argument '-1' found"),
     (f"rows {PAIR} --weight 1 --seed {2**64}", invalid(2**64, "seed <S>", "number too large to fit in target type")),
 ]
+# Arguments that are not UTF-8, as the errors show them. The byte 255 is in no text.
+NO_TEXTS = [
+    (f"demod {LINK} made \udcff.ts out", "\ufffd.ts"),
+    (f"demod {LINK} made in caf\udce9", "caf\ufffd"),
+    (f"judge {TOY} --cert=\udcff toy stored", "--cert=\ufffd"),
+    (f"mod {LINK} \udcff \udcfe out", "\ufffd"),
+    ("\udcff", "\ufffd"),
+    (f"scan {100 * 'long'}\udcff", f"{100 * 'long'}\ufffd"),
+]
 # What is no divisor, and what it is like, if anything.
 POSSIBLE = f"[possible values: {', '.join(map(str, DIVISORS))}]"
 NO_DIVISORS = [("4095", 4096), ("0", 4096), ("04096", 4096), ("x", None), ("131072", None)]
@@ -471,6 +480,8 @@ CASES = [
     Case("join", FAULT, errors=NO_BBFRAMES),
     *(Case(words, FAULT, errors=f"{line}\n{MORE}") for words, line in MISUSES if " is not in " in line),
     *(Case(words, FAULT, errors=first_line(line)) for words, line in MISUSES),
+    *(Case(words, FAULT, errors=f"error: invalid UTF-8 in the argument '{shown}'\n\nUsage: s2 [COMMAND]\n{MORE}") for words, shown in NO_TEXTS),
+    Case(f"mod {LINK} made caf\u00e9 out", out="packets 2 frames 2\n", reads={"caf\u00e9": 2 * PACKET}, writes={"out": size(65_520)}),
     *(no_divisor(command, *pair) for command in RECEIVING for pair in NO_DIVISORS),
     *(Case(f"{command} made packets old --divisor", FAULT, errors=LACKS_DIVISOR) for command in (*RECEIVING, "audit --modcod 1")),
     *(Case(f"{name} --help", out=option("--divisor <D>", f" [default: 4096] {POSSIBLE}")) for name in ("demod", "run", "audit")),

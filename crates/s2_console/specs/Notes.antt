@@ -1,8 +1,9 @@
 -- The lines of notes on the errors (own).
-use Rattle.std.specs.Prelude.{◌≡◌, ℕ, List, [], ◌∷◌, ◌++◌, codes, Result, Ok, Err}
+use Rattle.std.specs.Prelude.{◌≡◌, ◌≢◌, ◌<◌, ℕ, List, [], ◌∷◌, ◌++◌, codes, Result, Ok, Err}
 use Rattle.std.specs.Io.KnownBytes.{Appends}
 use Rattle.s2_console.specs.declared.exit.Exit.{Exit}
 use Rattle.s2_console.specs.declared.fault.Fault.{Fault}
+use Rattle.s2_console.specs.declared.fault.Fault.TheVariants as faults
 use Rattle.s2_console.specs.Exits.{Complains}
 use Rattle.s2_console.specs.Faults.{fault_line}
 use Rattle.s2_console.specs.Screens.{Screen}
@@ -17,3 +18,7 @@ abbrev pub Remarks : List ℕ → Result Exit Fault → Screen → Screen → Ty
 Remarks [] ended old new = Complains ended old new
 Remarks (byte ∷ notes) (Ok exit) old new = (new.errors_failed ≡ old.errors_failed) × Appends old.errors new.errors (byte ∷ notes)
 Remarks (byte ∷ notes) (Err f) old new = new.errors_failed ≡ old.errors_failed → Appends old.errors new.errors ((byte ∷ notes) ++ fault_line f)
+
+-- there were notes, and their writer failed: that is the fault of the command
+abbrev pub NotesLost : List ℕ → Result Exit Fault → Screen → Screen → Type 0
+NotesLost notes ended old new = (notes ≢ []) × (ended ≡ Err faults.Write) × (old.errors_failed < new.errors_failed)

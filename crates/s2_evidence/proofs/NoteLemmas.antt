@@ -1,6 +1,6 @@
 -- The note on soft values that look like hard decisions.
 use Rattle.std.proofs.Common.{◌≡◌, ℕ, ◌+◌, ◌<◌, Bool, true, false, List, [], ◌∷◌, ◌++◌, ℤ, Option, Result, Ok, Err, inl, inr, refl, sym, ap, ◌∙◌, subst, arith}
-use Rattle.std.specs.Prelude.{◌&&◌, ◌≢◌}
+use Rattle.std.specs.Prelude.{◌&&◌, ◌≢◌, ◌⊎◌}
 use Rattle.std.specs.List.{list_all}
 use Rattle.std.specs.Io.KnownBytes.{Appends}
 use Rattle.std.proofs.lemmas.Bool.{cond-true, cond-false}
@@ -11,10 +11,10 @@ use Rattle.s2_console.specs.declared.fault.Fault.{Fault}
 use Rattle.s2_console.specs.declared.fault.Fault.TheVariants as faults
 use Rattle.s2_console.specs.Exits.{CommandCounts, Complains}
 use Rattle.s2_console.specs.Faults.{fault_line}
-use Rattle.s2_console.specs.Notes.{Remarks}
+use Rattle.s2_console.specs.Notes.{Remarks, NotesLost}
 use Rattle.s2_console.specs.Screens.{Screen}
 use Rattle.s2_evidence.specs.declared.hard_note.Ran.{Ran}
-use Rattle.s2_evidence.specs.HardNotes.{is_bit, look_hard, LooksHard, is_noted, the_note, notes_of, Concludes}
+use Rattle.s2_evidence.specs.HardNotes.{is_bit, look_hard, LooksHard, is_noted, the_note, notes_of, exit_in, Concludes}
 
 -- notes without a fault
 remarked : (notes : List ℕ) (exit : Exit) (old new : Screen) → new.errors_failed ≡ old.errors_failed → Appends old.errors new.errors notes → (notes ≡ [] → ⊥) → Remarks notes (Ok exit) old new
@@ -46,7 +46,7 @@ module _ (hard quiet : Bool) (run : Ran) (ran : Result Ran Fault) (is : ran ≡ 
       subst (λ r. Concludes hard quiet r exit old new) (sym is) (record {
         ended = Err faults.Write;
         exit_is = same;
-        answered = inr (λ e. never (sym (cond-true _ _ _ gets) ∙ e), refl);
+        answered = inr (λ e. never (sym (cond-true _ _ _ gets) ∙ e), refl, up);
         remarks = unremarked (notes_of hard quiet (Ok run)) faults.Write old new up;
       })
 
@@ -87,10 +87,16 @@ remarks_from [] (Err f) old mid new same count h = λ e. subst (λ errors. Appen
 remarks_from (byte ∷ notes) (Ok exit) old mid new same count h = (h.0 ∙ count, subst (λ errors. Appends errors new.errors (byte ∷ notes)) same h.1)
 remarks_from (byte ∷ notes) (Err f) old mid new same count h = λ e. subst (λ errors. Appends errors new.errors ((byte ∷ notes) ++ fault_line f)) same (h (e ∙ sym count))
 
+-- a run that lost its note did so, or it ended in the same way
+answered_from : (hard quiet : Bool) (ran : Result Ran Fault) (ended : Result Exit Fault) (old mid new : Screen) → mid.errors_failed ≡ old.errors_failed
+    → (ended ≡ exit_in ran) ⊎ NotesLost (notes_of hard quiet ran) ended mid new → (ended ≡ exit_in ran) ⊎ NotesLost (notes_of hard quiet ran) ended old new
+answered_from hard quiet ran ended old mid new count (inl is) = inl is
+answered_from hard quiet ran ended old mid new count (inr (some, is, up)) = inr (some, is, subst (λ n. n < new.errors_failed) count up)
+
 pub concludes_from : (hard quiet : Bool) (ran : Result Ran Fault) (exit : Exit) (old mid new : Screen) → mid.errors ≡ old.errors → mid.errors_failed ≡ old.errors_failed → Concludes hard quiet ran exit mid new → Concludes hard quiet ran exit old new
 concludes_from hard quiet ran exit old mid new same count h = record {
   ended = h.ended;
   exit_is = h.exit_is;
-  answered = h.answered;
+  answered = answered_from hard quiet ran h.ended old mid new count h.answered;
   remarks = remarks_from (notes_of hard quiet ran) h.ended old mid new same count h.remarks;
 }

@@ -1,12 +1,11 @@
 -- The note on soft values that look like hard decisions (own).
-use Rattle.std.specs.Prelude.{◌≡◌, ◌≢◌, ◌⊎◌, ℕ, ℤ, pos, int_lt, Bool, true, false, not, ◌&&◌, List, [], ◌∷◌, codes, Result, Ok, Err, if◌then◌else◌}
+use Rattle.std.specs.Prelude.{◌≡◌, ◌⊎◌, ℕ, ℤ, pos, int_lt, Bool, true, false, not, ◌&&◌, List, [], ◌∷◌, codes, Result, Ok, Err, if◌then◌else◌}
 use Rattle.std.specs.List.{list_all}
 use Rattle.s2_rows.specs.Rows.{Rows}
 use Rattle.s2_console.specs.declared.exit.Exit.{Exit}
 use Rattle.s2_console.specs.declared.fault.Fault.{Fault}
-use Rattle.s2_console.specs.declared.fault.Fault.TheVariants as faults
 use Rattle.s2_console.specs.Exits.{exit_of}
-use Rattle.s2_console.specs.Notes.{Remarks}
+use Rattle.s2_console.specs.Notes.{Remarks, NotesLost}
 use Rattle.s2_console.specs.Screens.{Screen}
 use Rattle.s2_evidence.specs.declared.hard_note.Ran.{Ran}
 
@@ -41,10 +40,10 @@ abbrev pub notes_of : (hard quiet : Bool) → Result Ran Fault → List ℕ
 notes_of hard quiet (Ok ran) = if is_noted hard quiet ran then the_note else []
 notes_of hard quiet (Err f) = []
 
--- The exit of a run, and what it wrote to its errors: its note, or the line of its fault. If the note cannot be written,
--- that is the fault
+-- The exit of a run, and what it wrote to its errors: its note, or the line of its fault. If the note's writer failed, that
+-- is the fault
 pub record Concludes (hard quiet : Bool) (ran : Result Ran Fault) (exit : Exit) (old new : Screen) : Type 0 where
   pub ended : Result Exit Fault
   pub exit_is : exit ≡ exit_of ended
-  pub answered : (ended ≡ exit_in ran) ⊎ ((notes_of hard quiet ran ≢ []) × (ended ≡ Err faults.Write))
+  pub answered : (ended ≡ exit_in ran) ⊎ NotesLost (notes_of hard quiet ran) ended old new
   pub remarks : Remarks (notes_of hard quiet ran) ended old new

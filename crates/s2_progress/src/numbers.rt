@@ -9,8 +9,8 @@ pub enum Pace {
     Receiving { frame: u64 },
     /// Symbols come in, and go out with noise.
     AddingNoise,
-    /// Packets come in. After the last one they go out.
-    Looping,
+    /// Packets come in. After the last one they go out, once for each run.
+    Looping { runs: u64 },
 }
 
 /// The bytes that were taken and given so far, the time in milliseconds, and the bytes to be taken in all, if that is known.
@@ -56,7 +56,7 @@ fn symbols_of(pace: Pace, passed: Passed) -> Option<u64> {
     match pace {
         Pace::Sending { frame: _ } => Some(passed.given / SYMBOL_BYTES),
         Pace::Receiving { frame: _ } | Pace::AddingNoise => Some(passed.taken / SYMBOL_BYTES),
-        Pace::Looping => None,
+        Pace::Looping { runs: _ } => None,
     }
 }
 
@@ -66,8 +66,8 @@ fn packets_of(pace: Pace, passed: Passed) -> Option<u64> {
         Pace::Sending { frame: _ } => Some(passed.taken / PACKET_BYTES),
         Pace::Receiving { frame: _ } => Some(passed.given / PACKET_BYTES),
         Pace::AddingNoise => None,
-        Pace::Looping if passed.given == 0 => Some(passed.taken / PACKET_BYTES),
-        Pace::Looping => Some(passed.given / PACKET_BYTES),
+        Pace::Looping { runs: _ } if passed.given == 0 => Some(passed.taken / PACKET_BYTES),
+        Pace::Looping { runs: _ } => Some(passed.given / PACKET_BYTES),
     }
 }
 
@@ -76,14 +76,14 @@ fn frames_of(pace: Pace, passed: Passed) -> Option<u64> {
     match pace {
         Pace::Sending { frame } => ratio(passed.given / SYMBOL_BYTES, 1, frame),
         Pace::Receiving { frame } => ratio(passed.taken / SYMBOL_BYTES, 1, frame),
-        Pace::AddingNoise | Pace::Looping => None,
+        Pace::AddingNoise | Pace::Looping { runs: _ } => None,
     }
 }
 
 /// How many bytes are done: those that were taken, and in a loop also those that came back.
 fn done_of(pace: Pace, passed: Passed) -> u64 {
     match pace {
-        Pace::Looping => passed.taken.saturating_add(passed.given),
+        Pace::Looping { runs: _ } => passed.taken.saturating_add(passed.given),
         _ => passed.taken,
     }
 }
@@ -91,7 +91,7 @@ fn done_of(pace: Pace, passed: Passed) -> u64 {
 /// How many bytes are to be done of an input of this length.
 fn whole_of(pace: Pace, length: u64) -> u64 {
     match pace {
-        Pace::Looping => length.saturating_mul(2),
+        Pace::Looping { runs } => length.saturating_mul(runs.saturating_add(1)),
         _ => length,
     }
 }

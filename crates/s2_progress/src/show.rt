@@ -72,7 +72,7 @@ impl<'t, 'r, R: Clock + StandardStreams> Show<'t, 'r, R> {
     /// After how many bytes the clock is read.
     fn piece(&self) -> u64 {
         match self.pace {
-            Pace::Looping => LOOPED_PIECE,
+            Pace::Looping { runs: _ } => LOOPED_PIECE,
             _ => PIECE,
         }
     }

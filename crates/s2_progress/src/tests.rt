@@ -230,7 +230,7 @@ fn numbers_of_a_receiver(rt: HostRuntime) {
 
 #[test]
 fn numbers_of_packets_that_go_round(rt: HostRuntime) {
-    let input = numbers_at(Pace::Looping, passed(1880, 0, 1000, Some(1880)));
+    let input = numbers_at(Pace::Looping { runs: 1 }, passed(1880, 0, 1000, Some(1880)));
     let want = Numbers {
         frames: None,
         packets: Some(10),
@@ -240,13 +240,37 @@ fn numbers_of_packets_that_go_round(rt: HostRuntime) {
         left: Some(1),
     };
     assert_eq!(rt; input, want);
-    let output = numbers_at(Pace::Looping, passed(1880, 940, 3000, Some(1880)));
+    let output = numbers_at(
+        Pace::Looping { runs: 1 },
+        passed(1880, 940, 3000, Some(1880)),
+    );
     let rest = Numbers {
         packets: Some(5),
         share: Some(75),
         ..want
     };
     assert_eq!(rt; output, rest);
+}
+
+#[test]
+fn numbers_of_many_runs(rt: HostRuntime) {
+    // Of three runs of ten packets the first one and a half of the second are done.
+    let now = numbers_at(
+        Pace::Looping { runs: 3 },
+        passed(1880, 2820, 5000, Some(1880)),
+    );
+    let want = Numbers {
+        frames: None,
+        packets: Some(15),
+        tenths: 0,
+        rate: None,
+        share: Some(62),
+        left: Some(3),
+    };
+    assert_eq!(rt; now, want);
+    let endless = passed(188, 0, 1000, Some(1880));
+    let most = numbers_at(Pace::Looping { runs: u64::MAX }, endless);
+    assert_eq!(rt; (most.share, most.left), (Some(0), Some(u64::MAX / 1000)));
 }
 
 #[test]
@@ -262,7 +286,7 @@ fn nothing_is_divided_by_nothing(rt: HostRuntime) {
     };
     assert_eq!(rt; none, want);
     let most = passed(u64::MAX, u64::MAX, u64::MAX, Some(u64::MAX));
-    let all = numbers_at(Pace::Looping, most);
+    let all = numbers_at(Pace::Looping { runs: 1 }, most);
     assert_eq!(rt; (all.share, all.left), (Some(100), Some(0)));
     let first = numbers_at(Pace::AddingNoise, passed(1, 0, u64::MAX, Some(u64::MAX)));
     assert_eq!(rt; (first.share, first.left), (Some(0), Some(u64::MAX / 1000)));
@@ -353,7 +377,7 @@ fn writes_over_a_longer_line(rt: HostRuntime) {
         screen,
     };
     let terminal = Terminal::new(&host);
-    let show = Show::new(&terminal, Pace::Looping, true);
+    let show = Show::new(&terminal, Pace::Looping { runs: 1 }, true);
     show.expect(Some(3760));
     millis.set(1000);
     show.took(3760);
@@ -384,6 +408,46 @@ fn leaves_out_what_does_not_fit(rt: HostRuntime) {
     millis.set(1000);
     show.took(4_888_888_888);
     let few = "\rs2: 26004728 packets, 8888.8 MB, 1000000000 symbols/s, 0%, 230296 s left";
+    assert!(rt; seen(screen, few));
+}
+
+#[test]
+fn has_79_characters_at_most(rt: HostRuntime) {
+    let (millis, bytes) = (Cell::new(0), RefCell::new(Vec::new(rt.alloc())));
+    let screen = Screen { bytes: &bytes };
+    let host = Host {
+        millis: &millis,
+        screen,
+    };
+    let terminal = Terminal::new(&host);
+    let show = Show::new(&terminal, Pace::Sending { frame: 8190 }, true);
+    show.expect(Some(1_880_000_000_000));
+    show.gave(32_760_000);
+    millis.set(1000);
+    show.took(1_880_000_000);
+    millis.set(2000);
+    show.gave(65_536);
+    // with its 1002 frames the second line has 80 characters
+    let lines =
+        "\rs2: 1000 frames, 10000000 packets, 1912.7 MB, 8190000 symbols/s, 0%, 999 s left\rs2: 10000000 packets, 1912.8 MB, 4103192 symbols/s, 0%, 1998 s left            ";
+    assert!(rt; seen(screen, lines));
+}
+
+#[test]
+fn leaves_out_packets_too(rt: HostRuntime) {
+    let (millis, bytes) = (Cell::new(0), RefCell::new(Vec::new(rt.alloc())));
+    let screen = Screen { bytes: &bytes };
+    let host = Host {
+        millis: &millis,
+        screen,
+    };
+    let terminal = Terminal::new(&host);
+    let show = Show::new(&terminal, Pace::Sending { frame: 36 }, true);
+    show.expect(Some(1 << 63));
+    show.gave(1 << 62);
+    millis.set(1000);
+    show.took(1 << 62);
+    let few = "\rs2: 9223372036854.7 MB, 1152921504606846976 symbols/s, 50%, 1 s left";
     assert!(rt; seen(screen, few));
 }
 

@@ -9,7 +9,7 @@ pub use Rattle.s2_console.proofs.CommandLemmas.{told}
 pub use Rattle.s2_console.specs.Exits.{Follows, exit_of}
 pub use Rattle.s2_console.specs.Faults.{fault_line}
 pub use Rattle.s2_console.specs.Files.{Files, reporting}
-pub use Rattle.s2_console.specs.Notes.{Remarks}
+pub use Rattle.s2_console.specs.Notes.{Remarks, NotesLost}
 pub use Rattle.s2_console.specs.Screens.{Screen}
 pub use Rattle.s2_console.specs.declared.exit.Exit.{Exit}
 pub use Rattle.s2_console.specs.declared.fault.Fault.{Fault}
@@ -33,7 +33,7 @@ pub use Rattle.s2_receive.specs.Sinks.{Taking, RunAnswersWith}
 pub use Rattle.s2_tool.specs.Ends.{Ends, ends_of, BeginsWith, CausesWith}
 pub use Rattle.s2_tool.specs.Hearing.{ReceivesNoisy, ReceivesWithNoise, written_by}
 pub use Rattle.s2_tool.specs.Looping.{FinishesRun, Loops, LoopsBy, ReceivesRuns}
-pub use Rattle.s2_tool.specs.Losses.{Finishes, exit_by, notes_of}
+pub use Rattle.s2_tool.specs.Losses.{Answered, Finishes, exit_by, notes_of}
 unfoldable pub use Rattle.s2_tool.specs.Losses.{amplitude_start}
 unfoldable pub use Rattle.s2_tool.specs.Refusals.{packet_note}
 pub use Rattle.s2_tool.specs.Receptions.{Demodulates, ReceivesToEnd}

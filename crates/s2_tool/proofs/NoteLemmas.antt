@@ -1,5 +1,5 @@
 -- Notes after a report.
-use Rattle.s2_tool.proofs.Names.{◌≡◌, ℕ, ◌<◌, List, [], ◌∷◌, ◌++◌, Ok, Err, Result, refl, sym, subst, ◌∙◌, arith, Appends, Exit, Fault, Screen, Remarks, fault_line, Bool, Mode, NoteWords, Received, Sent, Finishes, FinishesRun, Concludes, refusal_fault, refusal_note, fault_note, if◌then◌else◌}
+use Rattle.s2_tool.proofs.Names.{◌≡◌, ℕ, ◌<◌, List, [], ◌∷◌, ◌++◌, Ok, Err, Result, inl, inr, refl, sym, subst, ◌∙◌, arith, Appends, Exit, Fault, Screen, Remarks, NotesLost, fault_line, Bool, Mode, NoteWords, Received, Sent, Answered, Finishes, FinishesRun, Concludes, refusal_fault, refusal_note, fault_note, if◌then◌else◌}
 
 -- if two lists together are empty, each is (the first part shows `grind` which lists are meant)
 pub both_empty : (xs ys : List ℕ) → xs ++ ys ≡ [] → (xs ++ ys ≡ []) × (xs ≡ []) × (ys ≡ [])
@@ -26,6 +26,17 @@ remarks_from (byte ∷ notes) (Ok exit) old mid new same count h = (h.0 ∙ coun
 remarks_from (byte ∷ notes) (Err f) old mid new same count h =
     λ e. subst (λ errors. Appends errors new.errors ((byte ∷ notes) ++ fault_line f)) same (h (e ∙ sym count))
 
+-- its notes are lost in the same way
+lost_from : (notes : List ℕ) (ended : Result Exit Fault) (old mid new : Screen) → mid.errors_failed ≡ old.errors_failed → NotesLost notes ended mid new → NotesLost notes ended old new
+lost_from notes ended old mid new count (some, is, up) = (some, is, subst (λ n. n < new.errors_failed) count up)
+
+-- and it ends with the same notes
+answered_from : (words : NoteWords) (m : Mode) (reception : Result Received Fault) (ended : Result Exit Fault) (notes : List ℕ) (old mid new : Screen) → mid.errors_failed ≡ old.errors_failed
+    → Answered words m reception ended notes mid new → Answered words m reception ended notes old new
+answered_from words m (Ok r) ended notes old mid new count (are, inl is) = (are, inl is)
+answered_from words m (Ok r) ended notes old mid new count (are, inr lost) = (are, inr (lost_from notes ended old mid new count lost))
+answered_from words m (Err f) ended notes old mid new count h = h
+
 -- so a command that received finishes
 pub finishes_from : (words : NoteWords) (m : Mode) (reception : Result Received Fault) (exit : Exit) (old mid new : Screen) → mid.errors ≡ old.errors → mid.errors_failed ≡ old.errors_failed
     → Finishes words m reception exit mid new → Finishes words m reception exit old new
@@ -34,7 +45,7 @@ finishes_from words m reception exit old mid new same count h =
       ended = h.ended;
       notes = h.notes;
       exit_is = h.exit_is;
-      answered = h.answered;
+      answered = answered_from words m reception h.ended h.notes old mid new count h.answered;
       remarks = remarks_from h.notes h.ended old mid new same count h.remarks;
     }
 

@@ -12,9 +12,8 @@ use Rattle.s2_table.specs.Wanted.{fault_note}
 use Rattle.s2_console.specs.declared.exit.Exit.{Exit}
 use Rattle.s2_console.specs.declared.exit.Exit.TheVariants as exits
 use Rattle.s2_console.specs.declared.fault.Fault.{Fault}
-use Rattle.s2_console.specs.declared.fault.Fault.TheVariants as faults
 use Rattle.s2_console.specs.Exits.{exit_of}
-use Rattle.s2_console.specs.Notes.{Remarks}
+use Rattle.s2_console.specs.Notes.{Remarks, NotesLost}
 use Rattle.s2_console.specs.Screens.{Screen}
 
 -- no frame was found, nor a cut one, in enough symbols for a header
@@ -98,15 +97,15 @@ frame_notes t = note_if (not (nat_eq t.refused 0)) (refused_note t) ++ amplitude
 abbrev pub notes_of : Mode → Received → List ℕ
 notes_of m r = loss_notes m r ++ frame_notes r.totals
 
--- The end of a command that received this, and its notes. If they cannot be written, that is its fault
-abbrev pub Answered : NoteWords → Mode → Result Received Fault → Result Exit Fault → List ℕ → Type 0
-Answered words m (Ok r) ended notes = (notes ≡ (if words.quiet then [] else notes_of m r)) × ((ended ≡ Ok (exit_by words.strict r)) ⊎ (ended ≡ Err faults.Write))
-Answered words m (Err f) ended notes = (notes ≡ (if words.quiet then [] else fault_note m f)) × (ended ≡ Err f)
+-- The end of a command that received this, and its notes. If their writer failed, that is its fault
+abbrev pub Answered : NoteWords → Mode → Result Received Fault → Result Exit Fault → List ℕ → Screen → Screen → Type 0
+Answered words m (Ok r) ended notes old new = (notes ≡ (if words.quiet then [] else notes_of m r)) × ((ended ≡ Ok (exit_by words.strict r)) ⊎ NotesLost notes ended old new)
+Answered words m (Err f) ended notes old new = (notes ≡ (if words.quiet then [] else fault_note m f)) × (ended ≡ Err f)
 
 -- The end of a command that received this, and its exit: its notes, and the line of a fault, are on the errors
 pub record Finishes (words : NoteWords) (m : Mode) (reception : Result Received Fault) (exit : Exit) (old new : Screen) : Type 0 where
   pub ended : Result Exit Fault
   pub notes : List ℕ
   pub exit_is : exit ≡ exit_of ended
-  pub answered : Answered words m reception ended notes
+  pub answered : Answered words m reception ended notes old new
   pub remarks : Remarks notes ended old new

@@ -16,7 +16,7 @@ use s2_link::{LinkSetup, RollOff};
 use s2_mode::{CountedWrite, FaultText, Mode};
 use s2_progress::{Pace, Show, Terminal};
 use s2_scramble::ScramblingNumber;
-use s2_words::{DemodWords, LinkWords, ModWords, Progress, RecordWords, RunWords};
+use s2_words::{DemodWords, LinkWords, ModWords, Progress, RecordWords, RunWords, Seeds};
 use std::time::Clock;
 
 /// A request that works on a link: its words, and its options in the types of the command.
@@ -79,7 +79,9 @@ impl<'w, 'a> LinkRequest<'w, 'a> {
         match self {
             LinkRequest::Mod(_) => Pace::Sending { frame },
             LinkRequest::Demod(_, _) => Pace::Receiving { frame },
-            LinkRequest::Run(_, _) => Pace::Looping,
+            LinkRequest::Run(words, _) => Pace::Looping {
+                runs: runs_of(words.seeds),
+            },
         }
     }
 
@@ -90,6 +92,14 @@ impl<'w, 'a> LinkRequest<'w, 'a> {
             LinkRequest::Demod(words, _) => words.progress,
             LinkRequest::Run(words, _) => words.progress,
         }
+    }
+}
+
+/// How often symbols are received: once, or once for each seed of a range.
+fn runs_of(seeds: Option<Seeds>) -> u64 {
+    match seeds {
+        Some(seeds) => seeds.last.saturating_sub(seeds.first).saturating_add(1),
+        None => 1,
     }
 }
 

@@ -26,26 +26,64 @@ use s2_scan::scan_command;
 use s2_table::table_command;
 use s2_words::{
     AuditWords, CheckWords, CodeWords, JoinWords, JudgeWords, ModesWords, NoiseWords, RecordWords,
-    Request, RowsWords, ScanWords, ShapeWords, TableWords, read_words,
+    Request, RowsWords, ScanWords, ShapeWords, TableWords, not_text, read_words,
 };
 use std::alloc::{AllocError, Global};
-use std::env;
+use std::env::FillError;
 use std::rt::Env;
 use std::time::Clock;
+use std::{env, io};
 
-/// The arguments of the command line, if there is memory for them.
-pub(crate) fn words_given<R: Env + AllocGlobal>(rt: &R) -> Option<Vec<String>> {
-    env::args(rt).ok()?.collect(rt.alloc()).ok()
+/// The arguments of the command line.
+#[derive(Drop)]
+pub(crate) enum Words {
+    /// They are text.
+    Text(Vec<String>),
+    /// This one is the first that is not text. It has a replacement character for each part that is none.
+    NotText(String),
+    /// There is no memory for them.
+    NoMemory,
+}
+
+/// The most bytes of an argument, with its NUL: Linux allows 32 pages of 4096 bytes.
+const ARGUMENT_ROOM: usize = 131_072;
+
+/// The first argument that is not text. It is empty if there is none.
+fn first_not_text<R: Env + AllocGlobal>(rt: &R) -> Result<String, AllocError> {
+    let mut room = vec![in rt.alloc(); 0u8; ARGUMENT_ROOM]?;
+    for at in 0..usize::MAX {
+        match rt.arg(at, &mut room) {
+            Ok(length) if str::from_utf8(&room[..length]).is_err() => {
+                return String::from_utf8_lossy(rt.alloc(), &room[..length]);
+            }
+            Err(FillError::NotPresent) => break,
+            _ => {}
+        }
+    }
+    Ok(String::new(rt.alloc()))
+}
+
+/// The arguments of the command line.
+pub(crate) fn words_given<R: Env + AllocGlobal>(rt: &R) -> Words {
+    match env::args(rt) {
+        Ok(words) => match words.collect(rt.alloc()) {
+            Ok(words) => Words::Text(words),
+            Err(_) => Words::NoMemory,
+        },
+        Err(error) if error.kind() == io::ErrorKind::InvalidData => match first_not_text(rt) {
+            Ok(word) => Words::NotText(word),
+            Err(_) => Words::NoMemory,
+        },
+        Err(_) => Words::NoMemory,
+    }
 }
 
 /// The request of the arguments. Without memory for these it is a fault, as it is while they are read.
-pub(crate) fn request_of<'a>(
-    alloc: Global,
-    words: &'a Option<Vec<String>>,
-) -> Result<Request<'a>, Error> {
+pub(crate) fn request_of<'a>(alloc: Global, words: &'a Words) -> Result<Request<'a>, Error> {
     match words {
-        Some(words) => read_words(alloc, words),
-        None => Err(AllocError.into()),
+        Words::Text(words) => read_words(alloc, words),
+        Words::NotText(word) => Err(not_text(alloc, word.as_str())?),
+        Words::NoMemory => Err(AllocError.into()),
     }
 }
 

@@ -2,7 +2,7 @@
 //!
 //! One table has each command's options, their ranges and their help. [`read_words`] parses the arguments with
 //! clap, using this table. It returns the request, with every option in its place, or clap's error. This is help,
-//! the version, a usage fault, or out of memory.
+//! the version, a usage fault, or out of memory. [`not_text`] makes the fault of an argument that is not UTF-8.
 //!
 //! ```text
 //! match read_words(alloc, &words)? {
@@ -24,6 +24,7 @@ mod seed_range;
 mod table;
 
 pub use reading::read_words;
+pub use refusal::not_text;
 pub use request::{
     AuditWords, ChannelWords, CheckWords, CodeWords, DemodWords, JoinWords, JudgeWords, LinkWords,
     ModWords, ModesWords, NoiseWords, NoteWords, NumberWords, Progress, RecordWords, Request,

@@ -27,10 +27,15 @@ returns-in-Ok-write_notes-clause-finishes g c =
 pub returns-in-Err-write_notes-clause-finishes : goal.returns-in-Err-write_notes-clause-finishes
 returns-in-Err-write_notes-clause-finishes g c =
     let notes = notes_of c.args.mode.now c.in-Ok-2.received in
+    let risen = omega (arith, c.in-Err-write_notes.ensures.cause, c.complain.ensures.counted) in
     rw (sym c.console.view_is) (record {
       ended = Err faults.Write;
       notes = notes;
       exit_is = c.complain.ensures.exit;
-      answered = rw (c.in-Ok-2.is, c.if-words.false) (refl, inr refl);
-      remarks = unremarked notes faults.Write _ c.complain.new.self (omega (arith, c.in-Err-write_notes.ensures.cause, c.complain.ensures.counted));
+      answered = rw (c.in-Ok-2.is, c.if-words.false) (
+        refl,
+        inr
+            (λ e. absurd (omega (arith, c.in-Err-write_notes.ensures.cause, ap (λ w. g.E.CountedWrite.count w) (c.write_notes.ensures.none e))), refl, risen),
+      );
+      remarks = unremarked notes faults.Write _ c.complain.new.self risen;
     })
