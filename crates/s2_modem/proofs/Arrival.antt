@@ -1,5 +1,5 @@
 -- What is sent arrives.
-use Rattle.s2_modem.proofs.Names.{⊤, nat_eq, if◌then◌else◌, ◌≡◌, ℕ, ◌+◌, ◌*◌, IsTrue, Bool, true, false, List, [], ◌∷◌, ◌++◌, All, Option, Some, None, length, refl, sym, ap, ap₂, ◌∙◌, subst, append_assoc, append-nil, length-append, arith, All-nil, All-cons, Appends, Consumes, IsAtEnd, Mode, IsMode, HasCodeSizes, symbols_of, symbol_bytes, bytes_of_symbols, Symbol, field_bytes, stream_of, fields_of, dummy_frame, Link, sent_behind, Transmitter, is_due, AreUnits, Met, frame, ended, no_gap, met_from, Meets, Rules, State, Standing, at_start, with_gap, begun, left_in, left_known, after, after_all, all_packets, all_lines, frame_line, end_line, Piece, coded, dummy, joined, stream_symbols, SpellSymbols, AreReceived, frames_at, SkippedNone, Report, Totals, Verdict, is_certified, Delivered, Outcome, gives, after-append, packets-append, lines-append, symbols-append, AreBytes, ReceivesAll, certified_lines, run_places, totals_of, sent_symbols, places_in, max_symbols, ArrivalLaw, link_rules, FramePlace, Figures, IsCodeword, code_of, zero, suc, saturated, sums_after, refused_in, energy_over, sums_over, clean_energy, clean_figures_by}
+use Rattle.s2_modem.proofs.Names.{⊤, nat_eq, if◌then◌else◌, ◌≡◌, ℕ, ◌+◌, ◌*◌, IsTrue, Bool, true, false, List, [], ◌∷◌, ◌++◌, All, Option, Some, None, length, refl, sym, ap, ap₂, ◌∙◌, subst, append_assoc, append-nil, length-append, arith, All-nil, All-cons, Appends, Consumes, IsAtEnd, Mode, IsMode, HasCodeSizes, symbols_of, symbol_bytes, bytes_of_symbols, Symbol, field_bytes, stream_of, fields_of, dummy_frame, Link, sent_behind, Transmitter, is_due, AreUnits, Met, frame, ended, no_gap, met_from, Meets, Rules, State, Standing, at_start, with_gap, begun, left_in, left_known, after, after_all, all_packets, all_lines, frame_line, end_line, Piece, coded, dummy, joined, stream_symbols, SpellSymbols, AreReceived, frames_at, SkippedNone, Report, Totals, Verdict, is_certified, Delivered, Outcome, gives, all_met, after-append, packets-append, lines-append, symbols-append, AreBytes, ReceivesAll, certified_lines, run_places, totals_of, sent_symbols, places_in, max_symbols, ArrivalLaw, link_rules, FramePlace, Figures, IsCodeword, code_of, zero, suc, saturated, sums_after, refused_in, energy_over, sums_over, clean_energy, clean_figures_by}
 use Rattle.s2_modem.proofs.Names.phases
 use Rattle.s2_modem.proofs.SymbolsBack.{frame_read, dummy_read}
 use Rattle.s2_modem.proofs.ByteStreams.{AreFields, front_fields}
@@ -130,14 +130,6 @@ length-run_places figures size every number at (suc n) = ap suc (length-run_plac
 all_read : (source bytes : List ℕ) (left : Option (List ℕ)) → Consumes (Some source) left bytes → IsAtEnd left → source ≡ bytes
 all_read source bytes None consumes end = absurd consumes
 all_read source bytes (Some left) consumes end = consumes ∙ ap (λ l. bytes ++ l) end ∙ append-nil bytes
-
--- all that was met
-pub all_met : (rules : Rules) (symbols : List Symbol) (new : State) (taken left : Option (List ℕ)) (met : List Met) → SpellSymbols taken symbols → new.phase ≡ phases.Ended
-    → Meets (left_in rules begun taken) (left_in rules new left) met → met_from rules.finds rules.size 0 0 false no_gap symbols ≡ met
-all_met rules symbols new None left met spelt phase h = absurd spelt
-all_met rules symbols new (Some bytes) left met spelt phase h =
-    let whole = subst (λ x. Meets (left_in rules begun (Some bytes)) (left_known rules x new.window left) met) phase h in
-    ap (met_from rules.finds rules.size 0 0 false no_gap) (sym spelt) ∙ whole ∙ append-nil met
 
 -- the end adds nothing where nothing was skipped before it
 passed_at_end : (t : Totals) → SkippedNone t → SkippedNone (with_gap t no_gap)

@@ -1,7 +1,7 @@
 -- A frame without noise is delivered, certified, with nothing changed.
-use Rattle.s2_modem.proofs.Names.{ap₂, xor_same, number, or_right, ◌≡◌, ℕ, zero, suc, ◌+◌, ◌-◌, ◌*◌, ◌/◌, ◌%◌, ◌<◌, ◌≤◌, Bool, true, false, List, [], ◌∷◌, ◌++◌, length, take, drop, map, get_or, Option, Some, None, Result, Ok, Err, refl, sym, ap, subst, ◌∙◌, arith, length-append, length-take, length-drop, ℤ, pos, int_lt, le-leb, eq-eqb, length-map, ext_get_or, get_or-take, get_or-drop, take_at, drop_at, take_all, fill_by_all, length-map-range_with_len, All-head, All-tail, All-append, All-from_recursion, Mode, IsMode, HasCodeSizes, k_of, kbch_of, n_of, t_of, slots_of, symbols_in, Symbol, symbols_least, Rows, bit_at, bits_of_byte, bits_of_bytes, byte_at, byte_of, bytes_from, differences, byte_back, code_of, IsCodeword, hard_decision, NoneIsZero, is_certified, IsSole, HeaderFault, Decision, header_bytes, has_valid_lengths, header_of_bytes, signalling, header_at, to_place, field_bytes, header_of_bytes-header_bytes, divided, scrambled, scrambled-scrambled, IsWithin, nearest, within_is_nearest, nearest_is_within, no_nearest, payload_symbol, payload_of, frame_symbol, frame_symbols, decision, found, clean_behind, IsDivisor, soft_bit, soft_values, DecidesTo, clean_says, payload_again, clean_passes, IsCleanFrame, IsReceived, Link, padded_bits, baseband_frame, IsCodewordFor, found_as, Decided, decided, IsShown, Tuning, frame_soft, received_word, message_of, header_in, field_in, outcome_by, delivered_by, decision_by, frame_decision, AllAsLikely, AllTold, IsCertifiedBy, IsCorrected, link_rules, IsLinkOf, IsByte, AreBytes, sent_symbols, IsDelivered, IsDeliveredCertified, ReceivesAllLaw, ScatteredFrameLaw, BothCodesLaw, IsSent, IsMostLikely, received_payload, Sole, clean_lem, certified_lem, likely_lem, sole_lem, scattered_lem, decided_long, length-baseband_frame, length-bch_word, symbol, Header, count_of, cond, is_delivered, Figures, Outcome, Delivered, NoWord, BadHeader, figures_by, measured, energy_of}
+use Rattle.s2_modem.proofs.Names.{ap₂, xor_same, number, or_right, ◌≡◌, ℕ, zero, suc, ◌+◌, ◌-◌, ◌*◌, ◌/◌, ◌%◌, ◌<◌, ◌≤◌, Bool, true, false, List, [], ◌∷◌, ◌++◌, length, take, drop, map, get_or, Option, Some, None, Result, Ok, Err, refl, sym, ap, subst, ◌∙◌, arith, length-append, length-take, length-take-le, length-drop, ℤ, pos, int_lt, le-leb, eq-eqb, length-map, ext_get_or, get_or-take, get_or-drop, take_at, drop_at, take_all, fill_by_all, length-map-range_with_len, All-head, All-tail, All-append, All-from_recursion, Mode, IsMode, HasCodeSizes, k_of, kbch_of, n_of, t_of, slots_of, symbols_in, Symbol, symbols_least, Rows, bit_at, bits_of_byte, bits_of_bytes, byte_at, byte_of, bytes_from, differences, byte_back, code_of, IsCodeword, hard_decision, NoneIsZero, is_certified, IsSole, HeaderFault, Decision, header_bytes, has_valid_lengths, header_of_bytes, signalling, header_at, to_place, field_bytes, header_of_bytes-header_bytes, divided, scrambled, scrambled-scrambled, IsWithin, nearest, within_is_nearest, nearest_is_within, no_nearest, payload_symbol, payload_of, frame_symbol, frame_symbols, decision, found, clean_behind, IsDivisor, soft_bit, soft_values, DecidesTo, clean_says, payload_again, clean_passes, IsCleanFrame, IsReceived, Link, padded_bits, baseband_frame, IsCodewordFor, found_as, Decided, decided, IsShown, Tuning, frame_soft, received_word, message_of, header_in, field_in, outcome_by, delivered_by, decision_by, frame_decision, AllAsLikely, AllTold, IsCertifiedBy, IsCorrected, IsSaidBy, link_rules, IsLinkOf, IsByte, AreBytes, sent_symbols, IsDelivered, IsDeliveredCertified, ReceivesAllLaw, ScatteredFrameLaw, BothCodesLaw, IsSent, IsMostLikely, received_payload, Sole, clean_lem, certified_lem, likely_lem, sole_lem, scattered_lem, decided_long, length-baseband_frame, length-bch_word, symbol, Header, count_of, cond, is_delivered, Figures, Outcome, Delivered, NoWord, BadHeader, figures_by, measured, energy_of}
 use Rattle.s2_modem.proofs.Names.founds
-use Rattle.s2_modem.proofs.DecisionLemmas.{code_is}
+use Rattle.s2_modem.proofs.DecisionLemmas.{code_is, message_fits}
 use Rattle.s2_modem.proofs.Dummies.{dummy_is}
 use Rattle.s2_modem.proofs.SymbolsBack.{payload_back}
 
@@ -62,15 +62,23 @@ differences_none (suc n) a = ap₂ (λ (d : ℕ) (e : ℕ). d + e) (differences_
 
 -- what is read of the word that BCH decoding finds
 read_corrected : (m : Mode) (d : Decision) (word : List Bool) (h : Result Header HeaderFault) → IsWithin m (received_word m d.bits) word → d.message ≡ message_of m word
-    → IsCorrected m d (outcome_by (differences (k_of m) (received_word m d.bits) word) h)
-read_corrected m d word (Ok header) near message = (word, near, message, refl)
-read_corrected m d word (Err fault) near message = (word, near, message)
+    → header_of_bytes m (header_in (scrambled d.message)) ≡ h → d.delivered ≡ delivered_by (scrambled d.message) h → IsCorrected m d (outcome_by (differences (k_of m) (received_word m d.bits) word) h)
+read_corrected m d word (Ok header) near message read delivered = (word, near, message, refl, (header, read, delivered))
+read_corrected m d word (Err fault) near message read delivered = (word, near, message, read, delivered)
 
 decision_corrected : (m : Mode) → IsMode m → HasCodeSizes m → (soft : List ℤ) (d : Decided) (o : Option (List Bool)) → length (received_word m d.bits) ≡ k_of m → nearest m (received_word m d.bits) ≡ o
     → IsCorrected m (decision_by m soft d o) (decision_by m soft d o).outcome
 decision_corrected m valid sizes soft d (Some word) long near =
-    read_corrected m (decision_by m soft d (Some word)) word (header_of_bytes m (header_in (scrambled (message_of m word)))) (nearest_is_within m valid sizes (received_word m d.bits) long word near) refl
-decision_corrected m valid sizes soft d None long near = no_nearest m valid sizes (received_word m d.bits) long near
+    read_corrected m (decision_by m soft d (Some word)) word (header_of_bytes m (header_in (scrambled (message_of m word)))) (nearest_is_within m valid sizes (received_word m d.bits) long word near) refl refl refl
+decision_corrected m valid sizes soft d None long near = (no_nearest m valid sizes (received_word m d.bits) long near, refl)
+
+-- what is delivered is what the message says
+corrected_said : (m : Mode) (d : Decision) (o : Outcome) → HasCodeSizes m → IsCorrected m d o → IsSaidBy m d.message d.delivered
+corrected_said m d (Delivered fixed) sizes (word, near, message, is, (header, read, delivered)) =
+    let long : length d.message ≡ kbch_of m = ap length message ∙ length-take-le (kbch_of m) word (omega (arith, near.word.size, message_fits m sizes)) in
+    subst (IsSaidBy m d.message) (sym delivered) (long, read, refl)
+corrected_said m d (BadHeader fault) sizes (word, near, message, read, none) = subst (IsSaidBy m d.message) (sym none) tt
+corrected_said m d NoWord sizes (far, none) = subst (IsSaidBy m d.message) (sym none) tt
 
 -- a decision on these soft values has what was decided on them
 pub record IsOf (r : Rows) (soft : List ℤ) (d : Decided) (x : Decision) : Type 0 where
@@ -152,13 +160,14 @@ module _ (m : Mode) (valid : IsMode m) (sizes : HasCodeSizes m) (link : Link) (l
   unfolding frame_decision
   all_told tuning = λ symbols.
       let soft = frame_soft link tuning symbols in
+      let d = decided link.rows tuning soft in
+      let o = nearest mode (received_word mode d.bits) in
+      let x = decision_by mode soft d o in
+      let corrected = decision_corrected mode is_mode has_sizes soft d o (length_received tuning symbols) refl in
       record {
         certified = (frame_is link tuning symbols).certified (certified_lem link.rows tuning soft (length_soft tuning symbols));
-        within =
-            let d = decided link.rows tuning soft in
-            let o = nearest mode (received_word mode d.bits) in
-            let x = decision_by mode soft d o in
-            measured_corrected mode x (figures_by link tuning symbols) (energy_of (take 90 symbols)) x.outcome (decision_corrected mode is_mode has_sizes soft d o (length_received tuning symbols) refl);
+        within = measured_corrected mode x (figures_by link tuning symbols) (energy_of (take 90 symbols)) x.outcome corrected;
+        said = corrected_said mode x x.outcome has_sizes corrected;
       }
 
   module _ (at : ℕ) (field : List ℕ) (codeword : List Bool) (sent : IsSent m link at field codeword) where

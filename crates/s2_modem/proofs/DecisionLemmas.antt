@@ -35,7 +35,7 @@ by_tests m bytes h true true true a b c ok = let is = header_of_bytes-accepted m
 pub accepted_valid : (m : Mode) (bytes : List ℕ) (h : Header) → header_of_bytes m bytes ≡ Ok h → has_valid_lengths m h ≡ true
 accepted_valid m bytes h ok = by_tests m bytes h (is_whole bytes) (is_packet_stream bytes) (has_valid_lengths m (header_of bytes)) refl refl refl ok
 
-message_fits : (m : Mode) → HasCodeSizes m → kbch_of m ≤ k_of m
+pub message_fits : (m : Mode) → HasCodeSizes m → kbch_of m ≤ k_of m
 message_fits m sizes = grind (arith, sizes.short_code, sizes.normal_code)
 
 -- as many bits as the mode's codewords have

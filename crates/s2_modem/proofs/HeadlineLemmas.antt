@@ -1,9 +1,10 @@
 -- The headline holds.
-use Rattle.s2_modem.proofs.Names.{◌≡◌, ℕ, zero, suc, ◌+◌, ◌<◌, ◌≤◌, ◌⊎◌, IsTrue, Bool, true, false, cond, List, [], ◌∷◌, ◌++◌, All, Option, Some, None, length, map, range_with_len, count_by, sum_by-cons, inl, inr, refl, sym, ap, ◌∙◌, subst, append_assoc, append-nil, Result, Ok, Err, ⊤, nat_lt, lt-leb, flat_map, All-nil, All-cons, arith, Mode, IsMode, HasCodeSizes, symbols_of, Streams, Symbol, code_of, header_at, field_bytes, IsDivisor, Found, Tuning, Link, IsLinkOf, Gap, Report, frame_line, cut_line, end_line, Met, frame, cut, ended, no_gap, extended, begins, by_found, met_from, Rules, State, Standing, at_start, at_end, with_gap, report_of, after, after_all, all_packets, all_lines, begun, RunsOut, Piece, joined, stream_symbols, SpellSymbols, IsReceived, frames_at, gives, all_joined, packets-append, frame_soft, IsAsLikely, IsCorrected, link_rules, AllAsLikely, AllTold, Receiver, rules_for, IsSent, is_certified, Delivered, frame_from, decision_from, is_delivered, stands, IsCutAt, IsReadable, Arriving, closed_packets, wrong_bits, Headline, KeepsHeadline, FramePromises, IsHeadline, RunsHeadline, RunAnswers, RunAnswersWith, Taking, ReceivesTo, Received, Totals, StreamFault, max_symbols}
+use Rattle.s2_modem.proofs.Names.{◌≡◌, ℕ, zero, suc, ◌+◌, ◌<◌, ◌≤◌, ◌⊎◌, IsTrue, Bool, true, false, cond, List, [], ◌∷◌, ◌++◌, All, Option, Some, None, length, map, range_with_len, count_by, sum_by-cons, inl, inr, refl, sym, ap, ◌∙◌, subst, append_assoc, append-nil, Result, Ok, Err, ⊤, nat_lt, lt-leb, flat_map, All-nil, All-cons, All-weaker, arith, Mode, IsMode, HasCodeSizes, symbols_of, Streams, Symbol, code_of, header_at, field_bytes, IsDivisor, Found, Tuning, Link, IsLinkOf, Gap, Report, frame_line, cut_line, end_line, Met, frame, cut, ended, no_gap, extended, begins, by_found, met_from, Rules, State, Standing, at_start, at_end, with_gap, report_of, after, after_all, all_packets, all_lines, begun, RunsOut, Piece, joined, stream_symbols, SpellSymbols, IsReceived, frames_at, gives, all_joined, all_met, packets-append, frame_soft, IsAsLikely, IsCorrected, link_rules, AllAsLikely, AllTold, Receiver, rules_for, seen, IsSent, is_certified, Delivered, frame_from, decision_from, frame_decision, is_delivered, stands, IsFrameAt, IsCutAt, report_at, IsReadable, Arriving, closed_packets, wrong_bits, Headline, CallsLaw, KeepsHeadline, FramePromises, IsHeadline, RunsHeadline, RunAnswers, RunAnswersWith, Taking, ReceivesTo, Received, Totals, StreamFault, max_symbols}
 use Rattle.s2_modem.proofs.Names.founds
-use Rattle.s2_modem.proofs.Arrival.{all_met}
+use Rattle.s2_receive.specs.Calls.{call_lines, call_packets, in_memory, last_state}
+use Rattle.s2_receive.proofs.CallLemmas.{calls_are}
 use Rattle.s2_modem.proofs.CleanFrames.{all_as_likely, all_told, counts, receives_all_law, both_codes_law}
-use Rattle.s2_modem.proofs.Moves.{reports_of, cut_of, AreMet, are_met, at_frame, at_cut}
+use Rattle.s2_modem.proofs.Moves.{reports_of, cut_of, IsThere, AreMet, are_met, at_coded, at_frame, at_cut}
 use Rattle.s2_modem.proofs.FirstFrames.{received_each, heard_one, all_heard}
 use Rattle.s2_modem.proofs.ByteStreams.{IsField, front_fields}
 
@@ -23,44 +24,65 @@ module _ (link : Link) (tuning : Tuning) (stream : List Symbol) (limit : ℕ) wh
   abbrev delivers : Report → Bool
   delivers r = is_delivered r.outcome
 
+  -- it is that of a frame of the search
+  abbrev IsOne : Report → Type 0
+  IsOne r = (moves : ℕ) × IsFrameAt link tuning stream (stands link tuning stream moves) × (r ≡ report_at link tuning stream (stands link tuning stream moves))
+
+  one_is : (s : Standing) (at : ℕ) (symbols : List Symbol) → IsThere link tuning stream s.totals.frames at symbols → IsOne (report_of rules s.totals at symbols)
+  one_is s at symbols there =
+      let d = frame_decision link tuning in (
+        there.moves,
+        there.is_frame,
+        λ i.
+            record {
+              number = there.count_is i + 1;
+              at = there.at_is i;
+              verdict = (d (there.symbols_are i)).verdict;
+              outcome = (d (there.symbols_are i)).outcome;
+              figures = (d (there.symbols_are i)).figures;
+            },
+      )
+
+  each_likely : AllAsLikely link tuning → (frames : List Report) → All IsOne frames → All IsLikely frames
+  each_likely holds frames ones = All-weaker IsOne IsLikely (λ r one. subst IsLikely (sym one.2) (holds (frame_from link stream (stands link tuning stream one.0).at))) frames ones
+
+  each_within : AllTold link tuning → (frames : List Report) → All IsOne frames → All IsWithin frames
+  each_within holds frames ones = All-weaker IsOne IsWithin (λ r one. subst IsWithin (sym one.2) (holds (frame_from link stream (stands link tuning stream one.0).at)).within) frames ones
+
   record Lines (met : List Met) (s : Standing) (frames : List Report) : Type 0 where
     lines : all_lines rules s met ≡ flat_map frame_line frames ++ cut_of met ++ end_line (after_all rules s met).totals
     numbers : map (λ (r : Report). r.number) frames ≡ range_with_len (s.totals.frames + 1) (length frames)
     frames_are : (after_all rules s met).totals.frames ≡ s.totals.frames + length frames
     delivered_are : (after_all rules s met).totals.delivered ≡ s.totals.delivered + count_by delivers frames
     cut_only : (cut_of met ≡ []) ⊎ ((moves : ℕ) × IsCutAt link tuning stream (stands link tuning stream moves))
-    likely : All IsLikely frames
-    within : All IsWithin frames
+    ones : All IsOne frames
 
-  module _ (all_likely : AllAsLikely link tuning) (all_told : AllTold link tuning) where
-    tell : (met : List Met) (s : Standing) → AreMet link tuning stream met → Lines met s (reports_of rules s met)
-    tell [] s h = absurd h
-    tell (frame at skipped symbols ∷ later) s h =
-        let r = report_of rules s.totals at symbols in
-        let here = frame_from link stream at in
-        let t = after rules s (frame at skipped symbols) in
-        let others = reports_of rules t later in
-        let more = tell later t h.1 in
-        let end = end_line (after_all rules t later).totals in
-        record {
-          lines = ap (λ l. frame_line r ++ l) more.lines ∙ sym (append_assoc (frame_line r) (flat_map frame_line others ++ cut_of later) end)
-              ∙ ap (λ l. l ++ end) (sym (append_assoc (frame_line r) (flat_map frame_line others) (cut_of later)));
-          numbers = ap (λ l. (s.totals.frames + 1) ∷ l) more.numbers;
-          frames_are = more.frames_are ∙ omega arith;
-          delivered_are = more.delivered_are ∙ omega (arith, sum_by-cons (λ x. cond (delivers x) 1 0) r others, counts link tuning symbols);
-          cut_only = more.cut_only;
-          likely = All-cons IsLikely r others (subst (λ l. IsLikely (report_of rules s.totals at l)) (sym h.0) (all_likely here)) more.likely;
-          within = All-cons IsWithin r others (subst (λ l. IsWithin (report_of rules s.totals at l)) (sym h.0) (all_told here).within) more.within;
-        }
-    tell (cut at skipped count ∷ later) s h =
-        let t = after rules s (cut at skipped count) in
-        let lines = ap (λ l. cut_line at count ++ l) (append-nil (end_line (with_gap t.totals (at_end h.1.0)))) in
-        subst (λ l. Lines (cut at skipped count ∷ l) s []) (sym h.1.1)
-        (record { lines = lines; numbers = refl; frames_are = omega arith; delivered_are = omega arith; cut_only = inr h.0; likely = All-nil IsLikely; within = All-nil IsWithin })
-    tell (ended skipped ∷ later) s h =
-        let lines = append-nil (end_line (with_gap s.totals (at_end skipped))) in
-        subst (λ l. Lines (ended skipped ∷ l) s []) (sym h)
-        (record { lines = lines; numbers = refl; frames_are = omega arith; delivered_are = omega arith; cut_only = inl refl; likely = All-nil IsLikely; within = All-nil IsWithin })
+  tell : (met : List Met) (s : Standing) → AreMet link tuning stream s.totals.frames met → Lines met s (reports_of rules s met)
+  tell [] s h = absurd h
+  tell (frame at skipped symbols ∷ later) s h =
+      let r = report_of rules s.totals at symbols in
+      let t = after rules s (frame at skipped symbols) in
+      let others = reports_of rules t later in
+      let more = tell later t h.1 in
+      let end = end_line (after_all rules t later).totals in
+      record {
+        lines = ap (λ l. frame_line r ++ l) more.lines ∙ sym (append_assoc (frame_line r) (flat_map frame_line others ++ cut_of later) end)
+            ∙ ap (λ l. l ++ end) (sym (append_assoc (frame_line r) (flat_map frame_line others) (cut_of later)));
+        numbers = ap (λ l. (s.totals.frames + 1) ∷ l) more.numbers;
+        frames_are = more.frames_are ∙ omega arith;
+        delivered_are = more.delivered_are ∙ omega (arith, sum_by-cons (λ x. cond (delivers x) 1 0) r others, counts link tuning symbols);
+        cut_only = more.cut_only;
+        ones = All-cons IsOne r others (one_is s at symbols h.0) more.ones;
+      }
+  tell (cut at skipped count ∷ later) s h =
+      let t = after rules s (cut at skipped count) in
+      let lines = ap (λ l. cut_line at count ++ l) (append-nil (end_line (with_gap t.totals (at_end h.1.0)))) in
+      subst (λ l. Lines (cut at skipped count ∷ l) s []) (sym h.1.1)
+      (record { lines = lines; numbers = refl; frames_are = omega arith; delivered_are = omega arith; cut_only = inr h.0; ones = All-nil IsOne })
+  tell (ended skipped ∷ later) s h =
+      let lines = append-nil (end_line (with_gap s.totals (at_end skipped))) in
+      subst (λ l. Lines (ended skipped ∷ l) s []) (sym h)
+      (record { lines = lines; numbers = refl; frames_are = omega arith; delivered_are = omega arith; cut_only = inl refl; ones = All-nil IsOne })
 
 -- fewer symbols than a frame has give no packet
 none_given : (rules : Rules) (at inside : ℕ) (behind : Bool) (skipped : Gap) (symbols : List Symbol) (s : Standing) → length symbols < rules.size
@@ -115,11 +137,12 @@ module _ (m : Mode) (valid : IsMode m) (sizes : HasCodeSizes m) (link : Link) (t
     headline symbols =
         let met = met_on symbols in
         let all = all_heard m valid sizes link tuning linked ro known in
-        let said = tell link tuning symbols limit (all_as_likely m valid sizes link linked tuning) (all_told m valid sizes link linked tuning) met at_start
+        let frames = reports_of by at_start met in
+        let said = tell link tuning symbols limit met at_start
         (are_met link tuning symbols (suc (length symbols)) 0 (stands link tuning symbols 0) no_gap refl (omega arith)) in
         let join = all_joined by at_start met in
         record {
-          frames = reports_of by at_start met;
+          frames = frames;
           closing = record {
             cut = cut_of met;
             totals = (after_all by at_start met).totals;
@@ -132,15 +155,18 @@ module _ (m : Mode) (valid : IsMode m) (sizes : HasCodeSizes m) (link : Link) (t
             packets_are = (join.packets, join.good ∙ omega arith);
             bad_are = join.bad ∙ omega arith;
           };
-          likely = said.likely;
-          within = said.within;
+          found = said.ones;
+          each = at_coded link tuning symbols limit;
+          likely = each_likely link tuning symbols limit (all_as_likely m valid sizes link linked tuning) frames said.ones;
+          within = each_within link tuning symbols limit (all_told m valid sizes link linked tuning) frames said.ones;
           aligned = λ moves byte field codeword sent.
               (let place = stands link tuning symbols moves in
               let here = frame_from link symbols place.at in (
                 λ clear.
                     (let h = all.clear place.behind byte field codeword here sent clear in
-                    at_frame link tuning symbols limit moves (λ frame. IsTrue (is_certified frame.verdict) × (frame.outcome ≡ Delivered 0)) h.0 (λ s. (h.1.verdict, h.1.delivered.outcome))),
-                λ whole few. at_frame link tuning symbols limit moves (λ frame. frame.outcome ≡ Delivered (wrong_bits link tuning here sent.codeword_is.bch_word)) whole (λ s. (all.corrected here byte field codeword sent few).outcome),
+                    at_frame link tuning symbols limit moves (λ frame. IsTrue (is_certified frame.verdict) × (frame.outcome ≡ Delivered 0) × ((decision_from link tuning symbols frame.at).bits ≡ codeword)) h.0
+                    (h.1.verdict, h.1.delivered.outcome, h.1.bits)),
+                λ whole few. at_frame link tuning symbols limit moves (λ frame. frame.outcome ≡ Delivered (wrong_bits link tuning here sent.codeword_is.bch_word)) whole (all.corrected here byte field codeword sent few).outcome,
               ));
           heard = λ sent fields later pieces rest a. (let h = heard symbols sent fields later pieces rest a in (h.0.0, h.0.1, h.1));
           exact = λ sent fields later pieces rest a few.
@@ -172,6 +198,21 @@ module _ (m : Mode) (valid : IsMode m) (sizes : HasCodeSizes m) (link : Link) (t
   }
 
 -- ---- runs of a receiver
+
+-- calls of `advance` to the end, from a new receiver
+pub calls_law : (m : Mode) → IsMode m → HasCodeSizes m → CallsLaw m
+calls_law m valid sizes r bytes calls linked ro known fresh all =
+    let packets = call_packets calls in
+    let report = call_lines calls in
+    let end = last_state r.state calls in
+    let (left, out) = calls_are (seen r) bytes calls all in
+    let run = subst (λ (s : State). RunsOut (rules_for r) s end (in_memory bytes [] []) (in_memory left packets report)) fresh out in
+    let (written, told, packets_are, report_is, holds) = keeps_headline m valid sizes r.link r.tuning linked ro known r.limit end (in_memory bytes [] []) (in_memory left packets report) run in
+    record {
+      totals = end.standing.totals;
+      received = (end, record { left = Some left; runs_out = run; totals_are = refl });
+      headline = subst (λ (l : List ℕ). Headline r.link r.tuning (symbols_of bytes) l report) (sym packets_are) (subst (λ (l : List ℕ). Headline r.link r.tuning (symbols_of bytes) written l) (sym report_is) holds);
+    }
 
 -- a run to the end, from a new receiver
 pub run_headline : (v w : Receiver) (followed : Rules) (new : State) (before behind : Streams) (result : Result Received StreamFault) → v ≡ w → followed ≡ rules_for v → KeepsHeadline v.link v.tuning

@@ -1,5 +1,5 @@
 -- Where a search stands after some moves, and what is met from there on.
-use Rattle.s2_modem.proofs.Names.{◌≡◌, ℕ, zero, suc, ◌+◌, ◌-◌, ◌<◌, ◌≤◌, Bool, true, false, List, [], ◌∷◌, ◌++◌, length, take, drop, inl, inr, cases_lt, refl, sym, ap, ◌∙◌, subst, append_assoc, length-append, length-drop, length-take, length-take-le, take-take, take-append-drop, drop-drop, drop_all, cond-true, le-leb, and-true, and_right, arith, ◌&&◌, nat_eq, Mode, symbols_in, Symbol, Found, Tuning, Link, Gap, Report, cut_line, Met, frame, cut, ended, no_gap, extended, begins, met_from, met-extended, met-dummy, whole_frame, cut_frame, symbols_least, Rules, Standing, at_start, report_of, after, found_as, link_rules, frame_from, Place, found_at, past, stands, IsCutAt, IsNext, IsWholeFrame}
+use Rattle.s2_modem.proofs.Names.{◌≡◌, ℕ, zero, suc, ◌+◌, ◌-◌, ◌<◌, ◌≤◌, Bool, true, false, List, [], ◌∷◌, ◌++◌, length, take, drop, inl, inr, cases_lt, refl, sym, ap, ◌∙◌, subst, append_assoc, length-append, length-drop, length-take, length-take-le, take-take, take-append-drop, drop-drop, drop_all, cond-true, le-leb, and-true, and_right, arith, ◌&&◌, nat_eq, Mode, symbols_in, Symbol, Found, Tuning, Link, Gap, Report, cut_line, Met, frame, cut, ended, no_gap, extended, begins, met_from, met-extended, met-dummy, whole_frame, cut_frame, symbols_least, Rules, Standing, at_start, report_of, after, found_as, link_rules, frame_from, Place, found_at, past, stands, IsFrameAt, IsCutAt, IsNext, IsWholeFrame, frame_decision, report_at}
 use Rattle.s2_modem.proofs.Names.founds
 
 -- the reports of frames that were met, and the line of one that is cut
@@ -14,6 +14,10 @@ cut_of [] = []
 cut_of (frame at skipped symbols ∷ later) = cut_of later
 cut_of (cut at skipped count ∷ later) = cut_line at count
 cut_of (ended skipped ∷ later) = []
+
+-- what holds of a report holds of the next line, which is this report
+next_so : (frames : List Report) (place : Place) (r : Report) (so : Report → Type 0) → IsNext frames place (λ next. next ≡ r) → so r → IsNext frames place so
+next_so frames place r so (before, report, later, is, many, at, told) holds = (before, report, later, is, many, at, subst so (sym told) holds)
 
 module _ (link : Link) (tuning : Tuning) (stream : List Symbol) where
   abbrev mode : Mode
@@ -62,33 +66,44 @@ module _ (link : Link) (tuning : Tuning) (stream : List Symbol) where
 
   -- ---- all that is met
 
-  -- frames, each of the symbols at its place, and then one that is cut, where the search comes to it, or the end
-  abbrev pub AreMet : List Met → Type 0
-  AreMet [] = ⊥
-  AreMet (frame at skipped symbols ∷ later) = (symbols ≡ frame_from link stream at) × AreMet later
-  AreMet (cut at skipped count ∷ later) = ((n : ℕ) × IsCutAt link tuning stream (stands link tuning stream n)) × ((o : Gap) × (later ≡ ended o ∷ []))
-  AreMet (ended skipped ∷ later) = later ≡ []
+  -- a frame of the search, with this many before it
+  pub record IsThere (count at : ℕ) (symbols : List Symbol) : Type 0 where
+    pub moves : ℕ
+    pub is_frame : IsFrameAt link tuning stream (stands link tuning stream moves)
+    pub at_is : at ≡ (stands link tuning stream moves).at
+    pub count_is : count ≡ (stands link tuning stream moves).frames
+    pub symbols_are : symbols ≡ frame_from link stream (stands link tuning stream moves).at
 
-  nothing_left : (p : Place) (skipped : Gap) → length stream ≤ p.at → AreMet (met_at p skipped)
-  nothing_left p skipped done = subst (λ l. AreMet (met_from finds size p.at 0 p.behind skipped l)) (sym (drop_all p.at stream done)) refl
+  -- frames of the search, one after another, and then one that is cut, where the search comes to it, or the end
+  abbrev pub AreMet : ℕ → List Met → Type 0
+  AreMet count [] = ⊥
+  AreMet count (frame at skipped symbols ∷ later) = IsThere count at symbols × AreMet (count + 1) later
+  AreMet count (cut at skipped more ∷ later) = ((n : ℕ) × IsCutAt link tuning stream (stands link tuning stream n)) × ((o : Gap) × (later ≡ ended o ∷ []))
+  AreMet count (ended skipped ∷ later) = later ≡ []
+
+  nothing_left : (count : ℕ) (p : Place) (skipped : Gap) → length stream ≤ p.at → AreMet count (met_at p skipped)
+  nothing_left count p skipped done = subst (λ l. AreMet count (met_from finds size p.at 0 p.behind skipped l)) (sym (drop_all p.at stream done)) refl
 
   next_place : (n : ℕ) (p : Place) (f : Found) → p ≡ stands link tuning stream n → found_at link tuning stream p ≡ f → past mode p f ≡ stands link tuning stream (suc n)
   next_place n p f is e = ap (past mode p) (sym e) ∙ ap (λ q. past mode q (found_at link tuning stream q)) is
 
   one_met : (k n : ℕ) (p : Place) (skipped : Gap) → p ≡ stands link tuning stream n → length stream < p.at + suc k → p.at < length stream
-      → ((q : Place) (o : Gap) → q ≡ stands link tuning stream (suc n) → length stream < q.at + k → AreMet (met_at q o)) → (f : Found) → found_at link tuning stream p ≡ f → AreMet (met_at p skipped)
+      → ((q : Place) (o : Gap) → q ≡ stands link tuning stream (suc n) → length stream < q.at + k → AreMet q.frames (met_at q o)) → (f : Found) → found_at link tuning stream p ≡ f → AreMet p.frames (met_at p skipped)
   one_met k n p skipped is h more later founds.Coded e = elim (cases_lt (length stream) (p.at + size)) [
-    | inl few ↦ subst AreMet (sym (cut_move p skipped (e, few))) ((n, subst (IsCutAt link tuning stream) is (e, few)), (no_gap, refl))
-    | inr whole ↦ subst AreMet (sym (coded_move p skipped e whole)) (refl, later (past mode p founds.Coded) no_gap (next_place n p founds.Coded is e) (omega (arith, symbols_least mode)))
+    | inl few ↦ subst (AreMet p.frames) (sym (cut_move p skipped (e, few))) ((n, subst (IsCutAt link tuning stream) is (e, few)), (no_gap, refl))
+    | inr whole ↦
+        (let there : IsThere p.frames p.at (frame_from link stream p.at) =
+        record { moves = n; is_frame = subst (IsFrameAt link tuning stream) is (e, whole); at_is = ap (λ q. q.at) is; count_is = ap (λ q. q.frames) is; symbols_are = ap (λ q. frame_from link stream q.at) is } in
+        subst (AreMet p.frames) (sym (coded_move p skipped e whole)) (there, later (past mode p founds.Coded) no_gap (next_place n p founds.Coded is e) (omega (arith, symbols_least mode))))
   ]
-  one_met k n p skipped is h more later founds.Dummy e = subst AreMet (sym (dummy_move p skipped e)) (later (past mode p founds.Dummy) skipped (next_place n p founds.Dummy is e) (omega arith))
-  one_met k n p skipped is h more later founds.Nothing e = subst AreMet (sym (next_move p skipped e more)) (later (past mode p founds.Nothing) (extended skipped p.at 1) (next_place n p founds.Nothing is e) (omega arith))
+  one_met k n p skipped is h more later founds.Dummy e = subst (AreMet p.frames) (sym (dummy_move p skipped e)) (later (past mode p founds.Dummy) skipped (next_place n p founds.Dummy is e) (omega arith))
+  one_met k n p skipped is h more later founds.Nothing e = subst (AreMet p.frames) (sym (next_move p skipped e more)) (later (past mode p founds.Nothing) (extended skipped p.at 1) (next_place n p founds.Nothing is e) (omega arith))
 
-  pub are_met : (k n : ℕ) (p : Place) (skipped : Gap) → p ≡ stands link tuning stream n → length stream < p.at + k → AreMet (met_at p skipped)
-  are_met zero n p skipped is h = nothing_left p skipped (omega arith)
+  pub are_met : (k n : ℕ) (p : Place) (skipped : Gap) → p ≡ stands link tuning stream n → length stream < p.at + k → AreMet p.frames (met_at p skipped)
+  are_met zero n p skipped is h = nothing_left p.frames p skipped (omega arith)
   are_met (suc k) n p skipped is h = elim (cases_lt p.at (length stream)) [
     | inl more ↦ one_met k n p skipped is h more (are_met k (suc n)) (found_at link tuning stream p) refl
-    | inr done ↦ nothing_left p skipped done
+    | inr done ↦ nothing_left p.frames p skipped done
   ]
 
   -- ---- what was told when the search stands there
@@ -106,12 +121,13 @@ module _ (link : Link) (tuning : Tuning) (stream : List Symbol) where
       before : List Report
       reports : reports_of rules at_start first ≡ before ++ reports_of rules s (met_at p skipped)
       many : length before ≡ p.frames
+      counted : s.totals.frames ≡ p.frames
       cut_is : cut_of first ≡ cut_of (met_at p skipped)
 
     goes : (p q : Place) (w : Walk p) (skipped : Gap) → p.frames ≡ q.frames → met_at p w.skipped ≡ met_at q skipped → Walk q
     goes p q w skipped same met =
         let reports = w.reports ∙ ap (λ l. w.before ++ reports_of rules w.s l) met in
-        record { skipped = skipped; s = w.s; before = w.before; reports = reports; many = w.many ∙ same; cut_is = w.cut_is ∙ ap cut_of met }
+        record { skipped = skipped; s = w.s; before = w.before; reports = reports; many = w.many ∙ same; counted = w.counted ∙ same; cut_is = w.cut_is ∙ ap cut_of met }
 
     walks : (p : Place) (f : Found) → found_at link tuning stream p ≡ f → (past mode p f).at ≤ length stream → (p.at ≤ length stream → Walk p) → Walk (past mode p f)
     walks p founds.Coded e h walked =
@@ -121,27 +137,36 @@ module _ (link : Link) (tuning : Tuning) (stream : List Symbol) where
         let r = report_of rules w.s.totals p.at here in
         let reports = w.reports ∙ ap (λ l. w.before ++ reports_of rules w.s l) met ∙ sym (append_assoc w.before (r ∷ []) _) in
         let many : length (w.before ++ r ∷ []) ≡ p.frames + 1 = omega (arith, length-append w.before (r ∷ []), w.many) in
-        record { skipped = no_gap; s = after rules w.s (frame p.at w.skipped here); before = w.before ++ r ∷ []; reports = reports; many = many; cut_is = w.cut_is ∙ ap cut_of met }
+        record { skipped = no_gap; s = after rules w.s (frame p.at w.skipped here); before = w.before ++ r ∷ []; reports = reports; many = many; counted = ap (λ n. n + 1) w.counted; cut_is = w.cut_is ∙ ap cut_of met }
     walks p founds.Dummy e h walked = let w = walked (omega arith) in goes p (past mode p founds.Dummy) w w.skipped refl (dummy_move p w.skipped e)
     walks p founds.Nothing e h walked = let w = walked (omega arith) in goes p (past mode p founds.Nothing) w (extended w.skipped p.at 1) refl (next_move p w.skipped e (omega arith))
 
     walk : (n : ℕ) → (stands link tuning stream n).at ≤ length stream → Walk (stands link tuning stream n)
-    walk zero h = record { skipped = no_gap; s = at_start; before = []; reports = refl; many = refl; cut_is = refl }
+    walk zero h = record { skipped = no_gap; s = at_start; before = []; reports = refl; many = refl; counted = refl; cut_is = refl }
     walk (suc n) h = walks (stands link tuning stream n) (found_at link tuning stream (stands link tuning stream n)) refl h (walk n)
 
-    -- where it stands at a whole frame, the next report is that frame's
+    -- where it stands at a frame, the next report is that frame's
+    pub at_coded : (n : ℕ) → IsFrameAt link tuning stream (stands link tuning stream n)
+        → IsNext (reports_of rules at_start first) (stands link tuning stream n) (λ r. r ≡ report_at link tuning stream (stands link tuning stream n))
+    at_coded n (here, long) =
+        let p = stands link tuning stream n in
+        let d = frame_decision link tuning (frame_from link stream p.at) in
+        let w = walk n (omega arith) in
+        let told : report_of rules w.s.totals p.at (frame_from link stream p.at) ≡ report_at link tuning stream p =
+        λ i. record { number = w.counted i + 1; at = p.at; verdict = d.verdict; outcome = d.outcome; figures = d.figures } in
+        (w.before, report_of rules w.s.totals p.at (frame_from link stream p.at), _, w.reports ∙ ap (λ l. w.before ++ reports_of rules w.s l) (coded_move p w.skipped here long), w.many, refl, told)
+
+    -- so it does at a whole frame with a header that passes there
     pub at_frame : (n : ℕ) (so : Report → Type 0) → IsWholeFrame link tuning (stands link tuning stream n).behind (frame_from link stream (stands link tuning stream n).at)
-        → ((s : Standing) → so (report_of rules s.totals (stands link tuning stream n).at (frame_from link stream (stands link tuning stream n).at)))
-        → IsNext (reports_of rules at_start first) (stands link tuning stream n) so
-    at_frame n so whole each =
+        → so (report_at link tuning stream (stands link tuning stream n)) → IsNext (reports_of rules at_start first) (stands link tuning stream n) so
+    at_frame n so whole holds =
         let p = stands link tuning stream n in
         let least = symbols_least mode in
         let all = left p in
         let enough : size ≤ length all = omega (arith, whole.0, length-take size all) in
         let long : p.at + size ≤ length stream = omega (arith, length-drop p.at stream) in
         let here : found_at link tuning stream p ≡ founds.Coded = cond-true _ _ _ (le-leb 90 (length all) (omega arith)) ∙ sym (ap (finds p.behind) (take-take 90 size all least)) ∙ whole.1 in
-        let w = walk n (omega arith) in
-        (w.before, report_of rules w.s.totals p.at (frame_from link stream p.at), _, w.reports ∙ ap (λ l. w.before ++ reports_of rules w.s l) (coded_move p w.skipped here long), w.many, refl, each w.s)
+        next_so (reports_of rules at_start first) p (report_at link tuning stream p) so (at_coded n (here, long)) holds
 
     -- and where it stands at a frame that is cut, that one's line tells how many symbols were there
     pub at_cut : (n : ℕ) → IsCutAt link tuning stream (stands link tuning stream n) → cut_of first ≡ cut_line (stands link tuning stream n).at (length stream - (stands link tuning stream n).at)

@@ -1,7 +1,7 @@
 -- The headline (EN 302 307-1, 5.1 to 5.5): the promise of a receiver of a link for a whole stream, for the packets and
 -- the report that it writes. It is the clause `headline` of `demodulate`, and of `Receiver::run` for a new receiver and
 -- a reader whose bytes are known, if the call returns no fault. `laws::headline` says it of a caller that takes all
--- steps one by one.
+-- steps one by one, and `laws::calls` of a caller of `Receiver::advance`.
 use Rattle.std.specs.Prelude.{◌≡◌, ℕ, zero, suc, ◌+◌, ◌-◌, ◌<◌, ◌≤◌, ◌⊎◌, IsTrue, Bool, true, false, List, [], ◌∷◌, ◌++◌, All, length, map, take, drop, count_by, None, IfSome, Result, OnOk}
 use Rattle.std.specs.List.{flat_map, range_with_len}
 use Rattle.std.specs.Io.KnownBytes.{Appends}
@@ -25,6 +25,7 @@ use Rattle.s2_send.specs.Frames.{IsCodewordFor}
 use Rattle.s2_send.specs.Laws.{IsLinkOf}
 use Rattle.s2_receive.specs.Windows.{found_as}
 use Rattle.s2_receive.specs.ReportLines.{frame_line, cut_line, end_line}
+use Rattle.s2_receive.specs.Calls.{Call, CallsToEnd, call_lines, call_packets, in_memory}
 use Rattle.s2_receive.specs.Receiving.{State, Decision, RunsOut, begun}
 use Rattle.s2_receive.specs.Meeting.{no_gap, begins, met_from}
 use Rattle.s2_receive.specs.Laws.{Piece, joined, stream_symbols, events_of}
@@ -33,7 +34,7 @@ use Rattle.s2_receive.specs.declared.report.Outcome.TheVariants.{Delivered}
 use Rattle.s2_receive.specs.declared.report.Report.{Report}
 use Rattle.s2_receive.specs.declared.report.Totals.{Totals}
 use Rattle.s2_modem.specs.Reports.{frame_soft, frame_decision, received_word}
-use Rattle.s2_modem.specs.Reception.{Receiver, IsAsLikely, AllAsLikely, IsCorrected, AllTold, link_rules}
+use Rattle.s2_modem.specs.Reception.{Receiver, ReceivesTotals, IsAsLikely, AllAsLikely, IsCorrected, AllTold, link_rules, rules_for, seen}
 use Rattle.s2_modem.specs.Both.{AreBytes}
 use Rattle.s2_modem.specs.Streams.{IsWholeFrame, IsClear, AreEach}
 use Rattle.s2_modem.specs.Headline.{IsSent}
@@ -72,6 +73,10 @@ abbrev pub stands : Link → Tuning → List Symbol → (moves : ℕ) → Place
 stands link tuning symbols zero = record { at = 0; frames = 0; behind = false }
 stands link tuning symbols (suc moves) = past link.setup.mode (stands link tuning symbols moves) (found_at link tuning symbols (stands link tuning symbols moves))
 
+-- the header of a coded frame passes there, and all symbols of the frame are there
+abbrev pub IsFrameAt : Link → Tuning → List Symbol → Place → Type 0
+IsFrameAt link tuning symbols place = (found_at link tuning symbols place ≡ founds.Coded) × (place.at + symbols_in link.setup.mode ≤ length symbols)
+
 -- the header of a coded frame passes there, and fewer symbols are left than a frame has
 abbrev pub IsCutAt : Link → Tuning → List Symbol → Place → Type 0
 IsCutAt link tuning symbols place = (found_at link tuning symbols place ≡ founds.Coded) × (length symbols < place.at + symbols_in link.setup.mode)
@@ -107,6 +112,13 @@ abbrev pub closed_packets : (packets fields : List (List ℕ)) → List ℕ
 closed_packets packets fields = joined (take (closed_in (length (joined fields))) packets)
 
 -- ---- the report
+
+-- the report of the frame at a place: its number and its first symbol, and verdict, outcome and figures as they are
+-- decided on its symbols
+abbrev pub report_at : Link → Tuning → List Symbol → Place → Report
+report_at link tuning symbols place =
+    let d = decision_from link tuning symbols place.at in
+    record { number = place.frames + 1; at = place.at; verdict = d.verdict; outcome = d.outcome; figures = d.figures }
 
 -- the line with this number is that of a frame at this symbol, and this fact holds for it
 abbrev pub IsNext : List Report → Place → (Report → Type 0) → Type 0
@@ -148,19 +160,25 @@ pub record Headline (link : Link) (tuning : Tuning) (symbols : List Symbol) (pac
   -- The report has a line for each frame, then one for a cut frame, exactly if there is one, then the last line. The
   -- packets are exactly those that the joiner gives of the whole stream
   pub closing : IsReport link tuning symbols packets report frames
+  -- Each of these lines is that of a coded frame of the search: its number, its first symbol, and what is decided on its
+  -- symbols. And each coded frame of the search has its line, in this order
+  pub found : All (λ frame. (moves : ℕ) × IsFrameAt link tuning symbols (stands link tuning symbols moves) × (frame ≡ report_at link tuning symbols (stands link tuning symbols moves))) frames
+  pub each : (moves : ℕ) → let place = stands link tuning symbols moves in IsFrameAt link tuning symbols place → IsNext frames place (λ frame. frame ≡ report_at link tuning symbols place)
   -- If a line says most likely or sole, the frame's decided bits are a codeword of the link's rows, and no codeword
   -- costs less under its soft values. If it says sole, every other codeword costs more
   pub likely : All (λ frame. IsAsLikely (code_of link.rows) (frame_soft link tuning (frame_from link symbols frame.at)) frame.verdict (decision_from link tuning symbols frame.at).bits) frames
   -- If a line says `fixed C`, the BCH word of the frame's message differs from its first Nbch decided bits in exactly C
-  -- places, at most t. If no BCH word is found, none is within t places
+  -- places, at most t, and the header in the message is accepted. If it says `lost`, this header is refused, or no BCH
+  -- word is within t places
   pub within : All (λ frame. IsCorrected link.setup.mode (decision_from link tuning symbols frame.at) frame.outcome) frames
   -- If the search is at a frame that was sent, the next line is that of this frame, at this symbol, whatever came
-  -- before and whatever follows. If the frame came clear, the line says that it is certified, and `fixed 0`. If a
-  -- header passes there and the first Nbch decided bits differ from the BCH word that was sent in at most t places, it
-  -- is delivered with exactly that number
+  -- before and whatever follows. If the frame came clear, the decided bits are the codeword that was sent, and the line
+  -- says that it is certified, and `fixed 0`. If a header passes there and the first Nbch decided bits differ from the
+  -- BCH word that was sent in at most t places, it is delivered with exactly that number
   pub aligned : (moves byte : ℕ) (field : List ℕ) (codeword : List Bool) (sent : IsSent link.setup.mode link byte field codeword)
       → let place = stands link tuning symbols moves in let here = frame_from link symbols place.at in let wrong = wrong_bits link tuning here sent.codeword_is.bch_word in
-      (IsClear link tuning place.behind codeword here → IsNext frames place (λ frame. IsTrue (is_certified frame.verdict) × (frame.outcome ≡ Delivered 0)))
+      (IsClear link tuning place.behind codeword here
+      → IsNext frames place (λ frame. IsTrue (is_certified frame.verdict) × (frame.outcome ≡ Delivered 0) × ((decision_from link tuning symbols frame.at).bits ≡ codeword)))
       × (IsWholeFrame link tuning place.behind here → wrong ≤ t_of link.setup.mode → IsNext frames place (λ frame. frame.outcome ≡ Delivered wrong))
   -- The symbols may begin with the first frames that a transmitter of the link makes of some packets, with or without
   -- dummy frames. Then the packets written begin with exactly those whose closing CRC-8 is in the data fields of these
@@ -179,6 +197,19 @@ IsHeadline link tuning before behind =
 -- the same for a run from a new receiver to the end
 abbrev pub RunsHeadline : {T E : Type 0} → Receiver → (before behind : Streams) → Result T E → Type 0
 RunsHeadline r before behind result = OnOk result (r.state ≡ begun → IsHeadline r.link r.tuning before behind)
+
+-- calls of `Receiver::advance` up to the end of some bytes: all symbols were received, with these totals, and the
+-- headline holds of the packets and of the lines of their steps
+pub record CallsArrive (r : Receiver) (bytes : List ℕ) (calls : List Call) : Type 0 where
+  pub totals : Totals
+  pub received : ReceivesTotals (rules_for r) (in_memory bytes [] []) (in_memory [] (call_packets calls) (call_lines calls)) totals
+  pub headline : Headline r.link r.tuning (symbols_of bytes) (call_packets calls) (call_lines calls)
+
+-- it does for each new receiver of a link, with each divisor
+abbrev pub CallsLaw : Mode → Type 0
+CallsLaw m =
+    (r : Receiver) (bytes : List ℕ) (calls : List Call) → IsLinkOf m r.link → r.link.setup.roll_off ≤ max_roll_off → IsDivisor r.tuning.divisor → r.state ≡ begun → CallsToEnd (seen r) bytes calls
+    → CallsArrive r bytes calls
 
 -- the headline holds for every run by the link's rules from the beginning to the end
 abbrev pub KeepsHeadline : Link → Tuning → Type 0

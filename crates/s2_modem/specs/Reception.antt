@@ -1,5 +1,5 @@
 -- The input, the report and the output of a receiver of a link, and the setups that it refuses (EN 302 307-1, 5.1 to 5.5).
-use Rattle.std.specs.Prelude.{◌≡◌, IsTrue, ℕ, ℤ, Bool, if◌then◌else◌, List, Option, None, Result, Ok, Err}
+use Rattle.std.specs.Prelude.{◌≡◌, IsTrue, ℕ, ℤ, Bool, if◌then◌else◌, List, Option, Some, None, Result, Ok, Err}
 use Rattle.s2_mode.specs.Mode.{Mode, k_of, symbols_in}
 use Rattle.s2_mode.specs.Streams.{Streams}
 use Rattle.s2_mode.specs.declared.symbols.Symbol.{Symbol}
@@ -11,6 +11,7 @@ use Rattle.s2_check.specs.Verdicts.{is_certified}
 use Rattle.s2_check.specs.Views.{View}
 use Rattle.s2_check.specs.declared.verdict.Verdict.{Verdict}
 use Rattle.s2_check.specs.declared.verdict.Verdict.TheVariants.{Sole}
+use Rattle.s2_receive.specs.Parts.{IsSaidBy}
 use Rattle.s2_receive.specs.Receiving.{Rules, State, Decision, begun, is_at_frame}
 use Rattle.s2_receive.specs.Answers.{Seen, RunAnswers, ReceivesTo, BreaksIn}
 use Rattle.s2_receive.specs.Sinks.{Taking, RunAnswersWith}
@@ -29,9 +30,12 @@ use Rattle.s2_receive.specs.Windows.{found_as}
 use Rattle.s2_judge.specs.Deciding.{IsShown}
 use Rattle.s2_bits.specs.Bits.{differences}
 use Rattle.s2_bch.specs.Codes.{IsWithin}
+use Rattle.s2_bbframe.specs.Headers.{header_of_bytes}
+use Rattle.s2_bbframe.specs.declared.header.Header.{Header}
+use Rattle.s2_scramble.specs.Baseband.{scrambled}
 use Rattle.s2_receive.specs.declared.report.Outcome.{Outcome}
 use Rattle.s2_receive.specs.declared.report.Outcome.TheVariants.{Delivered, NoWord, BadHeader}
-use Rattle.s2_modem.specs.Reports.{frame_soft, frame_decision, received_word, message_of, IsUndecided}
+use Rattle.s2_modem.specs.Reports.{frame_soft, frame_decision, received_word, message_of, header_in, field_in, IsUndecided}
 
 -- a link's rules: its header, its frame size, the decision on its frames, and the limit of symbols
 abbrev pub link_rules : Link → Tuning → ℕ → Rules
@@ -84,19 +88,24 @@ AllAsLikely link tuning =
 abbrev pub IsCertifiedBy : Rows → Verdict → Decision → Type 0
 IsCertifiedBy rows verdict d = IsShown rows d.soft (record { verdict = verdict; bits = d.bits; certificate = d.certificate })
 
--- The outcome of a frame follows from BCH decoding of its first Nbch decided bits. It finds a word of the code that
--- differs from them in exactly the reported number of places, at most t, and begins with the message. Or there is none
--- within t places
+-- The outcome of a frame follows from BCH decoding of its first Nbch decided bits, and from the header in the message.
+-- `fixed C`: there is a word of the code that differs from these bits in exactly C places, at most t, and begins with
+-- the message. The message's header is accepted, and its data field is delivered. `lost`: there is such a word, but the
+-- header in its message is refused; or there is none within t places
 abbrev pub IsCorrected : Mode → Decision → Outcome → Type 0
 IsCorrected m d (Delivered fixed) =
     (word : List Bool) × IsWithin m (received_word m d.bits) word × (d.message ≡ message_of m word) × (fixed ≡ differences (k_of m) (received_word m d.bits) word)
-IsCorrected m d (BadHeader fault) = (word : List Bool) × IsWithin m (received_word m d.bits) word × (d.message ≡ message_of m word)
-IsCorrected m d NoWord = (word : List Bool) → IsWithin m (received_word m d.bits) word → ⊥
+    × ((header : Header) × (header_of_bytes m (header_in (scrambled d.message)) ≡ Ok header) × (d.delivered ≡ Some (header, field_in header (scrambled d.message))))
+IsCorrected m d (BadHeader fault) =
+    (word : List Bool) × IsWithin m (received_word m d.bits) word × (d.message ≡ message_of m word)
+    × (header_of_bytes m (header_in (scrambled d.message)) ≡ Err fault) × (d.delivered ≡ None)
+IsCorrected m d NoWord = ((word : List Bool) → IsWithin m (received_word m d.bits) word → ⊥) × (d.delivered ≡ None)
 
--- the report of a frame is true
+-- the report of a frame is true, and its message says what is delivered
 pub record IsTold (link : Link) (verdict : Verdict) (outcome : Outcome) (d : Decision) : Type 0 where
   pub certified : IsCertifiedBy link.rows verdict d
   pub within : IsCorrected link.setup.mode d outcome
+  pub said : IsSaidBy link.setup.mode d.message d.delivered
 
 -- it is true for any frame's symbols
 abbrev pub AllTold : Link → Tuning → Type 0

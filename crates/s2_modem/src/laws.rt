@@ -2,7 +2,7 @@
 ghost use Rattle.s2_modem.specs.Front.{CleanFrameLaw};
 ghost use Rattle.s2_modem.specs.Headline.{LikelyFrameLaw, SoleFrameLaw, BothCodesLaw, ScatteredFrameLaw, ReceivesAllLaw, ArrivalLaw};
 ghost use Rattle.s2_modem.specs.Streams.{FirstFramesLaw, OneStreamLaw};
-ghost use Rattle.s2_modem.specs.Promise.{FramesLaw, HeadlineLaw};
+ghost use Rattle.s2_modem.specs.Promise.{CallsLaw, FramesLaw, HeadlineLaw};
 
 use s2_mode::Mode;
 pub use s2_send::laws::{no_dummies, one_frame, one_run};
@@ -87,6 +87,16 @@ pub fn first_frames(mode: Mode)
 /// ([`s2_receive::laws::two_runs`]).
 pub fn headline(mode: Mode)
     ensures { HeadlineLaw mode }
+{
+    let _ = mode.k();
+}
+
+/// Calls of [`crate::Receiver::advance`] of a new receiver, up to the end of some bytes, come to what
+/// [`crate::demodulate`] does: the same packets and totals, and the headline. Each call gets the number of bytes that
+/// [`crate::Receiver::room`] returns, or all that are left. So a caller that reads and writes by itself has what is
+/// promised of a whole run.
+pub fn calls(mode: Mode)
+    ensures { CallsLaw mode }
 {
     let _ = mode.k();
 }

@@ -1,5 +1,5 @@
 //! The receiver of one link.
-ghost use Rattle.std.specs.Prelude.{◌≡◌, ◌*◌, ◌≤◌, None, IfOk, OnErr, IsErrOf, length};
+ghost use Rattle.std.specs.Prelude.{◌≡◌, ◌*◌, ◌<◌, ◌≤◌, None, IfOk, OnErr, IsErrOf, length};
 ghost use Rattle.s2_mode.specs.Counts.{CanCount};
 ghost use Rattle.s2_mode.specs.Limits.{max_symbols};
 ghost use Rattle.s2_mode.specs.Mode.{symbols_in};
@@ -151,6 +151,8 @@ impl<'a> Receiver<'a> {
     pub fn room(&self) -> usize
         ensures is { result ≡ asked (rules_for self.now) self.now.state }
         ensures few { result ≤ 4 * symbols_in self.now.link.setup.mode }
+        ensures held { (length self.now.state.window.symbols < symbols_in self.now.link.setup.mode)
+            × (taken self.now.state ≤ self.now.limit) }
     {
         self.inner.room()
     }

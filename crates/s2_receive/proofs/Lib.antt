@@ -8,6 +8,7 @@ pub mod ReadLemmas
 pub mod NextLemmas
 pub mod SinkFolds
 pub mod RunLemmas
+pub mod CallLemmas
 pub mod JoinLemmas
 pub mod FieldPlaces
 pub mod Reception

@@ -1,5 +1,5 @@
 -- What known bytes spell determines what is met.
-use Rattle.s2_receive.proofs.Names.{◌≡◌, ℕ, List, [], ◌∷◌, ◌++◌, Option, Some, None, refl, sym, ap, ◌∙◌, subst, append-nil, Streams, Symbol, Met, Window, met_within, Meets, Rules, State, Processed, left_by, left_in, left_known, met_left, after, step_of, phase_after, HasGiven, SameRunLaw, SameStepLaw, SpellSymbols, Phase}
+use Rattle.s2_receive.proofs.Names.{◌≡◌, ℕ, false, List, [], ◌∷◌, ◌++◌, Option, Some, None, refl, sym, ap, ◌∙◌, subst, append-nil, Streams, Symbol, Met, no_gap, met_from, begun, Window, met_within, Meets, Rules, State, Processed, left_by, left_in, left_known, met_left, after, step_of, phase_after, HasGiven, SameRunLaw, SameStepLaw, SpellSymbols, Phase}
 use Rattle.s2_receive.proofs.Names.phases
 
 module _ (rules : Rules) where
@@ -59,3 +59,11 @@ same_step rules old first second symbols before behind other_before other_behind
         subst (λ m. HasGiven rules old second other_before other_behind (m ∷ [])) same (given rules old second other_before other_behind (met' ∷ []) processed'),
       ),
     )
+
+-- a new receiver that came to the end met all that is in known symbols
+pub all_met : (rules : Rules) (symbols : List Symbol) (new : State) (taken left : Option (List ℕ)) (met : List Met) → SpellSymbols taken symbols → new.phase ≡ phases.Ended
+    → Meets (left_in rules begun taken) (left_in rules new left) met → met_from rules.finds rules.size 0 0 false no_gap symbols ≡ met
+all_met rules symbols new None left met spelt phase h = absurd spelt
+all_met rules symbols new (Some bytes) left met spelt phase h =
+    let whole = subst (λ x. Meets (left_in rules begun (Some bytes)) (left_known rules x new.window left) met) phase h in
+    ap (met_from rules.finds rules.size 0 0 false no_gap) (sym spelt) ∙ whole ∙ append-nil met

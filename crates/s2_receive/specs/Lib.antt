@@ -9,6 +9,7 @@ pub mod Parts
 pub mod Stepping
 pub mod Telling
 pub mod Laws
+pub mod Calls
 pub mod Windows
 pub mod ReportLines
 pub use Rattle.s2_mode.specs.Symbols

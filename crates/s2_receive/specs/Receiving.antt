@@ -314,7 +314,8 @@ pub record Steps (rules : Rules) (old new : State) (symbols : List Symbol) (whol
   pub ends : EndsAt rules.size met (taken new)
   pub decided : IsDecided rules met last
 
--- No step yet: all wanted symbols came, and nothing is met in them. They were taken.
+-- No step yet: all wanted symbols came, and nothing is met in them. They were taken. Fewer symbols are held now than a
+-- frame has, so that the receiver wants more of them, unless its limit is reached.
 pub record Waits (rules : Rules) (old new : State) (symbols : List Symbol) (whole : Bool) : Type 0 where
   pub all : whole ≡ true
   pub searching : old.phase ≡ phases.Searching
@@ -322,6 +323,7 @@ pub record Waits (rules : Rules) (old new : State) (symbols : List Symbol) (whol
   pub standing : new.standing ≡ old.standing
   pub spell : YieldsMet rules old new symbols true []
   pub taken_are : taken new ≡ taken old + length symbols
+  pub few : length new.window.symbols < rules.size
 
 -- ---- reads and writes
 

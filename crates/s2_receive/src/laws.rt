@@ -1,4 +1,5 @@
 //! Laws, which follow from the definitions alone. Each is the clause of a call that does nothing.
+ghost use Rattle.s2_receive.specs.Calls.{CallsLaw};
 ghost use Rattle.s2_receive.specs.Laws.{JoiningLaw, ReceptionLaw, FrontLaw, SearchLaw, SameRunLaw, SameStepLaw, TwoRunsLaw};
 
 /// The packets written are those of all fields and gaps that came to the joiner, one after another. The totals
@@ -36,4 +37,11 @@ pub fn same_bytes()
 /// Two runs in a row are one run. So single steps give the same as a run to the end.
 pub fn two_runs()
     ensures { TwoRunsLaw }
+{}
+
+/// Calls of [`crate::Receiver::advance`] up to the end are one run to the end. Each gets the number of bytes that
+/// [`crate::Receiver::room`] returns, or all that are left. The packets after each step, and the lines of the steps, are
+/// those of [`crate::receive_all`]. So a caller that reads and writes by itself has what is promised of a run.
+pub fn calls()
+    ensures { CallsLaw }
 {}

@@ -6,3 +6,4 @@ pub mod ValueLines
 pub mod Written
 pub mod BothEnds
 pub mod ReadBack
+pub mod JoinedBack

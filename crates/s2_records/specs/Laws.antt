@@ -1,16 +1,17 @@
 -- Laws of records, which follow from the definitions alone (own).
-use Rattle.std.specs.Prelude.{◌≡◌, ℕ, ◌/◌, Bool, true, List, length, take, drop, All, ℤ, Option, Some, None, Ok, IsErr, ⊤}
+use Rattle.std.specs.Prelude.{◌≡◌, ℕ, ◌/◌, Bool, true, List, length, All, ℤ, Option, Ok}
 use Rattle.std.specs.List.{flat_map}
 use Rattle.std.specs.Io.KnownBytes.{Appends}
 use Rattle.s2_mode.specs.Mode.{Mode, IsMode, kbch_of}
-use Rattle.s2_bits.specs.Bits.{bytes_from}
-use Rattle.s2_bbframe.specs.Headers.{header_of_bytes}
-use Rattle.s2_bbframe.specs.declared.header.Header.{Header}
+use Rattle.s2_mode.specs.Streams.{Streams}
+use Rattle.s2_mode.specs.declared.symbols.Symbol.{Symbol}
 use Rattle.s2_certfile.specs.File.{IsSoft}
 use Rattle.s2_rows.specs.Values.{values_of_text}
-use Rattle.s2_scramble.specs.Baseband.{scrambled}
-use Rattle.s2_receive.specs.Receiving.{Decision}
-use Rattle.s2_receive.specs.Sinks.{TakesFrames}
+use Rattle.s2_receive.specs.Laws.{SpellSymbols}
+use Rattle.s2_receive.specs.Parts.{IsSaidBy}
+use Rattle.s2_receive.specs.Receiving.{Decision, Rules, RunsOut, State, begun}
+use Rattle.s2_receive.specs.Sinks.{TakesFrames, frames_of}
+use Rattle.s2_join.specs.Frames.{delivered_in, packets_in}
 use Rattle.s2_records.specs.Values.{values_line}
 use Rattle.s2_records.specs.Records.{Gains, GainsBbframe, Framing, gap_bytes, message_bytes, bbframe_bytes}
 
@@ -40,20 +41,16 @@ WholeLaw = (m : Mode) (decision : Decision) → IsMode m → (length (message_by
 abbrev pub ValuesLaw : Type 0
 ValuesLaw = (soft : List ℤ) → All IsSoft soft → values_of_text (values_line soft) (length soft) ≡ Ok soft
 
--- a message of Kbch bits says this header, and after it this data field; a frame that was not delivered may have any
--- message
-abbrev pub IsSaidBy : Mode → List Bool → Option (Header × List ℕ) → Type 0
-IsSaidBy m message None = ⊤
-IsSaidBy m message (Some (header, bytes)) =
-    (length message ≡ kbch_of m) × (header_of_bytes m (bytes_from 0 10 (scrambled message)) ≡ Ok header) × (bytes ≡ bytes_from 10 (header.dfl / 8) (scrambled message))
-
--- the bytes of a BBFRAME begin with this header, and after its ten bytes comes this data field; or the header is
--- refused
-abbrev pub IsReadAs : Mode → List ℕ → Option (Header × List ℕ) → Type 0
-IsReadAs m frame None = IsErr (header_of_bytes m (take 10 frame))
-IsReadAs m frame (Some (header, bytes)) =
-    (header_of_bytes m (take 10 frame) ≡ Ok header) × (take (header.dfl / 8) (drop 10 frame) ≡ bytes)
-
--- the record of a frame is read as what the frame delivered: its header and its data field, or a refused header
+-- If a frame's message says what the frame delivered, this is what `join` reads from its record: the header with the data
+-- field, or a refused header
 abbrev pub ReadBackLaw : Type 0
-ReadBackLaw = (m : Mode) (decision : Decision) → IsMode m → IsSaidBy m decision.message decision.delivered → IsReadAs m (message_bytes m decision) decision.delivered
+ReadBackLaw = (m : Mode) (decision : Decision) → IsMode m → IsSaidBy m decision.message decision.delivered → delivered_in m (message_bytes m decision) ≡ decision.delivered
+
+-- A new receiver met all of known symbols, up to the end, and a file has the BBFRAMEs of all frames that it met. Then the
+-- packets of this file, as `join` writes them, are exactly those that the receiver wrote. Each frame's message must say
+-- what the frame delivered
+abbrev pub JoinedLaw : Type 0
+JoinedLaw =
+    (m : Mode) (rules : Rules) (new : State) (before behind : Streams) (symbols : List Symbol) → IsMode m
+    → ((frame : List Symbol) → IsSaidBy m (rules.decide frame).message (rules.decide frame).delivered) → SpellSymbols before.taken symbols
+    → (run : RunsOut rules begun new before behind) → Appends before.given behind.given (packets_in m (bbframes_of m (frames_of rules run.1.0)))

@@ -1,5 +1,5 @@
 //! Laws of the definitions: each a call that does nothing, whose clause is the law.
-ghost use Rattle.s2_records.specs.Laws.{BbframesLaw, ReadBackLaw, RecordsLaw, ValuesLaw, WholeLaw};
+ghost use Rattle.s2_records.specs.Laws.{BbframesLaw, JoinedLaw, ReadBackLaw, RecordsLaw, ValuesLaw, WholeLaw};
 ghost use Rattle.s2_records.specs.Sent.{BothEndsLaw, SentLaw, WordsLaw};
 
 use s2_mode::CountedWrite;
@@ -25,10 +25,17 @@ pub fn values()
     ensures { ValuesLaw }
 {}
 
-/// The BBFRAME of a delivered frame begins with the delivered header, and its data field follows. That of another frame
-/// has a refused header. So a file of them is joined as the receiver did.
+/// `join` reads from the BBFRAME of a delivered frame the delivered header and data field, and from that of another frame
+/// a refused header. The frame's message must say what is delivered, as every frame's of `s2_modem` does
+/// (`s2_modem::laws::frames`).
 pub fn read_back()
     ensures { ReadBackLaw }
+{}
+
+/// The packets of `join` over the BBFRAMEs of all frames that a receiver met are exactly the packets that the receiver
+/// wrote. The receiver was new, came to the end, and the bytes of its stream are known. So a file of BBFRAMEs loses nothing.
+pub fn joined()
+    ensures { JoinedLaw }
 {}
 
 /// A sink of a transmitter that took codewords has written them, one after another.

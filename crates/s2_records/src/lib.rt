@@ -10,8 +10,9 @@
 //! their BBFRAMEs ([`laws::words`], [`laws::sent`]). A receiver that delivers such a frame writes the same bytes
 //! ([`laws::both_ends`]).
 //!
-//! A BBFRAME that was not delivered is replaced by zeros, so a file of them has whole BBFRAMEs ([`laws::whole`]). A line
-//! of values is read as these values ([`laws::values`]).
+//! A BBFRAME that was not delivered is replaced by zeros, so a file of them has whole BBFRAMEs ([`laws::whole`]). `join`
+//! makes of this file exactly the packets that the receiver wrote ([`laws::joined`]). A line of values is read as these
+//! values ([`laws::values`]).
 //!
 //! Only `new` allocates. A line, a word and a BBFRAME of the mode each take one write.
 //!
