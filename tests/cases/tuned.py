@@ -17,12 +17,15 @@ CHANNELS = {
 # Numbers of the rules, those of settling as bench/settle/shares.py has them, and the definitions to which the code's constants are proved
 # equal. No report was found that differs for a change of each.
 DEFINED = {
-    "s2_words/specs/Tuned.antt": {"best_max_header_errors": LOCK, "best_divisor": DIVISOR, "best_passes": PASSES},
+    "s2_tuning/specs/Best.antt": {"best_max_header_errors": LOCK},
     "s2_settle/specs/Plain.antt": {
         "settling_scale": 16, "first_reserve": 256, "full_passes": 2, "fall_part": 320, "least_fall": 12, "max_fall": 64,
         "bits_a_few": 200, "first_end": 3, "growth_part": 64, "max_served": 4000,
     },
 }  # fmt: skip
+
+# The definitions of the best settings, a line for each code.
+BEST = "s2_tuning/specs/Best.antt"
 
 # QPSK 1/3, short frames, rows of weight 4: seed and level of the noise, and a number of passes that certifies fewer frames than 96 do.
 PASSING = [(7175, 843, 48)]
@@ -35,6 +38,11 @@ def best(modcod):
 
 def words(factor, passes=PASSES):
     return f"--lock {LOCK} --divisor {DIVISOR} --passes {passes} --factor {factor}"
+
+
+def lines():
+    """The best settings of MODCOD 1 to 17, of normal frames and then of short ones: factor, divisor and passes."""
+    return 2 * [(best(modcod), DIVISOR, PASSES) for modcod in CHANNELS]
 
 
 def links():

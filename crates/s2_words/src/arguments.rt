@@ -21,41 +21,28 @@ pub(crate) const DEFAULT_FACTOR_TEXT: &str = "12";
 /// The decimal digits of the default lock.
 pub(crate) const DEFAULT_LOCK_TEXT: &str = "12";
 
-/// The form of an option on the command line.
+/// The value of an option.
+#[derive(Clone, Copy)]
+pub(crate) struct Value {
+    /// Its name in the help.
+    pub name: &'static str,
+    pub allowed: ValueParser<'static>,
+    pub default: Option<&'static str>,
+    /// Whether the option must be given.
+    pub is_required: bool,
+    /// Whether it may begin with a minus.
+    pub is_signed: bool,
+    /// Whether a value that is no number is interpreted by the reader, or refused with those that are accepted.
+    pub has_names: bool,
+}
+
+/// The form of an argument on the command line.
 #[derive(Clone, Copy)]
 pub(crate) enum Form {
     /// `--name`.
     Flag,
-    /// `--name`, which excludes this other option.
-    FlagWithout(&'static str),
-    /// `--name VALUE`, a number in a range or of a list. It is required if it has no default.
-    Number {
-        value: &'static str,
-        allowed: ValueParser<'static>,
-        default: Option<&'static str>,
-    },
-    /// The same. If the value is not a number, the reader interprets it, or reports which values are accepted.
-    NumberOrText {
-        value: &'static str,
-        allowed: ValueParser<'static>,
-        default: Option<&'static str>,
-    },
-    /// `--name VALUE`, a number in a range, which may be left out.
-    NamedNumber {
-        value: &'static str,
-        allowed: ValueParser<'static>,
-    },
-    /// The same. If the value is not a number, the reader interprets it, or reports which values are accepted.
-    NamedNumberOrText {
-        value: &'static str,
-        allowed: ValueParser<'static>,
-    },
-    /// `--name VALUE`, which the reader interprets, and which may be left out. It may begin with a minus.
-    NamedText {
-        value: &'static str,
-    },
-    /// `--name FILE`.
-    NamedFile,
+    /// `--name VALUE`.
+    Valued(Value),
     /// A file, by its place.
     File,
 }
@@ -68,90 +55,113 @@ pub(crate) struct Argument {
     pub help: &'static str,
 }
 
+/// The name of a file, which may be left out.
+const FILE: Value = Value {
+    name: "FILE",
+    allowed: ValueParser::String,
+    default: None,
+    is_required: false,
+    is_signed: false,
+    has_names: false,
+};
+
 /// Any number of 64 bits.
 const ANY: ValueParser<'static> = ValueParser::Unsigned(0, u64::MAX);
 
 pub(crate) const GROUP: Argument = Argument {
     name: "group",
-    form: Form::Number {
-        value: "G",
+    form: Form::Valued(Value {
+        name: "G",
         allowed: ValueParser::Signed(1, MAX_GROUP as i64),
-        default: None,
-    },
+        is_required: true,
+        ..FILE
+    }),
     help: "Bits of a group, 1 to 360",
 };
 
 pub(crate) const GROUPS: Argument = Argument {
     name: "groups",
-    form: Form::Number {
-        value: "N",
+    form: Form::Valued(Value {
+        name: "N",
         allowed: ValueParser::Signed(1, MAX_BITS as i64 - 1),
-        default: None,
-    },
+        is_required: true,
+        ..FILE
+    }),
     help: "Groups of information bits, 1 to 64799",
 };
 
 pub(crate) const Q: Argument = Argument {
     name: "q",
-    form: Form::Number {
-        value: "Q",
+    form: Form::Valued(Value {
+        name: "Q",
         allowed: ValueParser::Signed(1, MAX_BITS as i64 - 1),
-        default: None,
-    },
+        is_required: true,
+        ..FILE
+    }),
     help: "Checks by which a group's next bit moves on, 1 to 64799",
 };
 
 /// The numbers of a shape, for a command that takes a mode in their place.
 pub(crate) const GROUP_OR_MODE: Argument = Argument {
-    form: Form::NamedNumber {
-        value: "G",
+    form: Form::Valued(Value {
+        name: "G",
         allowed: ValueParser::Signed(1, MAX_GROUP as i64),
-    },
+        ..FILE
+    }),
     ..GROUP
 };
 
 pub(crate) const GROUPS_OR_MODE: Argument = Argument {
-    form: Form::NamedNumber {
-        value: "N",
+    form: Form::Valued(Value {
+        name: "N",
         allowed: ValueParser::Signed(1, MAX_BITS as i64 - 1),
-    },
+        ..FILE
+    }),
     ..GROUPS
 };
 
 pub(crate) const Q_OR_MODE: Argument = Argument {
-    form: Form::NamedNumber {
-        value: "Q",
+    form: Form::Valued(Value {
+        name: "Q",
         allowed: ValueParser::Signed(1, MAX_BITS as i64 - 1),
-    },
+        ..FILE
+    }),
     ..Q
 };
 
 pub(crate) const WEIGHT: Argument = Argument {
     name: "weight",
-    form: Form::Number {
-        value: "W",
+    form: Form::Valued(Value {
+        name: "W",
         allowed: ValueParser::Signed(1, MAX_ADDRESSES as i64),
-        default: None,
-    },
+        is_required: true,
+        ..FILE
+    }),
     help: "Addresses of each row, 1 to 24",
 };
 
 pub(crate) const MODCOD: Argument = Argument {
     name: "modcod",
-    form: Form::NumberOrText {
-        value: "M",
+    form: Form::Valued(Value {
+        name: "M",
         allowed: ValueParser::Signed(1, MAX_MODCOD as i64),
-        default: None,
-    },
+        is_required: true,
+        is_signed: true,
+        has_names: true,
+        ..FILE
+    }),
     help: "MODCOD, 1 to 17, or the mode's name, in small letters or in capitals, as qpsk3/4 or 8PSK2/3: `s2 modes` lists them",
 };
 
 /// The same option, for a command that can do without it.
 pub(crate) const MODCOD_OR_NONE: Argument = Argument {
-    form: Form::NamedNumberOrText {
-        value: "M",
+    form: Form::Valued(Value {
+        name: "M",
         allowed: ValueParser::Signed(1, MAX_MODCOD as i64),
-    },
+        is_signed: true,
+        has_names: true,
+        ..FILE
+    }),
     ..MODCOD
 };
 
@@ -169,61 +179,69 @@ pub(crate) const PILOTS: Argument = Argument {
 
 pub(crate) const NUMBER: Argument = Argument {
     name: "number",
-    form: Form::Number {
-        value: "N",
+    form: Form::Valued(Value {
+        name: "N",
         allowed: ValueParser::Signed(0, MAX_NUMBER as i64),
         default: Some("0"),
-    },
+        ..FILE
+    }),
     help: "Scrambling number, 0 to 262141",
 };
 
 pub(crate) const ROLL_OFF: Argument = Argument {
     name: "ro",
-    form: Form::NumberOrText {
-        value: "R",
+    form: Form::Valued(Value {
+        name: "R",
         allowed: ValueParser::Signed(0, MAX_ROLL_OFF as i64),
         default: Some("0"),
-    },
+        is_signed: true,
+        has_names: true,
+        ..FILE
+    }),
     help: "Roll-off that headers tell: 0 for 0.35, 1 for 0.25, 2 for 0.20",
 };
 
 pub(crate) const DUMMY: Argument = Argument {
     name: "dummy",
-    form: Form::Number {
-        value: "D",
+    form: Form::Valued(Value {
+        name: "D",
         allowed: ValueParser::Signed(0, u16::MAX as i64),
         default: Some("0"),
-    },
+        ..FILE
+    }),
     help: "A dummy frame behind every D-th frame, 0 to 65535: 0 for none",
 };
 
 pub(crate) const ROUNDS: Argument = Argument {
     name: "rounds",
-    form: Form::Number {
-        value: "K",
+    form: Form::Valued(Value {
+        name: "K",
         allowed: ValueParser::Signed(1, MAX_ROUNDS as i64),
         default: Some(DEFAULT_ROUNDS_TEXT),
-    },
+        ..FILE
+    }),
     help: "Rounds of min-sum at most for each frame, 1 to 200",
 };
 
 pub(crate) const PASSES: Argument = Argument {
     name: "passes",
-    form: Form::Number {
-        value: "P",
+    form: Form::Valued(Value {
+        name: "P",
         allowed: ValueParser::Signed(0, MAX_PASSES as i64),
         default: Some("0"),
-    },
+        ..FILE
+    }),
     help: "Passes at most that look for a certificate of what has none yet, 0 to 1000",
 };
 
 pub(crate) const DIVISOR: Argument = Argument {
     name: "divisor",
-    form: Form::Number {
-        value: "D",
+    form: Form::Valued(Value {
+        name: "D",
         allowed: ValueParser::Names(&DIVISOR_TEXTS),
         default: Some(DEFAULT_DIVISOR_TEXT),
-    },
+        ..FILE
+    }),
     help: "What soft values are divided by: 8192 at low code rates, more for stronger symbols",
 };
 
@@ -235,27 +253,29 @@ pub(crate) const DIVISOR_OF_REPORT: Argument = Argument {
 
 pub(crate) const FACTOR: Argument = Argument {
     name: "factor",
-    form: Form::Number {
-        value: "F",
+    form: Form::Valued(Value {
+        name: "F",
         allowed: ValueParser::Signed(LEAST_FACTOR as i64, MAX_FACTOR as i64),
         default: Some(DEFAULT_FACTOR_TEXT),
-    },
+        ..FILE
+    }),
     help: "Sixteenths of a size that messages of min-sum have, 8 to 16: more at low code rates",
 };
 
 pub(crate) const LOCK: Argument = Argument {
     name: "lock",
-    form: Form::Number {
-        value: "H",
+    form: Form::Valued(Value {
+        name: "H",
         allowed: ValueParser::Signed(LEAST_LOCK as i64, MAX_LOCK as i64),
         default: Some(DEFAULT_LOCK_TEXT),
-    },
+        ..FILE
+    }),
     help: "Bits of a header that may be wrong right behind a frame, 12 to 40; elsewhere 12 may",
 };
 
 pub(crate) const UNCERTIFIED: Argument = Argument {
     name: "uncertified",
-    form: Form::FlagWithout("passes"),
+    form: Form::Flag,
     help: "No certificate is looked for of what min-sum finds, which is `parity` then; not with --passes",
 };
 
@@ -267,47 +287,62 @@ pub(crate) const TUNED: Argument = Argument {
 
 pub(crate) const SEED: Argument = Argument {
     name: "seed",
-    form: Form::Number {
-        value: "S",
+    form: Form::Valued(Value {
+        name: "S",
         allowed: ANY,
-        default: None,
-    },
+        is_required: true,
+        ..FILE
+    }),
     help: "Seed of the generator, any number of 64 bits",
 };
 
 pub(crate) const LEVEL: Argument = Argument {
     name: "level",
-    form: Form::NamedNumber {
-        value: "L",
+    form: Form::Valued(Value {
+        name: "L",
         allowed: ValueParser::Signed(0, u16::MAX as i64),
-    },
+        ..FILE
+    }),
     help: "Level of the noise, 0 to 65535: a standard deviation of 0.816 L in each component, where a QPSK point has 700",
 };
 
 pub(crate) const ESN0: Argument = Argument {
     name: "esn0",
-    form: Form::NamedText { value: "DB" },
+    form: Form::Valued(Value {
+        name: "DB",
+        is_signed: true,
+        ..FILE
+    }),
     help: "Es/N0 in dB, -10 to 40 with two decimals at most: Gaussian noise, for symbols of the amplitude that `mod` sends",
 };
 
 pub(crate) const RATE: Argument = Argument {
     name: "rate",
-    form: Form::NamedText { value: "R" },
+    form: Form::Valued(Value {
+        name: "R",
+        is_signed: true,
+        ..FILE
+    }),
     help: "Symbols a second, 1 to 1000000000, also as 27.5M, 27.5e6 or 27500k: adds the bits a second of the transport stream",
 };
 
 /// The same option, for a command that can have many seeds in its place.
 pub(crate) const SEED_OR_SEEDS: Argument = Argument {
-    form: Form::NamedNumber {
-        value: "S",
+    form: Form::Valued(Value {
+        name: "S",
         allowed: ANY,
-    },
+        ..FILE
+    }),
     ..SEED
 };
 
 pub(crate) const SEEDS: Argument = Argument {
     name: "seeds",
-    form: Form::NamedText { value: "A..B" },
+    form: Form::Valued(Value {
+        name: "A..B",
+        is_signed: true,
+        ..FILE
+    }),
     help: "In the place of --seed: one run for each seed from A to B, both among them, and a last line of sums",
 };
 
@@ -361,31 +396,31 @@ pub(crate) const EACH_CERTIFICATE: Argument = Argument {
 
 pub(crate) const CERTIFICATE: Argument = Argument {
     name: "cert",
-    form: Form::NamedFile,
+    form: Form::Valued(FILE),
     help: "File for the certificate of a word that is sole or most likely: none is made without it",
 };
 
 pub(crate) const CERTIFICATES: Argument = Argument {
     name: "certificates",
-    form: Form::NamedFile,
+    form: Form::Valued(FILE),
     help: "File for the certificates of all frames that are sole or most likely, as `check --each` reads them",
 };
 
 pub(crate) const VALUES: Argument = Argument {
     name: "values",
-    form: Form::NamedFile,
+    form: Form::Valued(FILE),
     help: "File for the soft values of each frame, a line each, as `judge` reads one",
 };
 
 pub(crate) const CODEWORDS: Argument = Argument {
     name: "codewords",
-    form: Form::NamedFile,
+    form: Form::Valued(FILE),
     help: "File for the decided bits of each frame, eight to a byte, the first one highest",
 };
 
 pub(crate) const BBFRAMES: Argument = Argument {
     name: "bbframes",
-    form: Form::NamedFile,
+    form: Form::Valued(FILE),
     help: "File for the BBFRAMEs, as `join` reads them: zeros for a frame that is lost, and before one that follows a gap",
 };
 

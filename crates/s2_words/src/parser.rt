@@ -1,7 +1,7 @@
 //! The parser that the table describes.
-use crate::arguments::{Argument, Form};
+use crate::arguments::{Argument, Form, Value};
 use crate::help::{ABOUT, MORE, more_of};
-use crate::table::{Choice, Entry, Rule, arguments_of, choices_of, commands, rules_of};
+use crate::table::{Entry, Name, Rule, arguments_of, choices_of, commands, rule_of};
 use clap::builder::ValueParser;
 use clap::{Arg, ArgAction, ArgGroup, Command};
 use std::alloc::{AllocError, Global};
@@ -15,140 +15,97 @@ pub(crate) enum Values {
     Texts,
 }
 
-/// An option with a value, which is required if it has no default.
-fn valued<'a>(
-    arg: Arg<'a>,
-    argument: Argument,
-    value: &'static str,
-    allowed: ValueParser<'static>,
-    default: Option<&'static str>,
-) -> Arg<'a> {
+/// What the parser accepts as a value.
+fn allowed_of(value: Value, values: Values) -> ValueParser<'static> {
+    if value.has_names && values == Values::Texts {
+        ValueParser::String
+    } else {
+        value.allowed
+    }
+}
+
+/// An option with a value.
+fn valued<'a>(arg: Arg<'a>, value: Value, values: Values) -> Arg<'a> {
     let arg = arg
-        .long(argument.name)
-        .value_name(value)
-        .value_parser(allowed);
-    match default {
+        .value_name(value.name)
+        .value_parser(allowed_of(value, values))
+        .required(value.is_required)
+        .allow_negative_numbers(value.is_signed);
+    match value.default {
         Some(text) => arg.default_value(text),
-        None => arg.required(true),
+        None => arg,
     }
 }
 
-fn arg_of<'a>(alloc: Global, argument: Argument, values: Values) -> Result<Arg<'a>, AllocError> {
+fn arg_of<'a>(alloc: Global, argument: Argument, values: Values) -> Arg<'a> {
     let arg = Arg::new(alloc, argument.name).help(argument.help);
-    let arg = match argument.form {
+    match argument.form {
         Form::Flag => arg.long(argument.name).action(ArgAction::SetTrue),
-        Form::FlagWithout(other) => arg
-            .long(argument.name)
-            .action(ArgAction::SetTrue)
-            .conflicts_with(other)?,
-        Form::Number {
-            value,
-            allowed,
-            default,
-        } => valued(arg, argument, value, allowed, default),
-        Form::NumberOrText {
-            value,
-            allowed,
-            default,
-        } => {
-            let arg = arg.allow_negative_numbers(true);
-            match values {
-                Values::Numbers => valued(arg, argument, value, allowed, default),
-                Values::Texts => valued(arg, argument, value, ValueParser::String, default),
-            }
-        }
-        Form::NamedNumber { value, allowed } => arg
-            .long(argument.name)
-            .value_name(value)
-            .value_parser(allowed),
-        Form::NamedNumberOrText { value, allowed } => {
-            let arg = arg
-                .allow_negative_numbers(true)
-                .long(argument.name)
-                .value_name(value);
-            match values {
-                Values::Numbers => arg.value_parser(allowed),
-                Values::Texts => arg.value_parser(ValueParser::String),
-            }
-        }
-        Form::NamedText { value } => arg
-            .long(argument.name)
-            .value_name(value)
-            .allow_negative_numbers(true),
-        Form::NamedFile => arg.long(argument.name).value_name("FILE"),
+        Form::Valued(value) => valued(arg.long(argument.name), value, values),
         Form::File => arg.required(true),
-    };
-    Ok(arg)
-}
-
-/// An argument of this name with the rules for it.
-fn by_rules<'a>(
-    mut arg: Arg<'a>,
-    name: &str,
-    rules: &'static [Rule],
-) -> Result<Arg<'a>, AllocError> {
-    for rule in rules {
-        if rule.given.contains(&name) {
-            arg = arg
-                .requires_all(rule.needed)?
-                .conflicts_with_all(rule.excluded)?;
-        }
     }
-    Ok(arg)
 }
 
+/// An argument with its rule, if it has one.
+fn by_rule<'a>(arg: Arg<'a>, rule: Option<Rule>) -> Result<Arg<'a>, AllocError> {
+    match rule {
+        Some(rule) => arg
+            .requires_all(rule.needed)?
+            .conflicts_with_all(rule.excluded),
+        None => Ok(arg),
+    }
+}
+
+/// The arguments of a command.
+fn args_of<'a>(alloc: Global, command: Name, values: Values) -> Result<Vec<Arg<'a>>, AllocError> {
+    let mut args = Vec::new(alloc);
+    for argument in arguments_of(command) {
+        let rule = rule_of(command, argument.name);
+        args.push(by_rule(arg_of(alloc, *argument, values), rule)?)?;
+    }
+    Ok(args)
+}
+
+/// The choices of a command.
+fn groups_of<'a>(alloc: Global, command: Name) -> Result<Vec<ArgGroup<'a>>, AllocError> {
+    let mut groups = Vec::new(alloc);
+    for choice in choices_of(command) {
+        let group = ArgGroup::new(alloc, choice.name).required(true);
+        groups.push(group.args(choice.options)?)?;
+    }
+    Ok(groups)
+}
+
+/// A command. Its parts are made first: a vector is dropped in one step, and a command in some twenty.
 pub(crate) fn command_of<'a>(
     alloc: Global,
     entry: Entry,
     values: Values,
 ) -> Result<Command<'a>, AllocError> {
-    let mut command = Command::new(alloc, entry.name)
+    let args = args_of(alloc, entry.command, values)?;
+    let groups = groups_of(alloc, entry.command)?;
+    Command::new(alloc, entry.name)
         .about(entry.about)
-        .after_help(more_of(entry.command));
-    for argument in arguments_of(entry.command) {
-        let arg = arg_of(alloc, *argument, values)?;
-        command = command.arg(by_rules(arg, argument.name, rules_of(entry.command))?)?;
+        .after_help(more_of(entry.command))
+        .args(args)?
+        .groups(groups)
+}
+
+/// All commands.
+fn commands_of<'a>(alloc: Global, values: Values) -> Result<Vec<Command<'a>>, AllocError> {
+    let mut all = Vec::new(alloc);
+    for entry in commands() {
+        all.push(command_of(alloc, *entry, values)?)?;
     }
-    for choice in choices_of(entry.command) {
-        command = with_choice(alloc, command, *choice)?;
-    }
-    Ok(command)
-}
-
-/// A command with one more choice.
-fn with_choice<'a>(
-    alloc: Global,
-    command: Command<'a>,
-    choice: Choice,
-) -> Result<Command<'a>, AllocError> {
-    let group = ArgGroup::new(alloc, choice.name).args(choice.options)?;
-    command.group(group.required(true))
-}
-
-/// A program with one more command.
-fn with_command<'a>(
-    alloc: Global,
-    program: Command<'a>,
-    entry: Entry,
-    values: Values,
-) -> Result<Command<'a>, AllocError> {
-    let command = command_of(alloc, entry, values)?;
-    program.subcommand(command)
-}
-
-/// The program without its commands.
-fn without_commands<'a>(alloc: Global) -> Command<'a> {
-    Command::new(alloc, "s2")
-        .version("0.1")
-        .about(ABOUT)
-        .after_help(MORE)
+    Ok(all)
 }
 
 /// The parser of all commands.
 pub(crate) fn program<'a>(alloc: Global, values: Values) -> Result<Command<'a>, AllocError> {
-    let mut program = without_commands(alloc);
-    for entry in commands() {
-        program = with_command(alloc, program, *entry, values)?;
-    }
-    Ok(program)
+    let all = commands_of(alloc, values)?;
+    Command::new(alloc, "s2")
+        .version("0.1")
+        .about(ABOUT)
+        .after_help(MORE)
+        .subcommands(all)
 }

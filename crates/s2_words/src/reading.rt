@@ -297,18 +297,22 @@ fn request_of<'a>(name: &str, m: &ArgMatches<'a>) -> Option<Request<'a>> {
     }
 }
 
-/// The request of the command line. The parser accepts only arguments from which a request can be made, except
-/// values that are given by a name. Any other argument that it accepted, and an unknown name, are a usage fault.
-pub fn read_words<'a>(alloc: Global, arguments: &'a [String]) -> Result<Request<'a>, Error> {
-    let matches = match program(alloc, values_in(arguments))?.try_get_matches_from(arguments) {
-        Ok(matches) => matches,
-        Err(error) => return Err(misused(alloc, arguments, error)?),
-    };
+/// The request of parsed arguments.
+fn request_in<'a>(alloc: Global, matches: &ArgMatches<'a>) -> Result<Request<'a>, Error> {
     match matches.subcommand() {
         None => Ok(Request::Own),
         Some((name, inner)) => match request_of(name, inner) {
             Some(request) => Ok(request),
             None => Err(not_understood(alloc, name, inner)?),
         },
+    }
+}
+
+/// The request of the command line. The parser accepts only arguments from which a request can be made, except
+/// values that are given by a name. Any other argument that it accepted, and an unknown name, are a usage fault.
+pub fn read_words<'a>(alloc: Global, arguments: &'a [String]) -> Result<Request<'a>, Error> {
+    match program(alloc, values_in(arguments))?.try_get_matches_from(arguments) {
+        Ok(matches) => request_in(alloc, &matches),
+        Err(error) => Err(misused(alloc, arguments, error)?),
     }
 }

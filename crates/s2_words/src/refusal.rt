@@ -6,7 +6,7 @@ use crate::reading::roll_off_of;
 use crate::seed_range::read_seeds;
 use crate::table::{Entry, commands};
 use clap::error::ErrorKind;
-use clap::{ArgMatches, Error};
+use clap::{ArgMatches, Command, Error};
 use s2_mode::{MAX_MODCOD, Mode, Modulation};
 use s2_names::{Case, SymbolRate, constellation};
 use std::alloc::{AllocError, Global};
@@ -65,22 +65,33 @@ pub(crate) fn values_in(arguments: &[String]) -> Values {
     }
 }
 
-/// A usage fault of a command, with its usage.
-fn fault_in(alloc: Global, name: &str, message: &str) -> Result<Error, AllocError> {
+/// The command of this name.
+fn entry_of(name: &str) -> Option<Entry> {
     for entry in commands() {
         if entry.name == name {
-            return fault_of(alloc, *entry, message);
+            return Some(*entry);
         }
     }
-    program(alloc, Values::Numbers)?.error(ErrorKind::ValueValidation, message)
+    None
 }
 
-fn fault_of(alloc: Global, entry: Entry, message: &str) -> Result<Error, AllocError> {
-    let mut name = String::from_str(alloc, "s2 ")?;
-    name.push_str(entry.name)?;
-    command_of(alloc, entry, Values::Numbers)?
-        .bin_name(name.as_str())?
-        .error(ErrorKind::ValueValidation, message)
+/// A usage fault of a command, with its usage.
+fn fault_in(alloc: Global, name: &str, message: &str) -> Result<Error, AllocError> {
+    let command = match entry_of(name) {
+        Some(entry) => named_command(alloc, entry)?,
+        None => program(alloc, Values::Numbers)?,
+    };
+    fault_of(command, message)
+}
+
+/// A command with its whole name, which stands in its usage.
+fn named_command<'a>(alloc: Global, entry: Entry) -> Result<Command<'a>, AllocError> {
+    let name = format!(in alloc; "s2 {}", entry.name)?;
+    command_of(alloc, entry, Values::Numbers)?.bin_name(name.as_str())
+}
+
+fn fault_of(mut command: Command<'_>, message: &str) -> Result<Error, AllocError> {
+    command.error(ErrorKind::ValueValidation, message)
 }
 
 /// Appends the names of all modes of a constellation to a text.
@@ -232,19 +243,28 @@ fn has_switch(arguments: &[String], kind: ErrorKind) -> bool {
     }
 }
 
+/// The command that was given a value for `--pilots`, from which a fault of this kind comes.
+fn switched<'a>(arguments: &'a [String], kind: ErrorKind) -> Option<&'a str> {
+    if has_switch(arguments, kind) {
+        Some(arguments.get(1)?.as_str())
+    } else {
+        None
+    }
+}
+
 /// A usage fault, or in its place one that says that `--pilots` takes no value, if it was given one.
 pub(crate) fn misused(
     alloc: Global,
     arguments: &[String],
     error: Error,
 ) -> Result<Error, AllocError> {
-    match arguments.get(1) {
-        Some(name) if has_switch(arguments, error.kind()) => fault_in(
+    match switched(arguments, error.kind()) {
+        Some(name) => fault_in(
             alloc,
-            name.as_str(),
+            name,
             "'--pilots' takes no value: frames have pilot blocks where it stands, and none where it does not",
         ),
-        _ => Ok(error),
+        None => Ok(error),
     }
 }
 

@@ -319,11 +319,29 @@ const LENGTH_OF_MODE: Rule = Rule {
     excluded: &[],
 };
 
-/// The rules for a command's options.
-pub(crate) fn rules_of(command: Name) -> &'static [Rule] {
+/// What min-sum finds stays uncertified, so no passes look for a certificate.
+const NO_PASSES: Rule = Rule {
+    given: &["uncertified"],
+    needed: &[],
+    excluded: &["passes"],
+};
+
+/// The rules for a command's options, at most one for each.
+fn rules_of(command: Name) -> &'static [Rule] {
     match command {
         Name::Modes => &[LENGTH_OF_MODE],
-        Name::Judge => &[WHOLE_SHAPE, LENGTH_OF_MODE],
+        Name::Judge => &[WHOLE_SHAPE, LENGTH_OF_MODE, NO_PASSES],
+        Name::Demod | Name::Run => &[NO_PASSES],
         _ => &[],
     }
+}
+
+/// The rule for an option of a command, if there is one.
+pub(crate) fn rule_of(command: Name, option: &str) -> Option<Rule> {
+    for rule in rules_of(command) {
+        if rule.given.contains(&option) {
+            return Some(*rule);
+        }
+    }
+    None
 }
