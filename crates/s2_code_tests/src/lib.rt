@@ -24,8 +24,6 @@ mod check_tests;
 #[cfg(test)]
 mod codes;
 #[cfg(test)]
-mod field_tests;
-#[cfg(test)]
 mod file_tests;
 #[cfg(test)]
 mod frames_tests;
@@ -45,8 +43,6 @@ mod minsum_memory_tests;
 mod minsum_reference_tests;
 #[cfg(test)]
 mod minsum_tests;
-#[cfg(test)]
-mod mode_tests;
 #[cfg(test)]
 mod room_tests;
 #[cfg(test)]

@@ -14,6 +14,8 @@ mod core_tests;
 #[cfg(test)]
 mod figures_tests;
 #[cfg(test)]
+mod finder_tests;
+#[cfg(test)]
 mod plframe_tests;
 #[cfg(test)]
 mod receive_tests;

@@ -1,7 +1,7 @@
 //! Each call that allocates. If an allocation is refused it returns `NoMemory`, and the same call then
 //! succeeds. The made rows are those of another program.
-use crate::{MakeFault, RowFault, Rows, ValueFault, make_rows, read_rows, read_values};
 use s2_mode::{Mode, Shape};
+use s2_rows::{MakeFault, RowFault, Rows, ValueFault, make_rows, read_rows, read_values};
 use std::alloc::Global;
 use std::process::Abort;
 use std::test::Fail;

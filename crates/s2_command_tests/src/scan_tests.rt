@@ -1,14 +1,19 @@
 //! Two headers at their frame's distance. If memory is refused that is reported, and the same call then succeeds.
-use crate::codes::{code_at, frame_length};
-use crate::command::scan_command;
 use s2_console::{Console, Exit};
 use s2_mode::{Counting, FailAt, InMemory};
-use s2_plframe::header_number;
+use s2_plframe::{PlsCode, header_number};
+use s2_scan::scan_command;
 use std::alloc::{AllocError, Global};
 use std::test::Fail;
 
-// Short 32APSK 3/4 without pilots, whose frames are the shortest.
-const HEADER: usize = 98;
+// Short 32APSK 3/4 without pilots, whose frames are the shortest: 90 symbols, and 16200 bits in fives.
+const HEADER: PlsCode = PlsCode {
+    modcod: 24,
+    short: true,
+    pilots: false,
+};
+
+const FRAME: usize = 3330;
 
 const WANTED: &[u8] =
     b"32apsk3/4 short no-pilots seen 2 first 0 every 3330 turn 1 conjugate yes bytes little amplitude 990
@@ -31,10 +36,10 @@ fn symbol_of(k: usize, one: bool) -> [u8; 4] {
 
 /// Two frames whose headers have four wrong bits, and whose slots are empty.
 fn recording(alloc: Global) -> Result<Vec<u8>, AllocError> {
-    let header = header_number(code_at(HEADER)) ^ 0x1_0001_0000_0000_0100_0000_8000;
+    let header = header_number(HEADER) ^ 0x1_0001_0000_0000_0100_0000_8000;
     let mut bytes = Vec::new(alloc);
-    for k in 0..2 * frame_length(HEADER) {
-        let place = k % frame_length(HEADER);
+    for k in 0..2 * FRAME {
+        let place = k % FRAME;
         let symbol = if place < 90 {
             symbol_of(place, (header >> (89 - place)) % 2 == 1)
         } else {

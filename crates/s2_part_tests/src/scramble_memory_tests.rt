@@ -1,6 +1,6 @@
 //! A scrambler if memory is refused once: the call says so, and the same call succeeds when repeated.
-use crate::{Gold, GoldFault};
 use s2_mode::Symbol;
+use s2_scramble::{Gold, GoldFault};
 use std::alloc::Global;
 use std::test::Fail;
 

@@ -1,10 +1,8 @@
 //! Soft values worked by hand, beside those of the definition, and of codewords.
 ghost use Rattle.std.specs.Prelude.{◌≡◌, ◌*◌, ◌<◌, length};
 
-use crate::divisor::Divisor;
-use crate::soft::{columns_into, qpsk_into};
-use crate::soft_into;
 use s2_mode::{MAX_SOFT, Mode, Symbol};
+use s2_soft::{Divisor, soft_into};
 use std::test::Fail;
 
 /// A point, and which bits of its label are ones.
@@ -211,6 +209,22 @@ fn edges(step: i16, cap: i16) -> [Symbol; 13] {
     ]
 }
 
+/// The soft values of a payload.
+fn soft_of(
+    rt: &HostRuntime,
+    mode: Mode,
+    divisor: u32,
+    payload: &[Symbol],
+) -> Result<Vec<i16>, Fail> {
+    let divisor = Divisor::new(divisor).ok_or("no divisor")?;
+    let mut soft = vec![in rt.alloc(); 1i16; mode.n()]?;
+    if payload.len() != 90 * mode.slots() {
+        return Err(Fail::from("another length"));
+    }
+    soft_into(mode, divisor, payload, &mut soft);
+    Ok(soft)
+}
+
 /// The soft values of a payload whose symbols are all the same.
 fn of_one_symbol(
     rt: &HostRuntime,
@@ -219,11 +233,8 @@ fn of_one_symbol(
     i: i16,
     q: i16,
 ) -> Result<Vec<i16>, Fail> {
-    let divisor = Divisor::new(divisor).ok_or("no divisor")?;
     let payload = vec![in rt.alloc(); Symbol { i, q }; 90 * mode.slots()]?;
-    let mut soft = vec![in rt.alloc(); 1i16; mode.n()]?;
-    soft_into(mode, divisor, &payload, &mut soft);
-    Ok(soft)
+    soft_of(rt, mode, divisor, &payload)
 }
 
 #[test]
@@ -273,47 +284,39 @@ fn psk_frames_worked_by_hand(rt: HostRuntime) -> Result<(), Fail> {
     Ok(())
 }
 
+/// A payload whose symbols are these, over and over.
+fn repeated(rt: &HostRuntime, mode: Mode, symbols: &[Symbol; 13]) -> Result<Vec<Symbol>, Fail> {
+    let mut payload = vec![in rt.alloc(); Symbol { i: 0, q: 0 }; 90 * mode.slots()]?;
+    for (at, symbol) in payload.iter_mut().enumerate() {
+        *symbol = symbols[at % 13];
+    }
+    Ok(payload)
+}
+
+/// Each short frame has 8100 symbols of QPSK, whose last ones fill no vector.
 #[test]
-fn qpsk_of_each_length(rt: HostRuntime) -> Result<(), Fail> {
-    let mut soft = [1i16; 26];
+fn qpsk_at_the_edges_of_its_range(rt: HostRuntime) -> Result<(), Fail> {
+    let mode = Mode::of(4, true, false).ok_or("no mode")?;
     for (number, step, cap) in STEPS {
-        let divisor = Divisor::new(number).ok_or("no divisor")?;
-        let symbols = edges(step, cap);
-        for n in 0..14usize {
-            let values = &mut soft[..2 * n];
-            qpsk_into(divisor, &symbols[..n], values);
-            assert!(rt; are_of_qpsk(number, &symbols[..n], values));
-        }
+        let payload = repeated(&rt, mode, &edges(step, cap))?;
+        let soft = soft_of(&rt, mode, number, &payload)?;
+        assert_eq!(rt; [payload.len(), soft.len()], [8100, 16200]);
+        assert!(rt; are_of_qpsk(number, &payload, &soft));
     }
     Ok(())
 }
 
+/// The soft values of 8PSK are in three columns.
 #[test]
-fn psk_of_each_length(rt: HostRuntime) -> Result<(), Fail> {
-    let mut first = [1i16; 13];
-    let mut second = [1i16; 13];
-    let mut third = [1i16; 13];
+fn psk_at_the_edges_of_its_range(rt: HostRuntime) -> Result<(), Fail> {
+    let mode = Mode::of(13, true, false).ok_or("no mode")?;
     for (number, step, cap) in STEPS {
-        let divisor = Divisor::new(number).ok_or("no divisor")?;
-        let symbols = edges(step, cap);
-        for n in 0..14usize {
-            columns_into(
-                divisor,
-                &symbols[..n],
-                &mut first[..n],
-                &mut second[..n],
-                &mut third[..n],
-            );
-            assert!(rt;
-                are_of_psk(
-                    number,
-                    &symbols[..n],
-                    &first[..n],
-                    &second[..n],
-                    &third[..n]
-                )
-            );
-        }
+        let payload = repeated(&rt, mode, &edges(step, cap))?;
+        let soft = soft_of(&rt, mode, number, &payload)?;
+        assert_eq!(rt; [payload.len(), soft.len()], [5400, 16200]);
+        let (first, rest) = soft.split_at(5400);
+        let (second, third) = rest.split_at(5400);
+        assert!(rt; are_of_psk(number, &payload, first, second, third));
     }
     Ok(())
 }

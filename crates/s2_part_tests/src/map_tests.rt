@@ -1,5 +1,5 @@
 //! Places and points on known values.
-use crate::{place, point};
+use s2_map::{place, point};
 use s2_mode::{Mode, Symbol};
 use std::test::Fail;
 

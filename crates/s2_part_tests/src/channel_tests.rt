@@ -1,5 +1,5 @@
 //! Noise against the numbers of another program, which draws the generator's words by its description.
-use crate::{EsN0, Noise, Strength, add_to_all};
+use s2_channel::{EsN0, Noise, Strength, add_to_all};
 use s2_mode::{Counting, FailAt, InMemory, StreamFault, Symbol};
 use std::process::Abort;
 use std::test::Fail;

@@ -3,13 +3,13 @@
 ghost use Rattle.std.specs.Prelude.{◌≡◌, IfOk};
 ghost use Rattle.s2_mode.specs.Counts.{CanCount, CountsFault};
 
-use crate::{Bbframes, Certificates, Codewords, Values};
 use s2_bbframe::Header;
 use s2_bits::Bits;
 use s2_check::{Certificate, Verdict};
 use s2_matrix::Matrix;
 use s2_mode::{Counting, Mode, Shape, WriteFault};
 use s2_receive::{Decided, Frame, Outcome, Sink};
+use s2_records::{Bbframes, Certificates, Codewords, Values};
 use s2_rows::read_rows;
 use std::alloc::{AllocError, Global};
 use std::io;

@@ -1,6 +1,6 @@
 //! A codeword that was computed by hand.
-use crate::encode_into;
 use s2_bits::Bits;
+use s2_ldpc::encode_into;
 use s2_matrix::Matrix;
 use s2_mode::Shape;
 use s2_rows::read_rows;

@@ -1,6 +1,6 @@
 //! Each call that allocates. If an allocation is refused it returns a fault, and the same call then
 //! succeeds.
-use crate::Bits;
+use s2_bits::Bits;
 use std::alloc::{AllocError, Global};
 use std::test::Fail;
 

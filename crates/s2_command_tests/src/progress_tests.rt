@@ -1,8 +1,10 @@
 //! The line of numbers that are known, and a terminal that is kept in memory.
-use crate::{Clearing, Meter, Numbers, Pace, Passed, Show, Terminal, Watched, line_of, numbers_at};
 use s2_files::{Output, StandardStreams};
 use s2_mode::{
     ByOne, Counted, CountedRead, CountedWrite, Counting, FailAt, InMemory, ReadFault, WriteFault,
+};
+use s2_progress::{
+    Clearing, Meter, Numbers, Pace, Passed, Show, Terminal, Watched, line_of, numbers_at,
 };
 use std::cell::{Cell, RefCell};
 use std::io;

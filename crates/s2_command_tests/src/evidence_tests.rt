@@ -1,7 +1,7 @@
 //! `judge` and `judge --each` over memory, on frames under the toy rows. Twenty values of 3 are decided as zeros, which
 //! are sole; so are twenty zeros, which are most likely; both cost 0.
-use crate::{JudgeFiles, TOY_ROWS, judge_command, judge_each_command};
 use s2_console::{Console, Exit};
+use s2_evidence::{JudgeFiles, TOY_ROWS, judge_command, judge_each_command};
 use s2_files::Destination;
 use s2_mode::{Counting, FailAt, InMemory, Shape};
 use s2_tuning::Tuning;

@@ -3,10 +3,10 @@
 ghost use Rattle.std.specs.Prelude.{◌≡◌, false, IfOk};
 ghost use Rattle.s2_bbframe.specs.DataStream.{field_bytes, starting};
 
-use crate::{frame_bytes, join_command};
 use s2_bbframe::{PACKET_BYTES, SYNC, Slicer};
 use s2_console::{Console, Exit};
 use s2_files::Destination;
+use s2_join::{frame_bytes, join_command};
 use s2_mode::{Counting, FailAt, InMemory, Mode};
 use std::alloc::{AllocError, Global};
 use std::io;

@@ -2,8 +2,8 @@
 ghost use Rattle.std.specs.Prelude.{◌≡◌, ◌<◌, length, IfOk};
 ghost use Rattle.s2_mode.specs.Mode.{n_of, symbols_in};
 
-use crate::{FigureFinder, header_energy};
 use s2_bits::Bits;
+use s2_figures::{FigureFinder, header_energy};
 use s2_map::map_into;
 use s2_mode::{Mode, Symbol};
 use s2_plframe::frame_into;

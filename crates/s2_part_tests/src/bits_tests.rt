@@ -1,5 +1,5 @@
 //! Bit lists by their worked values.
-use crate::Bits;
+use s2_bits::Bits;
 use std::test::Fail;
 
 #[test]
