@@ -136,6 +136,8 @@ def demod(two, single):
             received(single[: 4 * count], *cut(0, count if count >= 90 else 0), b"", "--modcod 1 normal4")
             for count in (0, 89, 90, 32_489)
         ),
+        # cut anywhere, also inside a symbol
+        *(received(single[: 4 * count + count % 4], *cut(0, count), b"", "--modcod 1 normal4") for count in range(811, 32_490, 811)),
         *(received(symbols, 0, NONE, b"") for symbols in (b"", b"1", b"12", b"123", bytes(359))),
         # behind its header the frame has lost its symbols: the word of zeros is decided, whose message is no header
         received(two[:360] + bytes(32_400), NO, lost, b"", errors=noted(refused_headers(1, 1))),
