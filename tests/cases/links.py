@@ -326,6 +326,14 @@ def among(two, dummies):
         # the last one lacks symbols
         *(received(one + each + other + each[:400], 0, later, 2 * PACKET) for each in dummies),
         received(b"".join(dummies) + one + b"".join(dummies) + other, 0, behind_all, 2 * PACKET),
+        # a false header of a dummy frame hides the frame that begins before its end
+        received(
+            bytes(80) + dummy[:4000] + one + bytes(280) + two,
+            0,
+            TWO.replace("at 0 ", "at 9280 ").replace("8190", "17470"),
+            2 * PACKET,
+            errors=noted("5950 symbols passed over in 1 place, the first at 0"),
+        ),
         # a symbol before a dummy frame is passed over, so that the packet that the next frame ends is lost
         received(
             one + bytes(4) + dummy + other,

@@ -21,8 +21,6 @@ mod plframe_tests;
 mod receive_tests;
 #[cfg(test)]
 mod send_tests;
-#[cfg(test)]
-mod sink_tests;
 pub mod streams;
 #[cfg(test)]
 mod toy;
