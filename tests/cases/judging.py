@@ -276,6 +276,7 @@ CASES = [
     *(fault(f"judge {TOY} rows odd", f"rows: {text}", reads={"rows": rows}) for rows, text in BAD_ROWS),
     fault("judge --group 1 --groups 1 --q 30 rows odd", "rows: row too long in line 1", reads={"rows": LONG_ROW}),
     *(Case(f"judge {shape} {rows} values", code, line, reads={"values": values}) for shape, rows, values, code, line in VERDICTS),
+    Case(f"judge {TOY} rows stored", out="sole cost -45\n", reads={"rows": 70_000 * b"#" + b"\n0 4 8\n0 1 2\n"}),
     # the rows are taken apart before the values are read
     fault(f"judge {TOY} rows .", "rows: not a number in line 1", reads={"rows": b"0 x\n"}),
     fault(f"judge {TOY} toy .", "cannot read"),

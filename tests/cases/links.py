@@ -136,6 +136,8 @@ def demod(two, single):
             received(single[: 4 * count], *cut(0, count if count >= 90 else 0), b"", "--modcod 1 normal4")
             for count in (0, 89, 90, 32_489)
         ),
+        # cut anywhere, also inside a symbol
+        *(received(single[: 4 * count + count % 4], *cut(0, count), b"", "--modcod 1 normal4") for count in range(811, 32_490, 811)),
         *(received(symbols, 0, NONE, b"") for symbols in (b"", b"1", b"12", b"123", bytes(359))),
         # behind its header the frame has lost its symbols: the word of zeros is decided, whose message is no header
         received(two[:360] + bytes(32_400), NO, lost, b"", errors=noted(refused_headers(1, 1))),
@@ -324,6 +326,14 @@ def among(two, dummies):
         # the last one lacks symbols
         *(received(one + each + other + each[:400], 0, later, 2 * PACKET) for each in dummies),
         received(b"".join(dummies) + one + b"".join(dummies) + other, 0, behind_all, 2 * PACKET),
+        # a false header of a dummy frame hides the frame that begins before its end
+        received(
+            bytes(80) + dummy[:4000] + one + bytes(280) + two,
+            0,
+            TWO.replace("at 0 ", "at 9280 ").replace("8190", "17470"),
+            2 * PACKET,
+            errors=noted("5950 symbols passed over in 1 place, the first at 0"),
+        ),
         # a symbol before a dummy frame is passed over, so that the packet that the next frame ends is lost
         received(
             one + bytes(4) + dummy + other,

@@ -34,8 +34,3 @@ pub use lanes::eight_from;
 pub use rotations::add_rotated;
 pub use rows32::add_back;
 pub use spelling::{bits_into, byte_at, bytes_from};
-
-#[cfg(test)]
-mod memory_tests;
-#[cfg(test)]
-mod tests;

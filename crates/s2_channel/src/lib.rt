@@ -27,6 +27,3 @@ mod strength;
 pub use noise::Noise;
 pub use stream::add_to_all;
 pub use strength::{EsN0, LEAST_ESN0, MAX_ESN0, Strength};
-
-#[cfg(test)]
-mod tests;

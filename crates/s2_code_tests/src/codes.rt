@@ -1,7 +1,7 @@
-//! Matrices of row files and of made rows.
+//! Matrices of row files.
 use s2_matrix::Matrix;
-use s2_mode::{Mode, Shape};
-use s2_rows::{make_rows, read_rows};
+use s2_mode::Shape;
+use s2_rows::read_rows;
 use std::alloc::Global;
 use std::test::Fail;
 
@@ -18,20 +18,3 @@ pub(crate) fn matrix_of(alloc: Global, code: Code<'_>) -> Result<Matrix, Fail> {
     let rows = read_rows(alloc, rows, shape)?;
     Ok(Matrix::build(alloc, &rows)?)
 }
-
-/// The matrix of made rows of this weight.
-pub(crate) fn made_matrix(alloc: Global, shape: Shape, weight: usize) -> Result<Matrix, Fail> {
-    let rows = make_rows(alloc, shape, weight, 1)?;
-    Ok(Matrix::build(alloc, &rows)?)
-}
-
-/// A group, groups, q and the weight of a row, for groups below, at and over the lanes of a vector.
-pub(crate) const SHAPES: [(usize, usize, usize, usize); 7] = [
-    (1, 3, 80, 4),
-    (4, 2, 20, 3),
-    (7, 2, 11, 3),
-    (8, 3, 9, 4),
-    (9, 2, 8, 5),
-    (17, 2, 5, 6),
-    (360, 2, 2, 3),
-];

@@ -1,11 +1,11 @@
 //! Judges, if memory may be refused: each call that takes memory is made again.
-ghost use Rattle.std.specs.Prelude.{◌≡◌, All, IfOk, length};
+ghost use Rattle.std.specs.Prelude.{◌≡◌, All, IfOk, IsTrue, length};
 ghost use Rattle.s2_matrix.specs.Code.{code_of};
 ghost use Rattle.s2_check.specs.Views.{IsSoft};
 
 use super::again::matrix_of;
 use super::codes::TOY;
-use super::judge_tests::fits;
+use super::values::are_soft;
 use s2_check::Verdict;
 use s2_judge::Judge;
 use s2_matrix::Matrix;
@@ -13,6 +13,14 @@ use s2_tuning::Tuning;
 use std::alloc::{AllocError, Global};
 use std::process::Abort;
 use std::test::Fail;
+
+/// Whether a judge of these checks takes these values.
+fn fits(matrix: &Matrix, soft: &[i16]) -> bool
+    ensures long { IsTrue result → length soft.now ≡ (code_of matrix.now).bits }
+    ensures range { IsTrue result → All IsSoft soft.now }
+{
+    soft.len() == matrix.bits() && are_soft(soft)
+}
 
 fn judge_of<'a>(alloc: Global, matrix: &'a Matrix, tuning: Tuning) -> Result<Judge<'a>, AllocError>
     ensures { IfOk result (λ j. j.rows ≡ matrix.now) }

@@ -1,5 +1,5 @@
 //! Tests of the codes, their decoders and their certificates, over public calls alone, with the numbers of
-//! the standard, of the format, or of another program.
+//! the format or of another program. What a command shows is tested by scripts (`docs/working.md`).
 //!
 //! Each crate's tests are in a module of its name. Several of them share `codes` (matrices), `values` (soft values),
 //! `certificate_bytes` (a file), and `again` (calls that are made again after memory was refused).
@@ -10,21 +10,13 @@ mod again;
 #[cfg(test)]
 mod bch_memory_tests;
 #[cfg(test)]
-mod bch_tests;
-#[cfg(test)]
 mod certificate_bytes;
 #[cfg(test)]
-mod check_extremes;
-#[cfg(test)]
 mod check_memory_tests;
-#[cfg(test)]
-mod check_reference_tests;
 #[cfg(test)]
 mod check_tests;
 #[cfg(test)]
 mod codes;
-#[cfg(test)]
-mod field_tests;
 #[cfg(test)]
 mod file_tests;
 #[cfg(test)]
@@ -32,27 +24,16 @@ mod frames_tests;
 #[cfg(test)]
 mod judge_memory_tests;
 #[cfg(test)]
-mod judge_tests;
-#[cfg(test)]
 mod matrix_memory_tests;
-#[cfg(test)]
-mod matrix_reference_tests;
 #[cfg(test)]
 mod matrix_tests;
 #[cfg(test)]
 mod minsum_memory_tests;
-#[cfg(test)]
-mod minsum_reference_tests;
-#[cfg(test)]
-mod minsum_tests;
-#[cfg(test)]
-mod mode_tests;
-#[cfg(test)]
-mod room_tests;
 #[cfg(test)]
 mod settle_tests;
 #[cfg(test)]
 mod split_memory_tests;
 #[cfg(test)]
 mod split_tests;
-pub mod values;
+#[cfg(test)]
+mod values;

@@ -5,13 +5,17 @@ ghost use Rattle.s2_minsum.specs.Decoding.{AreWithin};
 
 use super::again::matrix_of;
 use super::codes::TOY;
-use super::minsum_tests::WRONG_AFTER;
 use super::values::{WRONG, soft_values};
 use s2_matrix::Matrix;
 use s2_minsum::{Decoder, Factor};
 use std::alloc::{AllocError, Global};
 use std::process::Abort;
 use std::test::Fail;
+
+/// The posteriors of the values with a wrong bit after layer 0, which has checks 0, 3, 6 and 9, by another program.
+const WRONG_AFTER: [i16; 20] = [
+    4, 18, 18, 18, 7, 18, 18, 18, 7, 10, 18, 18, 10, 18, 18, 10, 18, 18, 10, 10,
+];
 
 fn decoder<'a>(alloc: Global, matrix: &'a Matrix) -> Result<Decoder<'a>, AllocError>
     ensures { IfOk result (λ d. d.rows ≡ matrix.now) }

@@ -78,7 +78,7 @@ const GROUP_9_SHARES: [i32; 89] = [
 ];
 
 // Passes leave a rest of 1, and no smaller one.
-pub(crate) const REST_OF_ONE: [i16; 8] = [170, 33, -336, -121, -304, -110, 221, 27];
+const REST_OF_ONE: [i16; 8] = [170, 33, -336, -121, -304, -110, 221, 27];
 
 const REST_OF_ONE_ONES: [usize; 6] = [0, 2, 3, 4, 5, 7];
 
@@ -87,7 +87,7 @@ const REST_OF_ONE_SHARES: [i32; 16] = [
 ];
 
 // One pass leaves a rest of 0, the second one of more.
-pub(crate) const REST_OF_ZERO: [i16; 8] = [-76, 201, 65, 60, 170, 486, 160, 234];
+const REST_OF_ZERO: [i16; 8] = [-76, 201, 65, 60, 170, 486, 160, 234];
 
 const REST_OF_ZERO_ONES: [usize; 0] = [];
 
@@ -257,7 +257,7 @@ fn finds_the_moves_of_the_rule(rt: HostRuntime) -> Result<(), Fail> {
 }
 
 /// Five checks one after another, of three bits.
-pub(crate) const FIVE: Code<'static> = ([1, 3, 5], b"0 1 3\n0 2\n1 4\n");
+const FIVE: Code<'static> = ([1, 3, 5], b"0 1 3\n0 2\n1 4\n");
 
 #[test]
 fn a_rest_of_zero_is_not_enough(rt: HostRuntime) -> Result<(), Fail> {

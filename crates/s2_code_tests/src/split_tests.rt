@@ -161,9 +161,9 @@ fn finds_no_split_of_a_word_that_costs_more(rt: HostRuntime) -> Result<(), Fail>
 }
 
 /// A code whose checks give back the surplus of other checks, and values for which no rest is below 3 after that.
-pub(crate) const GIVEN_BACK: Code<'static> = ([2, 3, 3], b"0 4\n2 3 4 5\n2 3 5\n");
+const GIVEN_BACK: Code<'static> = ([2, 3, 3], b"0 4\n2 3 4 5\n2 3 5\n");
 
-pub(crate) const GIVEN_BACK_VALUES: [i16; 12] = [23, 11, -8, -9, 4, 20, 20, -2, 6, 17, 9, 6];
+const GIVEN_BACK_VALUES: [i16; 12] = [23, 11, -8, -9, 4, 20, 20, -2, 6, 17, 9, 6];
 
 const GIVEN_BACK_SHARES: [i32; 29] = [
     225, -225, 225, 225, 54, 54, 54, -54, -13, 13, 13, 13, 13, 13, 40, -40, 40, 40, 40, 78, -78,

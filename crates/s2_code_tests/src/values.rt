@@ -8,22 +8,22 @@ use s2_mode::MAX_SOFT;
 use std::alloc::{AllocError, Global};
 
 /// The largest and the least soft value.
-pub const LARGEST: i16 = MAX_SOFT as i16;
+pub(crate) const LARGEST: i16 = MAX_SOFT as i16;
 
-pub const LEAST: i16 = -LARGEST;
+pub(crate) const LEAST: i16 = -LARGEST;
 
 /// A wrong bit: of 20 values all are 10 but the first.
-pub const WRONG: [i16; 20] = [
+pub(crate) const WRONG: [i16; 20] = [
     -4, 10, 10, 10, 10, 10, 10, 10, 10, 10, 10, 10, 10, 10, 10, 10, 10, 10, 10, 10,
 ];
 
 /// A wrong bit whose neighbours are weak.
-pub const WEAK: [i16; 20] = [
+pub(crate) const WEAK: [i16; 20] = [
     -4, 10, 10, 10, 1, 1, 1, 10, 10, 10, 10, 10, 10, 10, 10, 10, 10, 10, 10, 10,
 ];
 
 /// Whether all values lie within the limits of a soft value.
-pub fn are_soft(values: &[i16]) -> bool
+pub(crate) fn are_soft(values: &[i16]) -> bool
     ensures { IsTrue result → All IsSoft values.now }
 {
     for value in values {
@@ -35,7 +35,7 @@ pub fn are_soft(values: &[i16]) -> bool
 }
 
 /// These values, none of a size over that of a soft value.
-pub fn soft_values(alloc: Global, values: &[i16]) -> Result<Vec<i16>, AllocError>
+pub(crate) fn soft_values(alloc: Global, values: &[i16]) -> Result<Vec<i16>, AllocError>
     ensures long { IfOk result (λ v. length v.items ≡ length values.now) }
     ensures small { IfOk result (λ v. AreWithin max_soft v.items) }
 {
@@ -47,6 +47,6 @@ pub fn soft_values(alloc: Global, values: &[i16]) -> Result<Vec<i16>, AllocError
 }
 
 /// The next number of no order.
-pub fn next_number(number: u32) -> u32 {
+pub(crate) fn next_number(number: u32) -> u32 {
     number.wrapping_mul(1664525).wrapping_add(1013904223)
 }

@@ -43,6 +43,3 @@ pub use files::JudgeFiles;
 pub use judge::judge_command;
 pub use judge_each::judge_each_command;
 pub use own::{TOY_ROWS, self_command};
-
-#[cfg(test)]
-mod tests;

@@ -22,6 +22,3 @@ mod header;
 
 pub use finder::FigureFinder;
 pub use header::header_energy;
-
-#[cfg(test)]
-mod tests;

@@ -26,6 +26,3 @@ mod report;
 pub use command::join_command;
 pub use frames::frame_bytes;
 pub use limits::MAX_FRAMES;
-
-#[cfg(test)]
-mod tests;

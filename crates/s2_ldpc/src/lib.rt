@@ -15,6 +15,3 @@ mod encode;
 pub mod laws;
 
 pub use encode::encode_into;
-
-#[cfg(test)]
-mod tests;

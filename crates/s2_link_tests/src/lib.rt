@@ -5,24 +5,10 @@
 #![tactic(auto)]
 
 #[cfg(test)]
-mod divisor_tests;
-#[cfg(test)]
-mod dummy_tests;
-#[cfg(test)]
-mod figures_tests;
+mod fault_tests;
 #[cfg(test)]
 mod hearing;
 #[cfg(test)]
-mod hostile_tests;
-#[cfg(test)]
-mod lock_tests;
-#[cfg(test)]
 mod modem_memory_tests;
 #[cfg(test)]
-mod modem_tests;
-#[cfg(test)]
-mod room_tests;
-#[cfg(test)]
-mod scattered_tests;
-#[cfg(test)]
-mod threshold_tests;
+mod receiver_tests;

@@ -22,6 +22,3 @@ pub use constants::{AXIS, DIAGONAL, PSK_3_5};
 pub use interleaver::place;
 pub use mapper::map_into;
 pub use points::point;
-
-#[cfg(test)]
-mod tests;

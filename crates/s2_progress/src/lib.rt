@@ -21,7 +21,6 @@ mod meter;
 mod numbers;
 mod show;
 mod terminal;
-mod tests;
 mod watched;
 
 pub use clearing::Clearing;

@@ -34,6 +34,3 @@ pub use bbframes::Bbframes;
 pub use certificates::Certificates;
 pub use codewords::Codewords;
 pub use values::Values;
-
-#[cfg(test)]
-mod tests;

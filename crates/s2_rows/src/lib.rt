@@ -32,8 +32,3 @@ pub use row_file::{RowFault, read_rows};
 pub use rows::{Row, Rows};
 pub use values::{ValueFault, read_values};
 pub use write::write_rows;
-
-#[cfg(test)]
-mod memory_tests;
-#[cfg(test)]
-mod tests;

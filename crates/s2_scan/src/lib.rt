@@ -32,6 +32,3 @@ mod windows;
 pub use advice::{gain_of, is_usual};
 pub use amplitude::amplitude_by;
 pub use command::scan_command;
-
-#[cfg(test)]
-mod tests;

@@ -21,6 +21,3 @@ mod values;
 
 pub use divisor::{DEFAULT_DIVISOR, DIVISORS, Divisor};
 pub use soft::soft_into;
-
-#[cfg(test)]
-mod tests;

@@ -1,6 +1,6 @@
 -- A made-up decider of the tests (own). The Q of the first symbol after a frame's header gives the frame's contents:
 -- below 0 nothing, below 2 the first part of a packet, below 10 the rest of it, else a message whose header is refused.
-use Rattle.std.specs.Prelude.{ℕ, ℤ, ◌-◌, ◌^◌, Bool, pos, int_lt, nat_eq, if◌then◌else◌, List, [], ◌∷◌, Option, Some, None}
+use Rattle.std.specs.Prelude.{ℕ, ℤ, ◌-◌, ◌^◌, Bool, pos, int_lt, if◌then◌else◌, List, [], Option, Some, None}
 use Rattle.s2_mode.specs.Limits.{header_symbols}
 use Rattle.s2_mode.specs.Symbols.{symbol_at}
 use Rattle.s2_mode.specs.declared.symbols.Symbol.{Symbol}
@@ -84,12 +84,3 @@ decision_for figured word bytes q =
 -- the content that a frame's symbols give
 abbrev pub content_of : List Symbol → ℤ
 content_of symbols = (symbol_at symbols header_symbols).q
-
--- which part of a packet a frame has, 1 or 2; 0 for none
-abbrev pub part_for : Option (Header × List ℕ) → ℕ
-part_for None = 0
-part_for (Some pair) = if nat_eq pair.0.syncd 0 then 1 else 2
-
--- what the sink of the tests writes for a frame: whether symbols were skipped before it, and its part
-abbrev pub note_for : Bool → Decision → List ℕ
-note_for after_gap decision = (if after_gap then 1 else 0) ∷ part_for decision.delivered ∷ []

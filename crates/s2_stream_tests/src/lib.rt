@@ -14,13 +14,13 @@ mod core_tests;
 #[cfg(test)]
 mod figures_tests;
 #[cfg(test)]
+mod finder_tests;
+#[cfg(test)]
 mod plframe_tests;
 #[cfg(test)]
 mod receive_tests;
 #[cfg(test)]
 mod send_tests;
-#[cfg(test)]
-mod sink_tests;
 pub mod streams;
 #[cfg(test)]
 mod toy;

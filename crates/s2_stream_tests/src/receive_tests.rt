@@ -1,11 +1,11 @@
 //! A receiver on streams of made-up frames.
 use super::streams::{ALL, Source, Steps, packet_of_zeros};
 use super::toy::{
-    DUMMY, FRAME, InBytes, Taken, Whole, frame, losing, lost, put_dummy, put_frame, put_header,
-    put_symbols, receive, receive_in_bytes, receive_within, take, take_within, totals, toy,
+    DUMMY, FRAME, InBytes, Taken, Whole, frame, losing, lost, put_dummy, put_frame, put_symbols,
+    receive_in_bytes, receive_within, take, take_within, totals, toy,
 };
 use s2_mode::{ByOne, MAX_SYMBOLS, StreamFault, WriteFault};
-use s2_receive::{Fault, Received, Step, Totals};
+use s2_receive::{Fault, Step, Totals};
 use std::alloc::{AllocError, Global};
 use std::process::Abort;
 use std::test::Fail;
@@ -78,30 +78,6 @@ fn frames_of(alloc: Global, firsts: &[i16], passed: u32, last: i16) -> Result<Ve
     Ok(bytes)
 }
 
-/// Their results.
-fn received(alloc: Global, firsts: &[i16], passed: u32, last: i16) -> Result<Received, Fail> {
-    let bytes = frames_of(alloc, firsts, passed, last)?;
-    receive(alloc, &bytes)
-}
-
-#[test]
-fn joins_the_parts_of_a_packet_and_none_across_a_gap(rt: HostRuntime) -> Result<(), Fail> {
-    let joined = received(rt.alloc(), &[1], 0, 2)?;
-    assert_eq!(rt; joined.totals, totals(2, 2, 1));
-    assert!(rt; joined.all_certified);
-    let parted = received(rt.alloc(), &[1, -1], 0, 2)?;
-    let incomplete = Totals {
-        incomplete: 1,
-        ..totals(3, 2, 0)
-    };
-    assert_eq!(rt; parted.totals, incomplete);
-    assert!(rt; !parted.all_certified);
-    let passed = received(rt.alloc(), &[1], 1, 2)?;
-    assert_eq!(rt; passed.totals, losing(totals(2, 2, 0), 1, FRAME, 1));
-    assert!(rt; passed.all_certified && passed.symbols == 2 * FRAME + 1);
-    Ok(())
-}
-
 /// The results of five calls on a frame that is lost and the two parts of a packet.
 fn lost_and_joined() -> Steps {
     steps_of(&[lost(1, 0), frame(2, FRAME), frame(3, 2 * FRAME)])
@@ -123,37 +99,6 @@ fn assert_joined<A: Abort>(rt: &A, alloc: Global, bytes: &[u8]) -> Result<(), Fa
 fn writes_a_packet_and_a_line_of_each_frame(rt: HostRuntime) -> Result<(), Fail> {
     let bytes = frames_of(rt.alloc(), &[-1, 1], 0, 2)?;
     assert_joined(&rt, rt.alloc(), &bytes)
-}
-
-/// A frame after 1100 symbols that lacks its last byte.
-fn cut_frame(alloc: Global) -> Result<Vec<u8>, AllocError> {
-    let mut bytes = Vec::new(alloc);
-    put_symbols(&mut bytes, 1100)?;
-    put_frame(&mut bytes, 1)?;
-    let _lost = bytes.pop();
-    Ok(bytes)
-}
-
-/// The results of five calls on it.
-fn cut_steps() -> Steps {
-    steps_of(&[Step::Cut {
-        at: 1100,
-        symbols: FRAME - 1,
-    }])
-}
-
-/// Asserts its results.
-fn assert_cut<A: Abort>(rt: &A, alloc: Global, bytes: &[u8]) -> Result<(), Fail> {
-    let taken = take(alloc, Source::Slice(bytes))?;
-    let report = "cut at 1100 symbols 5489\nend frames 0 delivered 0 packets 0 bad 0\n";
-    assert_steps(rt, &taken, cut_steps(), report);
-    Ok(())
-}
-
-#[test]
-fn cuts_a_frame_and_ends(rt: HostRuntime) -> Result<(), Fail> {
-    let bytes = cut_frame(rt.alloc())?;
-    assert_cut(&rt, rt.alloc(), &bytes)
 }
 
 /// The line of a frame at the start.
@@ -247,170 +192,6 @@ const LINES: [&str; 4] = [
     "frame 1 at 3330 most-likely fixed 0\nframe 2 at 15480 most-likely fixed 0\n",
     "frame 1 at 3330 most-likely fixed 0\nframe 2 at 15480 most-likely fixed 0\nend frames 2 delivered 2 packets 1 bad 0\n",
 ];
-
-/// The results of five calls on the two parts.
-fn parts_steps() -> Steps {
-    steps_of(&[frame(1, DUMMY), frame(2, SECOND)])
-}
-
-/// Asserts the results of the two parts.
-fn assert_parts<A: Abort>(rt: &A, alloc: Global, bytes: &[u8]) -> Result<(), Fail> {
-    let taken = take(alloc, Source::Bytes(ByOne::new(bytes)))?;
-    assert_steps(rt, &taken, parts_steps(), LINES[3]);
-    assert_came(rt, &taken, &packet_of_zeros(), totals(2, 2, 1));
-    Ok(())
-}
-
-/// The same if the last dummy frame has this number of symbols.
-fn assert_parts_with<A: Abort>(rt: &A, alloc: Global, last: u32) -> Result<(), Fail> {
-    let bytes = parts(alloc, last)?;
-    assert_parts(rt, alloc, &bytes)
-}
-
-#[test]
-fn joins_across_dummy_frames_byte_by_byte(rt: HostRuntime) -> Result<(), Fail> {
-    for last in [3330, 3329, 100, 90] {
-        assert_parts_with(&rt, rt.alloc(), last)?;
-    }
-    Ok(())
-}
-
-/// The two parts of a packet with a dummy frame between them, and numbers of symbols before and after the dummy frame.
-fn parts_around(alloc: Global, before: u32, behind: u32) -> Result<Vec<u8>, AllocError> {
-    let mut bytes = Vec::new(alloc);
-    put_frame(&mut bytes, 1)?;
-    put_symbols(&mut bytes, before)?;
-    put_dummy(&mut bytes, 3330)?;
-    put_symbols(&mut bytes, behind)?;
-    put_frame(&mut bytes, 2)?;
-    Ok(bytes)
-}
-
-/// Their totals.
-fn totals_around(alloc: Global, before: u32, behind: u32) -> Result<Totals, Fail> {
-    let bytes = parts_around(alloc, before, behind)?;
-    Ok(receive(alloc, &bytes)?.totals)
-}
-
-#[test]
-fn keeps_a_gap_across_a_dummy_frame(rt: HostRuntime) -> Result<(), Fail> {
-    for (before, behind, first) in [(1, 0, FRAME), (0, 1, FRAME + DUMMY), (89, 0, FRAME)] {
-        let passed = u64::from(before + behind);
-        let want = losing(totals(2, 2, 0), passed, first, 1);
-        assert_eq!(rt; totals_around(rt.alloc(), before, behind)?, want);
-    }
-    Ok(())
-}
-
-/// After 20 symbols a false header of a dummy frame, 1000 symbols before a frame, which it hides. After 70 more symbols
-/// the two parts of a packet.
-fn hidden_frame(alloc: Global) -> Result<Vec<u8>, AllocError> {
-    let mut bytes = Vec::new(alloc);
-    put_symbols(&mut bytes, 20)?;
-    put_dummy(&mut bytes, 1000)?;
-    put_frame(&mut bytes, 1)?;
-    put_symbols(&mut bytes, 70)?;
-    put_frame(&mut bytes, 1)?;
-    put_frame(&mut bytes, 2)?;
-    Ok(bytes)
-}
-
-/// The position of the first part.
-const BEHIND_HIDDEN: u64 = 20 + 1000 + FRAME + 70;
-
-/// The results of five calls on these.
-fn found_steps() -> Steps {
-    steps_of(&[frame(1, BEHIND_HIDDEN), frame(2, BEHIND_HIDDEN + FRAME)])
-}
-
-/// Their report.
-const FOUND: &str =
-    "frame 1 at 6580 most-likely fixed 0\nframe 2 at 12070 most-likely fixed 0\nend frames 2 delivered 2 packets 1 bad 0\n";
-
-/// Asserts their results: the symbols of the hidden frame after the dummy frame's end are skipped.
-fn assert_found<A: Abort>(rt: &A, alloc: Global, bytes: &[u8]) -> Result<(), Fail> {
-    let taken = take(alloc, Source::Slice(bytes))?;
-    assert_steps(rt, &taken, found_steps(), FOUND);
-    let want = losing(totals(2, 2, 1), BEHIND_HIDDEN - DUMMY, 0, 0);
-    assert_came(rt, &taken, &packet_of_zeros(), want);
-    Ok(())
-}
-
-#[test]
-fn finds_a_frame_behind_a_false_dummy_header(rt: HostRuntime) -> Result<(), Fail> {
-    let bytes = hidden_frame(rt.alloc())?;
-    assert_found(&rt, rt.alloc(), &bytes)
-}
-
-/// A number of whole dummy frames.
-fn dummies(alloc: Global, count: u32) -> Result<Vec<u8>, AllocError> {
-    let mut bytes = Vec::new(alloc);
-    for _ in 0..count {
-        put_dummy(&mut bytes, 3330)?;
-    }
-    Ok(bytes)
-}
-
-/// Their results.
-fn received_of_dummies(alloc: Global, count: u32) -> Result<Received, Fail> {
-    let bytes = dummies(alloc, count)?;
-    receive(alloc, &bytes)
-}
-
-#[test]
-fn ends_behind_dummy_frames_alone(rt: HostRuntime) -> Result<(), Fail> {
-    let received = received_of_dummies(rt.alloc(), 30)?;
-    assert_eq!(rt; received.totals, totals(0, 0, 0));
-    assert!(rt; received.all_certified);
-    Ok(())
-}
-
-/// A frame, and a number of symbols after it.
-fn frame_before(alloc: Global, passed: u32) -> Result<Vec<u8>, AllocError> {
-    let mut bytes = Vec::new(alloc);
-    put_frame(&mut bytes, 1)?;
-    put_symbols(&mut bytes, passed)?;
-    Ok(bytes)
-}
-
-/// Their totals.
-fn totals_behind(alloc: Global, passed: u32) -> Result<Totals, Fail> {
-    let bytes = frame_before(alloc, passed)?;
-    Ok(receive(alloc, &bytes)?.totals)
-}
-
-#[test]
-fn counts_what_is_passed_over_at_the_end(rt: HostRuntime) -> Result<(), Fail> {
-    let one = totals(1, 1, 0);
-    assert_eq!(rt; totals_behind(rt.alloc(), 89)?, one);
-    assert_eq!(rt; totals_behind(rt.alloc(), 90)?, losing(one, 90, FRAME, 0));
-    Ok(())
-}
-
-/// A frame, and after three symbols the header of another.
-fn header_alone(alloc: Global) -> Result<Vec<u8>, AllocError> {
-    let mut bytes = Vec::new(alloc);
-    put_frame(&mut bytes, 1)?;
-    put_symbols(&mut bytes, 3)?;
-    put_header(&mut bytes)?;
-    Ok(bytes)
-}
-
-/// Their totals.
-fn totals_of_header(alloc: Global) -> Result<Totals, Fail> {
-    let bytes = header_alone(alloc)?;
-    Ok(receive(alloc, &bytes)?.totals)
-}
-
-#[test]
-fn counts_what_is_passed_over_before_a_cut_frame(rt: HostRuntime) -> Result<(), Fail> {
-    let want = Totals {
-        cut: true,
-        ..losing(totals(1, 1, 0), 3, FRAME, 1)
-    };
-    assert_eq!(rt; totals_of_header(rt.alloc())?, want);
-    Ok(())
-}
 
 /// Asserts that a run stopped, and its report.
 fn assert_stopped<A: Abort>(rt: &A, whole: &Whole, report: &str) {

@@ -1,22 +1,15 @@
 //! Small links and their streams, for the tests here and in `s2_link_tests`. In the tests, calls with a large contract
 //! are made only here, each in a function without a contract. So a test's own proof stays small.
-ghost use Rattle.std.specs.Prelude.{◌≡◌, ◌≤◌, IfOk, IsTrue, length};
-ghost use Rattle.s2_mode.specs.Mode.{n_of};
-ghost use Rattle.s2_bbframe.specs.DataStream.{field_bytes};
-
-use s2_bbframe::Header;
-use s2_bits::Bits;
-use s2_link::{Link, Setup, SetupFault};
+use s2_link::{Setup, SetupFault};
 use s2_matrix::Matrix;
 use s2_mode::{
-    ByOne, Counted, Counting, DUMMY_SYMBOLS, Endless, FailAt, Mode, Shape, Symbol, WriteFault,
-    bytes_into,
+    ByOne, Counted, Counting, DUMMY_SYMBOLS, Endless, FailAt, Mode, Shape, Symbol, bytes_into,
 };
 use s2_plframe::dummy_into;
 use s2_receive::{Fault, Step};
 use s2_rows::make_rows;
 use s2_scramble::Gold;
-use s2_send::{Coder, Counts, Framer, Modulator, SendFault, Transmitter};
+use s2_send::{Counts, SendFault, Transmitter};
 use std::alloc::{AllocError, Global};
 use std::io;
 use std::io::Read;
@@ -68,24 +61,6 @@ pub fn setup_of(modcod: u8, short: bool) -> Result<Setup, Fail> {
 /// The link of a mode without pilots, of number 0 and roll-off 0, by rows of weight 3.
 pub fn link_of(alloc: Global, modcod: u8, short: bool) -> Result<Sides, Fail> {
     link_in(alloc, setup_of(modcod, short)?)
-}
-
-/// The link of QPSK 1/4 in short frames with this number and roll-off, or one whose checks are of another shape.
-pub fn other_link(
-    alloc: Global,
-    number: u32,
-    roll_off: u8,
-    other_shape: bool,
-) -> Result<Sides, Fail> {
-    let mut setup = setup_of(1, true)?;
-    setup.number = number;
-    setup.roll_off = roll_off;
-    if !other_shape {
-        return link_in(alloc, setup);
-    }
-    let toy = Shape::new(4, 2, 3).ok_or("no shape")?;
-    let matrix = matrix_of(alloc, toy, 3)?;
-    Ok(Sides { setup, matrix })
 }
 
 /// A packet of zeros.
@@ -289,29 +264,6 @@ pub fn send(
     }
 }
 
-/// Makes a transmitter send a dummy frame after every n-th frame.
-fn dummy_every(transmitter: &mut Transmitter<'_>, frames: u16) {
-    transmitter.dummy_every(frames);
-}
-
-/// The results of a link's transmitter on an input, with a dummy frame after every n-th frame, if these numbers of
-/// reads and of writes succeed.
-pub fn send_with_dummies(
-    alloc: Global,
-    link: &Sides,
-    frames: u16,
-    source: Source<'_>,
-    passes: [u64; 2],
-) -> Result<Sent, SetupFault> {
-    match transmitter_of(alloc, link) {
-        Ok(mut transmitter) => {
-            dummy_every(&mut transmitter, frames);
-            Ok(sent_by(alloc, &mut transmitter, source, passes))
-        }
-        Err(fault) => Err(fault),
-    }
-}
-
 /// Appends the bytes of a symbol.
 pub fn put_symbol(bytes: &mut Vec<u8>, symbol: Symbol) -> Result<(), AllocError> {
     bytes.extend_from_slice(&symbol.i.to_be_bytes())?;
@@ -399,165 +351,4 @@ pub fn two_frames(alloc: Global) -> Result<Sample, Fail> {
 /// The link of QPSK 1/4 in normal frames, and the symbols of a packet of zeros on it.
 pub fn one_frame(alloc: Global) -> Result<Sample, Fail> {
     sample_of(alloc, 1, false, &packet_of_zeros())
-}
-
-/// Writes a frame.
-fn write_frame(
-    framer: &mut Framer<'_>,
-    header: &Header,
-    field: &[u8],
-    writer: &mut Writer,
-) -> Result<(), WriteFault>
-    requires roll_off { header.now.roll_off ≤ 3 }
-    requires field { length field.now ≤ field_bytes framer.old.setup.mode }
-{
-    if writer.count() == u64::MAX {
-        return Err(WriteFault);
-    }
-    framer.write_frame(header, field, writer)
-}
-
-/// The bytes of a frame.
-fn framed_by(
-    alloc: Global,
-    framer: &mut Framer<'_>,
-    header: &Header,
-    field: &[u8],
-) -> Result<Vec<u8>, WriteFault>
-    requires roll_off { header.now.roll_off ≤ 3 }
-    requires field { length field.now ≤ field_bytes framer.old.setup.mode }
-{
-    let mut writer = writer_of(alloc, ALL);
-    match write_frame(framer, header, field, &mut writer) {
-        Ok(()) => Ok(taken(writer)),
-        Err(fault) => Err(fault),
-    }
-}
-
-/// The same by a framer of a link.
-fn framed_on(alloc: Global, link: &Link<'_>, header: &Header, field: &[u8]) -> Result<Vec<u8>, Fail>
-    requires roll_off { header.now.roll_off ≤ 3 }
-    requires field { length field.now ≤ field_bytes link.now.setup.mode }
-{
-    match Framer::new(alloc, link) {
-        Ok(mut framer) => Ok(framed_by(alloc, &mut framer, header, field)?),
-        Err(fault) => Err(Fail::from(fault)),
-    }
-}
-
-/// Whether a header and these bytes are of some frame of a mode.
-fn is_frame_of(mode: Mode, header: &Header, field: &[u8]) -> bool
-    ensures roll_off { IsTrue result → header.now.roll_off ≤ 3 }
-    ensures field { IsTrue result → length field.now ≤ field_bytes mode }
-{
-    header.roll_off <= 3 && field.len() <= s2_bbframe::field_bytes(mode)
-}
-
-/// The symbols of the frame of any header and of the bytes after it.
-pub fn frame_of(
-    alloc: Global,
-    link: &Sides,
-    header: &Header,
-    field: &[u8],
-) -> Result<Vec<u8>, Fail> {
-    if !is_frame_of(link.setup.mode, header, field) {
-        return Err(Fail::from("no frame of the link"));
-    }
-    framed_on(alloc, &Link::new(link.setup, &link.matrix)?, header, field)
-}
-
-/// A coder's BCH word of a header and its data field.
-fn bch_word_by(
-    alloc: Global,
-    coder: &mut Coder<'_>,
-    size: usize,
-    header: &Header,
-    field: &[u8],
-) -> Result<Bits, AllocError>
-    requires roll_off { header.now.roll_off ≤ 3 }
-    requires field { length field.now ≤ field_bytes coder.old.mode }
-    requires size { size ≤ n_of coder.old.mode }
-{
-    coder.encode(header, field);
-    front_of(alloc, coder.codeword(), size)
-}
-
-/// The first bits of some.
-fn front_of(alloc: Global, bits: &Bits, size: usize) -> Result<Bits, AllocError>
-    requires { size ≤ length bits.now }
-{
-    let mut front = Bits::zeroed(alloc, size)?;
-    front.copy_prefix(bits, size);
-    Ok(front)
-}
-
-/// The same by a coder of a link.
-fn bch_word_on(alloc: Global, link: &Link<'_>, header: &Header, field: &[u8]) -> Result<Bits, Fail>
-    requires roll_off { header.now.roll_off ≤ 3 }
-    requires field { length field.now ≤ field_bytes link.now.setup.mode }
-{
-    match Coder::new(alloc, link) {
-        Ok(mut coder) => Ok(bch_word_by(alloc, &mut coder, link.mode().k(), header, field)?),
-        Err(fault) => Err(Fail::from(fault)),
-    }
-}
-
-/// The BCH word of a header and its data field.
-pub fn bch_word_of(
-    alloc: Global,
-    link: &Sides,
-    header: &Header,
-    field: &[u8],
-) -> Result<Bits, Fail> {
-    if !is_frame_of(link.setup.mode, header, field) {
-        return Err(Fail::from("no frame of the link"));
-    }
-    bch_word_on(alloc, &Link::new(link.setup, &link.matrix)?, header, field)
-}
-
-/// The first 32 bits of a word.
-pub fn first_bytes(word: &Bits) -> [u8; 4] {
-    [word.byte(0), word.byte(1), word.byte(2), word.byte(3)]
-}
-
-/// A modulator's symbols of a codeword.
-fn modulated_by(
-    alloc: Global,
-    modulator: &mut Modulator,
-    codeword: &Bits,
-) -> Result<Vec<u8>, AllocError>
-    requires { length codeword.now ≡ n_of modulator.old.mode }
-{
-    modulator.modulate(codeword);
-    let mut symbols = Vec::new(alloc);
-    symbols.extend_from_slice(modulator.bytes())?;
-    Ok(symbols)
-}
-
-/// The modulator of a mode under the scrambling number 0.
-fn modulator_of(alloc: Global, mode: Mode) -> Result<Modulator, Fail>
-    ensures { IfOk result (λ m. m.mode ≡ mode) }
-{
-    Ok(Modulator::new(alloc, mode, Gold::new(alloc, 0)?)?)
-}
-
-/// The symbols of the frame of a codeword.
-fn modulated(alloc: Global, mode: Mode, codeword: &Bits) -> Result<Vec<u8>, Fail>
-    requires { length codeword.now ≡ n_of mode }
-{
-    match modulator_of(alloc, mode) {
-        Ok(mut modulator) => Ok(modulated_by(alloc, &mut modulator, codeword)?),
-        Err(fault) => Err(fault),
-    }
-}
-
-/// The symbols of the frame of the codeword that begins with this BCH word.
-pub fn frame_of_word(alloc: Global, link: &Sides, bch_word: &Bits) -> Result<Vec<u8>, Fail> {
-    let mode = link.setup.mode;
-    if link.matrix.shape() != mode.shape() || bch_word.len() != mode.k() {
-        return Err(Fail::from("another link"));
-    }
-    let mut codeword = Bits::zeroed(alloc, mode.n())?;
-    s2_ldpc::encode_into(&link.matrix, bch_word, &mut codeword);
-    modulated(alloc, mode, &codeword)
 }

@@ -1,14 +1,10 @@
 //! A receiver with a made-up decider, for tests. It takes frames of 8PSK 3/5 in short frames, with or without the
 //! results of a code. The first symbol after a frame's header gives its content; its field has 100 bytes of zeros.
 //! As in `streams`, calls with a large contract are made only here in the tests.
-ghost use Rattle.std.specs.Prelude.{◌≡◌, ◌+◌, ◌/◌, ◌<◌, ◌≤◌, IfOk, IfSome, IsTrue, length};
-ghost use Rattle.std.specs.Io.KnownBytes.{Appends};
-ghost use Rattle.s2_mode.specs.Counts.{CanCount};
-ghost use Rattle.s2_mode.specs.Pieces.{AppendsPart};
+ghost use Rattle.std.specs.Prelude.{◌≡◌, ◌/◌, ◌<◌, ◌≤◌, IfOk, IfSome, length};
 ghost use Rattle.s2_mode.specs.Limits.{max_symbols};
 ghost use Rattle.s2_receive.specs.Receiving.{IsLive, begun};
-ghost use Rattle.s2_receive.specs.Sinks.{wanted_count};
-ghost use Rattle.s2_stream_tests.specs.Toy.{content_of, energy_for, figures_for, header_for, note_for, outcome_for, part_for, place_for, verdict_for};
+ghost use Rattle.s2_stream_tests.specs.Toy.{content_of, energy_for, figures_for, header_for, outcome_for, place_for, verdict_for};
 
 use super::streams::{
     ALL, Fed, Heard, Reader, Source, Steps, Writer, header_of, put_symbol, reader_of, taken,
@@ -17,13 +13,11 @@ use super::streams::{
 use s2_bbframe::{Header, HeaderFault};
 use s2_bits::Bits;
 use s2_check::Verdict;
-use s2_mode::{
-    Counted, CountedWrite, MAX_SYMBOLS, Mode, StreamFault, Symbol, WriteFault, write_full,
-};
+use s2_mode::{Counted, MAX_SYMBOLS, Mode, StreamFault, Symbol, WriteFault};
 use s2_plframe::Lock;
 use s2_receive::{
-    Decide, Decided, Fault, Figures, Frame, Outcome, Received, Receiver, Report, Sink, Step, Tally,
-    Totals, receive_all, receive_bytes, receive_with,
+    Decide, Decided, Fault, Figures, Frame, Outcome, Received, Receiver, Report, Step, Tally,
+    Totals, receive_all, receive_bytes,
 };
 use std::alloc::{AllocError, Global};
 use std::test::Fail;
@@ -503,143 +497,6 @@ fn whole_by(alloc: Global, receiver: &mut Toy, bytes: &[u8]) -> Whole
 pub(crate) fn receive_within(alloc: Global, limit: u64, bytes: &[u8]) -> Result<Whole, Fail> {
     match toy(alloc, limit.min(MAX_SYMBOLS)) {
         Ok(mut receiver) => Ok(whole_by(alloc, &mut receiver, bytes)),
-        Err(fault) => Err(fault),
-    }
-}
-
-/// The same for a receiver without its own limit, if nothing fails.
-pub(crate) fn receive(alloc: Global, bytes: &[u8]) -> Result<Received, Fail> {
-    Ok(receive_within(alloc, MAX_SYMBOLS, bytes)?.answer?)
-}
-
-/// A sink that writes two bytes for each frame: whether symbols were skipped before it, and its part.
-#[derive(Drop)]
-pub(crate) struct Notes<W> {
-    to: W,
-}
-
-/// Which part of a packet a frame has, 1 or 2; 0 if it is lost.
-fn part_of(frame: &Frame<'_>) -> u8
-    ensures { result ≡ part_for frame.now.delivered }
-{
-    match frame.decided.header {
-        None => 0,
-        Some(header) => { if header.syncd == 0 { 1 } else { 2 } }
-    }
-}
-
-/// The bytes of a frame.
-fn note_of(after_gap: bool, frame: &Frame<'_>) -> [u8; 2]
-    ensures { result ≡ note_for after_gap frame.now }
-{
-    [if after_gap { 1 } else { 0 }, part_of(frame)]
-}
-
-impl<W: CountedWrite> Sink for Notes<W> {
-    ghost takes = { λ old new after_gap decision. Appends (W.contents old.to) (W.contents new.to) (note_for after_gap decision) };
-
-    ghost fails = { λ old new after_gap decision. AppendsPart (note_for after_gap decision) (W.contents old.to) (W.contents new.to) };
-
-    ghost count = { λ notes. W.count notes.to };
-
-    fn take(&mut self, after_gap: bool, frame: &Frame<'_>) -> Result<(), WriteFault> {
-        write_full(&mut self.to, &note_of(after_gap, frame))
-    }
-}
-
-/// Two such sinks; there may be only the first.
-type Sinks<W> = (Notes<W>, Option<Notes<W>>);
-
-/// Whether a failed call of sinks can be counted.
-fn can_count<W: CountedWrite>(sinks: &Sinks<W>) -> bool
-    ensures { IsTrue result → CanCount (W.count sinks.now.0.to + wanted_count (λ (notes : Notes W). W.count notes.to) sinks.now.1) }
-{
-    match &sinks.1 {
-        None => sinks.0.to.count() < 1 << 62,
-        Some(second) => sinks.0.to.count() < 1 << 62 && second.to.count() < 1 << 62,
-    }
-}
-
-/// Runs a receiver with sinks to the end of its input.
-fn run_with_sinks(
-    receiver: &mut Toy,
-    reader: &mut Reader<'_>,
-    sinks: &mut Sinks<Writer>,
-    packets: &mut Writer,
-    report: &mut Writer,
-) -> Result<Received, StreamFault>
-    requires { IsLive receiver.old.state.phase }
-{
-    let failed = [reader.count(), packets.count(), report.count()];
-    if failed[0] == u64::MAX
-        || failed[1] == u64::MAX
-        || failed[2] == u64::MAX
-        || !can_count(sinks)
-    {
-        return Err(StreamFault::Read);
-    }
-    receive_with(receiver, reader, sinks, packets, report)
-}
-
-/// The results of a run with two sinks.
-pub(crate) struct Noted {
-    pub(crate) answer: Result<Received, StreamFault>,
-    pub(crate) first: Vec<u8>,
-    pub(crate) second: Vec<u8>,
-    pub(crate) packets: Vec<u8>,
-    pub(crate) report: Vec<u8>,
-}
-
-impl Drop for Noted {
-    fn drop(self) {
-        let Noted {
-            answer: _,
-            first: _,
-            second: _,
-            packets: _,
-            report: _,
-        } = self;
-    }
-}
-
-/// Sinks that fail after these numbers of writes.
-fn sinks_of(alloc: Global, passes: [u64; 2]) -> Sinks<Writer> {
-    let first = Notes {
-        to: writer_of(alloc, passes[0]),
-    };
-    let second = Notes {
-        to: writer_of(alloc, passes[1]),
-    };
-    (first, Some(second))
-}
-
-/// The bytes that a sink wrote.
-fn bytes_of(notes: Notes<Writer>) -> Vec<u8> {
-    taken(notes.to)
-}
-
-fn noted_by(alloc: Global, receiver: &mut Toy, bytes: &[u8], passes: [u64; 3]) -> Noted
-    requires { IsLive receiver.old.state.phase }
-{
-    let mut reader = reader_of(Source::Slice(bytes), ALL);
-    let mut sinks = sinks_of(alloc, [passes[0], passes[1]]);
-    let mut packets = writer_of(alloc, passes[2]);
-    let mut report = writer_of(alloc, ALL);
-    let answer = run_with_sinks(receiver, &mut reader, &mut sinks, &mut packets, &mut report);
-    let (first, second) = sinks;
-    Noted {
-        answer,
-        first: bytes_of(first),
-        second: second.map_or(Vec::new(alloc), bytes_of),
-        packets: taken(packets),
-        report: taken(report),
-    }
-}
-
-/// The results of bytes with two sinks, if these numbers of writes of the sinks and of packets succeed.
-pub(crate) fn receive_noted(alloc: Global, bytes: &[u8], passes: [u64; 3]) -> Result<Noted, Fail> {
-    match toy(alloc, MAX_SYMBOLS) {
-        Ok(mut receiver) => Ok(noted_by(alloc, &mut receiver, bytes, passes)),
         Err(fault) => Err(fault),
     }
 }

@@ -23,6 +23,3 @@ mod wanted;
 pub use command::table_command;
 pub use note::{read_noted, write_note};
 pub use wanted::{conclude_noted, report_noted};
-
-#[cfg(test)]
-mod tests;
