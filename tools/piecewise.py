@@ -267,6 +267,10 @@ class Reception:
         self.gaps |= {number: None if left < len(open_ones) else True for number in open_ones if left}
 
 
+def is_whole_only(name):
+    """Whether an output is a file, which gets its name when it is whole, and not a device, a pipe or standard output."""
+    return name not in STANDARD and (not os.path.exists(name) or os.path.isfile(name))
+
 
 class Output:
     """A file that has its name only when it is whole. A device, a pipe and standard output are written at once."""
@@ -274,7 +278,7 @@ class Output:
     def __init__(self, name):
         self.name, self.path = name, os.path.realpath(name)
         self.standard = name in STANDARD
-        self.whole_only = not self.standard and (not os.path.exists(name) or os.path.isfile(name))
+        self.whole_only = is_whole_only(name)
         self.part = name
         if self.whole_only:
             number, self.part = tempfile.mkstemp(prefix=f".{os.path.basename(self.path)}.", dir=os.path.dirname(self.path))
@@ -302,9 +306,10 @@ class Outputs:
         self.packets, self.records = Output(packets), {name: Output(file) for name, file in records.items()}
         standard = any(it.standard for it in self.all())
         self.report = open(2 if standard else 1, "wb", closefd=False)
-        target = "-" if self.packets.standard else self.packets.part
-        pipes = {"stdin": subprocess.PIPE, "stdout": None if self.packets.standard else subprocess.PIPE, "stderr": subprocess.PIPE}
-        self.join = subprocess.Popen([receiver.program, "join", *mode, "-", target], **pipes)
+        with self.packets.opened() as target:
+            # a name such as /dev/fd/63 would be another file in the other process
+            pipes = {"stdin": subprocess.PIPE, "stdout": target, "stderr": subprocess.PIPE}
+            self.join = subprocess.Popen([receiver.program, "join", *mode, "-", "-"], **pipes)
         self.files = {name: it.opened() for name, it in self.records.items()}
 
     def all(self):
@@ -336,7 +341,7 @@ class Outputs:
     def joined(self):
         """The numbers of the end line of the join, after its end: frames, delivered, packets, bad."""
         try:
-            printed = b"".join(filter(None, self.join.communicate()))
+            _, printed = self.join.communicate()
         except BrokenPipeError:
             printed = self.join.stderr.read()
             self.join.wait()
@@ -648,11 +653,18 @@ def settle(words, chosen):
     chosen.given_jobs, chosen.jobs = chosen.jobs, chosen.jobs or len(os.sched_getaffinity(0))
 
 
+def file_of(name):
+    """What all names of a file share, also of one that is not there yet; None for a pipe or a device, which may have several names."""
+    if name not in STANDARD and not os.path.exists(name):
+        return os.path.realpath(name)
+    status = os.fstat(1) if name in STANDARD else os.stat(name)
+    return (status.st_dev, status.st_ino) if stat.S_ISREG(status.st_mode) else None
+
+
 def is_refused(inputs, outputs):
     """Whether s2 refuses a file, or may do so: then it runs by itself, and says what is wrong."""
     outputs = [*outputs]
-    named = [os.stat(it) for it in (*inputs, *outputs) if it not in STANDARD and os.path.exists(it)]
-    files = [(it.st_dev, it.st_ino) for it in named if stat.S_ISREG(it.st_mode)]
+    files = [it for it in map(file_of, (*inputs, *outputs)) if it]
     closed = [it for it in outputs if it != "-" and not os.access(it if os.path.exists(it) else os.path.dirname(os.path.abspath(it)), os.W_OK)]
     unread = [it for it in inputs if not os.access(it, os.R_OK)]
     twice = len({*files}) < len(files) or len([it for it in outputs if it in STANDARD]) > 1
