@@ -177,7 +177,8 @@ def draw(path, title, samples, symbols):
     figure.savefig(path, dpi=100, metadata={"Software": None})
 
 
-def words_given(what, ratio, frames, most_lost):
+def words_given(what, ratio, frames, most_lost, **more):
+    """The words of a flow graph; `more` are further options, whole numbers that are 0 without them, with their help."""
     words = argparse.ArgumentParser(description=what.partition("\n")[0])
     words.add_argument("rows", help="row file of rate 3/4, normal frames")
     words.add_argument("--ratio", type=float, default=ratio, help=f"Es/N0 in dB, {ratio} without it")
@@ -186,4 +187,6 @@ def words_given(what, ratio, frames, most_lost):
     words.add_argument("--lost", type=int, default=most_lost, help=f"frames that may be lost at the ends, {most_lost} without it")
     words.add_argument("--passes", type=int, default=96, help="passes of `s2 demod` that look for certificates, 96 without it")
     words.add_argument("--picture", help="PNG of the spectrum and the symbols")
+    for name, told in more.items():
+        words.add_argument(f"--{name}", type=int, default=0, help=told)
     return words.parse_args()

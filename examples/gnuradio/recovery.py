@@ -59,8 +59,8 @@ def spoilt(graph, samples, ratio, seed):
     return flow.noised(graph, phased, ratio, seed)
 
 
-def recovered(graph, samples):
-    """Symbols of the samples, turned back."""
+def recovered(graph, samples, quarters=0):
+    """Symbols of the samples, turned back. The Costas loop holds one of four phases, as it begins; so many quarters are added to it."""
     points = digital.constellation_qpsk().base()
     bank = flow.pulse(FILTERS, FILTERS * flow.SAMPLES)
     timing = digital.symbol_sync_cc(
@@ -68,18 +68,18 @@ def recovered(graph, samples):
     )
     turns = QuarterTurns(flow.MODCOD, flow.TYPE)
     edges = digital.fll_band_edge_cc(flow.SAMPLES, flow.ROLL_OFF, 12 * flow.SAMPLES + 1, 0.0015)
-    graph.connect(samples, edges, timing, digital.costas_loop_cc(0.008, 4), turns)
+    graph.connect(samples, edges, timing, digital.costas_loop_cc(0.008, 4), blocks.multiply_const_cc(1j**quarters), turns)
     graph.turns = turns  # the graph itself does not keep a block of Python alive
     return turns
 
 
 def main():
-    chosen = flow.words_given(__doc__, 7.0, 10, 3)
+    chosen = flow.words_given(__doc__, 7.0, 10, 3, quarters="quarter turns more behind the Costas loop, 0 without it")
     graph, link = gr.top_block(), flow.Link(chosen)
     shaped = flow.shaped()
     graph.connect(link.sent(graph), shaped)
     noisy = spoilt(graph, shaped, chosen.ratio, chosen.seed)
-    symbols = recovered(graph, noisy)
+    symbols = recovered(graph, noisy, chosen.quarters)
     link.receive(graph, symbols)
     link.finish(graph, "recovered", noisy, symbols, 10 * flow.DRAWN)
 
