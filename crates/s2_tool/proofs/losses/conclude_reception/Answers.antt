@@ -1,4 +1,4 @@
-use Rattle.s2_tool.proofs.Names.{Ok, Err, [], refl, sym, ap, inl, inr, arith, exit_by, notes_of}
+use Rattle.s2_tool.proofs.Names.{◌≢◌, Ok, Err, [], refl, sym, ap, inl, inr, arith, exit_by, notes_of}
 use Rattle.s2_tool.proofs.Names.faults
 use Rattle.s2_tool.proofs.NoteLemmas.{remarked, unremarked}
 use Rattle.s2_tool.proofs.losses.conclude_reception.Goals as goal
@@ -27,15 +27,14 @@ returns-in-Ok-write_notes-clause-finishes g c =
 pub returns-in-Err-write_notes-clause-finishes : goal.returns-in-Err-write_notes-clause-finishes
 returns-in-Err-write_notes-clause-finishes g c =
     let notes = notes_of c.args.mode.now c.in-Ok-2.received in
-    let risen = omega (arith, c.in-Err-write_notes.ensures.cause, c.complain.ensures.counted) in
+    let some : notes ≢ [] =
+        λ e. absurd (omega (arith, c.in-Err-write_notes.ensures.cause, ap (λ w. g.E.CountedWrite.count w) (c.write_notes.ensures.none e))) in
     rw (sym c.console.view_is) (record {
       ended = Err faults.Write;
       notes = notes;
       exit_is = c.complain.ensures.exit;
-      answered = rw (c.in-Ok-2.is, c.if-words.false) (
-        refl,
-        inr
-            (λ e. absurd (omega (arith, c.in-Err-write_notes.ensures.cause, ap (λ w. g.E.CountedWrite.count w) (c.write_notes.ensures.none e))), refl, risen),
-      );
-      remarks = unremarked notes faults.Write _ c.complain.new.self risen;
+      answered = rw (c.in-Ok-2.is, c.if-words.false)
+          (refl, inr (some, refl, omega (arith, c.in-Err-write_notes.ensures.cause, c.complain.ensures.counted)));
+      remarks = unremarked notes faults.Write _ c.complain.new.self
+          (omega (arith, c.in-Err-write_notes.ensures.cause, c.complain.ensures.counted));
     })
