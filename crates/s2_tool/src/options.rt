@@ -35,14 +35,14 @@ const _: () = prove!(limits::LEAST_ESN0 == s2_channel::LEAST_ESN0);
 const _: () = prove!(limits::MAX_ESN0 == s2_channel::MAX_ESN0);
 
 /// A channel: the seed of its noise, and how strong that is.
-#[derive(Clone, Copy, PartialEq, Eq)]
+#[derive(Clone, Copy)]
 pub struct Channel {
     pub seed: u64,
     pub strength: Strength,
 }
 
 /// What `demod` is asked for, besides its link and its files.
-#[derive(Clone, Copy, PartialEq, Eq)]
+#[derive(Clone, Copy)]
 pub struct DemodOptions {
     pub tuning: Tuning,
     pub notes: NoteWords,
@@ -51,7 +51,7 @@ pub struct DemodOptions {
 /// What `run` is asked for, besides its link and its files: the number of frames between dummy frames (0 for none), the
 /// tuning, a channel, the seeds of its runs if there are many (the channel's seed is then the first of them), and the
 /// notes.
-#[derive(Clone, Copy, PartialEq, Eq)]
+#[derive(Clone, Copy)]
 pub struct RunOptions {
     pub dummy: u16,
     pub tuning: Tuning,

@@ -1,13 +1,13 @@
 //! The parser that the table describes.
 use crate::arguments::{Argument, Form, Value};
 use crate::help::{ABOUT, MORE, more_of};
-use crate::table::{Entry, Name, Rule, arguments_of, choices_of, commands, rule_of};
+use crate::table::{Choice, Entry, Name, Rule, arguments_of, choices_of, commands, rule_of};
 use clap::builder::ValueParser;
 use clap::{Arg, ArgAction, ArgGroup, Command};
 use std::alloc::{AllocError, Global};
 
 /// The values that may be given by a name, read.
-#[derive(Clone, Copy, PartialEq, Eq)]
+#[derive(Clone, Copy)]
 pub(crate) enum Values {
     /// Numbers, which the parser tests.
     Numbers,
@@ -17,10 +17,9 @@ pub(crate) enum Values {
 
 /// What the parser accepts as a value.
 fn allowed_of(value: Value, values: Values) -> ValueParser<'static> {
-    if value.has_names && values == Values::Texts {
-        ValueParser::String
-    } else {
-        value.allowed
+    match values {
+        Values::Texts if value.has_names => ValueParser::String,
+        _ => value.allowed,
     }
 }
 
@@ -66,12 +65,16 @@ fn args_of<'a>(alloc: Global, command: Name, values: Values) -> Result<Vec<Arg<'
     Ok(args)
 }
 
+fn group_of<'a>(alloc: Global, choice: Choice) -> Result<ArgGroup<'a>, AllocError> {
+    let group = ArgGroup::new(alloc, choice.name).args(choice.options)?;
+    Ok(group.required(true))
+}
+
 /// The choices of a command.
 fn groups_of<'a>(alloc: Global, command: Name) -> Result<Vec<ArgGroup<'a>>, AllocError> {
     let mut groups = Vec::new(alloc);
     for choice in choices_of(command) {
-        let group = ArgGroup::new(alloc, choice.name).required(true);
-        groups.push(group.args(choice.options)?)?;
+        groups.push(group_of(alloc, *choice)?)?;
     }
     Ok(groups)
 }

@@ -271,5 +271,5 @@ pub(crate) fn misused(
 /// The usage fault of an argument that is not text.
 pub fn not_text(alloc: Global, argument: &str) -> Result<Error, AllocError> {
     let message = format!(in alloc; "invalid UTF-8 in the argument '{argument}'")?;
-    program(alloc, Values::Numbers)?.error(ErrorKind::ValueValidation, message.as_str())
+    fault_of(program(alloc, Values::Numbers)?, message.as_str())
 }

@@ -2,7 +2,7 @@
 use s2_names::SymbolRate;
 
 /// The numbers of a shape.
-#[derive(Clone, Copy, PartialEq, Eq)]
+#[derive(Clone, Copy)]
 pub struct ShapeWords {
     pub group: u16,
     pub groups: u16,
@@ -10,7 +10,7 @@ pub struct ShapeWords {
 }
 
 /// The numbers of a mode and of a link.
-#[derive(Clone, Copy, PartialEq, Eq)]
+#[derive(Clone, Copy)]
 pub struct LinkWords {
     pub modcod: u8,
     pub short: bool,
@@ -20,28 +20,28 @@ pub struct LinkWords {
 }
 
 /// How strong noise is: its level, or an Es/N0 in hundredths of a dB.
-#[derive(Clone, Copy, PartialEq, Eq)]
+#[derive(Clone, Copy)]
 pub enum StrengthWords {
     Level(u16),
     EsN0(i32),
 }
 
 /// The seed of a channel's noise, and how strong that is.
-#[derive(Clone, Copy, PartialEq, Eq)]
+#[derive(Clone, Copy)]
 pub struct ChannelWords {
     pub seed: u64,
     pub strength: StrengthWords,
 }
 
 /// A number of the line, or its default if it is not there.
-#[derive(Clone, Copy, PartialEq, Eq)]
+#[derive(Clone, Copy)]
 pub struct NumberWords {
     pub is_given: bool,
     pub value: u32,
 }
 
 /// What the line says of how a receiver is tuned.
-#[derive(Clone, Copy, PartialEq, Eq)]
+#[derive(Clone, Copy)]
 pub struct TuningWords {
     pub rounds: u32,
     pub passes: NumberWords,
@@ -54,14 +54,14 @@ pub struct TuningWords {
 }
 
 /// A range of seeds, from the first to the last: `first` is at most `last`.
-#[derive(Clone, Copy, Debug, PartialEq, Eq)]
+#[derive(Clone, Copy)]
 pub struct Seeds {
     pub first: u64,
     pub last: u64,
 }
 
 /// `rows`: the numbers of made rows.
-#[derive(Clone, Copy, PartialEq, Eq)]
+#[derive(Clone, Copy)]
 pub struct RowsWords {
     pub shape: ShapeWords,
     pub weight: u8,
@@ -69,7 +69,7 @@ pub struct RowsWords {
 }
 
 /// A code, by the numbers of its shape or by a mode.
-#[derive(Clone, Copy, PartialEq, Eq)]
+#[derive(Clone, Copy)]
 pub enum CodeWords {
     Shape(ShapeWords),
     Mode { modcod: u8, short: bool },
@@ -77,7 +77,7 @@ pub enum CodeWords {
 
 /// `judge`: a code, whether there are many frames, whether the values are decided bits, whether notes are left out, the
 /// passes and the factor, whether what min-sum finds stays uncertified, and the files.
-#[derive(Clone, Copy, PartialEq, Eq)]
+#[derive(Clone, Copy)]
 pub struct JudgeWords<'a> {
     pub code: CodeWords,
     pub each: bool,
@@ -92,7 +92,7 @@ pub struct JudgeWords<'a> {
 }
 
 /// `table`: the numbers of a code, and its row file.
-#[derive(Clone, Copy, PartialEq, Eq)]
+#[derive(Clone, Copy)]
 pub struct TableWords<'a> {
     pub modcod: u8,
     pub short: bool,
@@ -101,7 +101,7 @@ pub struct TableWords<'a> {
 }
 
 /// `check`: whether there are many certificates, and the files.
-#[derive(Clone, Copy, PartialEq, Eq)]
+#[derive(Clone, Copy)]
 pub struct CheckWords<'a> {
     pub each: bool,
     pub rows: &'a str,
@@ -109,7 +109,7 @@ pub struct CheckWords<'a> {
 }
 
 /// Whether progress is shown on standard error.
-#[derive(Clone, Copy, Debug, PartialEq, Eq)]
+#[derive(Clone, Copy)]
 pub enum Progress {
     /// It was requested.
     Shown,
@@ -121,7 +121,7 @@ pub enum Progress {
 
 /// `mod`: a link, the number of frames between dummy frames (0 for none), whether notes are left out, whether
 /// progress is shown, the records (codewords and BBFRAMEs), and the files.
-#[derive(Clone, Copy, PartialEq, Eq)]
+#[derive(Clone, Copy)]
 pub struct ModWords<'a> {
     pub link: LinkWords,
     pub dummy: u16,
@@ -134,7 +134,7 @@ pub struct ModWords<'a> {
 }
 
 /// `noise`: a channel, whether progress is shown, and the files.
-#[derive(Clone, Copy, PartialEq, Eq)]
+#[derive(Clone, Copy)]
 pub struct NoiseWords<'a> {
     pub channel: ChannelWords,
     pub progress: Progress,
@@ -144,7 +144,7 @@ pub struct NoiseWords<'a> {
 
 /// What a reception reports besides its lines: whether losses decide the exit too, and whether notes are left
 /// out.
-#[derive(Clone, Copy, PartialEq, Eq)]
+#[derive(Clone, Copy)]
 pub struct NoteWords {
     pub strict: bool,
     pub quiet: bool,
@@ -152,7 +152,7 @@ pub struct NoteWords {
 
 /// The files of records, those that are given: certificates, soft values, words and BBFRAMEs. The words are decided bits,
 /// or the codewords that are sent.
-#[derive(Clone, Copy, PartialEq, Eq)]
+#[derive(Clone, Copy)]
 pub struct RecordWords<'a> {
     pub certificates: Option<&'a str>,
     pub values: Option<&'a str>,
@@ -174,7 +174,7 @@ impl<'a> RecordWords<'a> {
 }
 
 /// `demod`: a link, the tuning, the notes, whether progress is shown, the records, and the files.
-#[derive(Clone, Copy, PartialEq, Eq)]
+#[derive(Clone, Copy)]
 pub struct DemodWords<'a> {
     pub link: LinkWords,
     pub tuning: TuningWords,
@@ -189,7 +189,7 @@ pub struct DemodWords<'a> {
 /// `run`: a link, the number of frames between dummy frames (0 for none), the tuning, a channel, the seeds of its runs
 /// if there are many (the channel's seed is then the first of them), the notes, whether progress is shown, the records,
 /// and the files.
-#[derive(Clone, Copy, PartialEq, Eq)]
+#[derive(Clone, Copy)]
 pub struct RunWords<'a> {
     pub link: LinkWords,
     pub dummy: u16,
@@ -205,13 +205,13 @@ pub struct RunWords<'a> {
 }
 
 /// `scan`: the recording.
-#[derive(Clone, Copy, PartialEq, Eq)]
+#[derive(Clone, Copy)]
 pub struct ScanWords<'a> {
     pub symbols: &'a str,
 }
 
 /// `join`: the numbers of a mode, and the files.
-#[derive(Clone, Copy, PartialEq, Eq)]
+#[derive(Clone, Copy)]
 pub struct JoinWords<'a> {
     pub modcod: u8,
     pub short: bool,
@@ -220,7 +220,7 @@ pub struct JoinWords<'a> {
 }
 
 /// `audit`: a link, the divisor of soft values, and the files.
-#[derive(Clone, Copy, PartialEq, Eq)]
+#[derive(Clone, Copy)]
 pub struct AuditWords<'a> {
     pub link: LinkWords,
     pub divisor: u32,
@@ -232,14 +232,14 @@ pub struct AuditWords<'a> {
 
 /// `modes`: a symbol rate, if the bits of a transport stream per second are to be listed; and MODCOD and whether frames
 /// are short, if one mode is to be listed.
-#[derive(Clone, Copy, PartialEq, Eq)]
+#[derive(Clone, Copy)]
 pub struct ModesWords {
     pub rate: Option<SymbolRate>,
     pub mode: Option<(u8, bool)>,
 }
 
 /// The request: `Own` without a command, else the command with its options.
-#[derive(Clone, Copy, PartialEq, Eq)]
+#[derive(Clone, Copy)]
 pub enum Request<'a> {
     Own,
     Modes(ModesWords),

@@ -11,7 +11,7 @@ use crate::arguments::{
 };
 
 /// The commands.
-#[derive(Clone, Copy, PartialEq, Eq)]
+#[derive(Clone, Copy)]
 pub(crate) enum Name {
     Modes,
     Rows,
