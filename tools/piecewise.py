@@ -677,11 +677,14 @@ def words_of(chosen):
     return ["demod", *link_words(chosen, OPTIONS), *flags, *(word for name, file in chosen.records.items() for word in (f"--{name}", file))]
 
 
-def end_at_once():
-    """In a process of a pool signals have their usual meaning again, and so in the s2 that it starts. It ends with the process that began it."""
+def end_at_once(parent):
+    """In a process of a pool signals have their usual meaning again, and so in the s2 that it starts. It ends with the process that began it, and
+    at once if that has ended before the signal was asked for."""
     for it in (signal.SIGINT, signal.SIGTERM):
         signal.signal(it, signal.SIG_DFL)
     ctypes.CDLL(None).prctl(PR_SET_PDEATHSIG, signal.SIGTERM)
+    if os.getppid() != parent:
+        os._exit(1)
 
 
 def ending_of(name, main):
