@@ -161,8 +161,9 @@ pub record Headline (link : Link) (tuning : Tuning) (symbols : List Symbol) (pac
   -- packets are exactly those that the joiner gives of the whole stream
   pub closing : IsReport link tuning symbols packets report frames
   -- Each of these lines is that of a coded frame of the search: its number, its first symbol, and what is decided on its
-  -- symbols. And each coded frame of the search has its line, in this order
+  -- symbols
   pub found : All (λ frame. (moves : ℕ) × IsFrameAt link tuning symbols (stands link tuning symbols moves) × (frame ≡ report_at link tuning symbols (stands link tuning symbols moves))) frames
+  -- each coded frame of the search has its line, in the order of the search
   pub each : (moves : ℕ) → let place = stands link tuning symbols moves in IsFrameAt link tuning symbols place → IsNext frames place (λ frame. frame ≡ report_at link tuning symbols place)
   -- If a line says most likely or sole, the frame's decided bits are a codeword of the link's rows, and no codeword
   -- costs less under its soft values. If it says sole, every other codeword costs more

@@ -1,5 +1,5 @@
 -- Calls of `advance` as one run.
-use Rattle.s2_receive.proofs.Names.{◌≡◌, ◌≢◌, ℕ, ◌+◌, List, [], ◌∷◌, ◌++◌, Option, Some, None, length, refl, sym, ap, ◌∙◌, subst, append_assoc, append-nil, arith, symbols_of, Streams, Met, Rules, State, Seen, Step, IsLive, Processed, line_of, packets_of, step_line, left_in, asked}
+use Rattle.s2_receive.proofs.Names.{◌≡◌, ◌≢◌, ℕ, List, [], ◌∷◌, ◌++◌, Option, Some, None, length, refl, sym, ap, ◌∙◌, subst, append_assoc, append-nil, arith, Streams, Met, Rules, Seen, Step, IsLive, Processed, line_of, packets_of, step_line, left_in, asked}
 use Rattle.s2_receive.specs.Answers.{Goes}
 use Rattle.s2_receive.specs.Calls.{Call, CallsLaw, CallsToEnd, call_lines, call_packets, in_memory, last_state, line_if, packets_if}
 use Rattle.s2_receive.specs.Receiving.{RunsOut}
