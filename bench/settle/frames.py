@@ -1,4 +1,4 @@
-"""Frames of made codes, and what settling finds for each: the tables that the tests of s2_settle and s2_judge have.
+"""Frames of made codes, and what settling finds for each: the tables of `frames_tests.rt` and of `tests/cases/made_frames.py`.
 
 Each frame is a group, groups, q, the weight of a row, a seed, the deviation of the noise and how many passes. Its rows, its codeword and
 its soft values come from the seed. A line tells the FNV-1a of the certificate file, or 0 where none is found, and the verdict on the
@@ -95,7 +95,7 @@ def tell(group, groups, q, weight, seed, deviation, passes, judged=True):
     moves = shares.find_moves(checks, q, in_favour, passes, trace)
     number = 0 if moves is None else fnv(file_of(group, groups, q, checks, soft, word, moves))
     verdict = verdicts.verdict((group, groups, q, rows), soft, passes, rounds=20)[0] if judged else "-"
-    print(f"    ({group}, {groups}, {q}, {weight}, {seed}, {deviation}, {number}, {verdict}),", trace.counts, trace.served, flush=True)
+    print(f"    ({group}, {groups}, {q}, {weight}, {seed}, {deviation}, {number}),", verdict, trace.counts, trace.served, flush=True)
 
 
 if __name__ == "__main__":

@@ -2,13 +2,14 @@
 //! in a function without a contract.
 ghost use Rattle.std.specs.Prelude.{◌≤◌, length};
 
+use super::samples::ROUNDS;
 use s2_check::{Answer, check};
 use s2_matrix::Matrix;
 use s2_mode::Counted;
 use s2_modem::{DemodFault, Receiver, SetupFault, demodulate};
 use s2_receive::{Fault, Step, Totals};
 use s2_stream_tests::streams::{
-    ALL, Fed, Heard, ROUNDS, Reader, Sides, Source, Steps, Writer, reader_of, taken, writer_of,
+    ALL, Fed, Heard, Reader, Sides, Source, Steps, Writer, reader_of, taken, writer_of,
 };
 use std::alloc::{AllocError, Global};
 use std::process::Abort;

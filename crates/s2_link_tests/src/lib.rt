@@ -1,7 +1,7 @@
 //! Tests of both ends of a link together, over public calls alone, with the numbers of the standard.
 //!
-//! Shared helpers are in `hearing` (the reception of a stream), and in `streams` of `s2_stream_tests` (small links, and
-//! the symbols sent on them).
+//! Shared helpers are in `hearing` (the reception of a stream), `samples` (the symbols of packets), and `streams` of
+//! `s2_stream_tests` (small links, readers and writers).
 #![tactic(auto)]
 
 #[cfg(test)]
@@ -12,3 +12,5 @@ mod hearing;
 mod modem_memory_tests;
 #[cfg(test)]
 mod receiver_tests;
+#[cfg(test)]
+mod samples;

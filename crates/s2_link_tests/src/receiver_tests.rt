@@ -1,11 +1,10 @@
 //! What a receiver shows of its frames, and calls that no command makes.
 use super::hearing::{Shown, assert_received, received, show_by_rooms};
+use super::samples::{Sample, one_frame, two_frames, two_packets};
 use s2_check::{Answer, Verdict};
 use s2_modem::{DemodFault, SetupFault};
 use s2_receive::{Outcome, Report, Step};
-use s2_stream_tests::streams::{
-    Event, Sample, Sides, link_of, one_frame, packet_of_zeros, two_frames, two_packets,
-};
+use s2_stream_tests::streams::{Event, Sides, link_of, packet_of_zeros};
 use std::alloc::Global;
 use std::process::Abort;
 use std::test::Fail;

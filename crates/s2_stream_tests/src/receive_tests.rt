@@ -1,10 +1,10 @@
 //! A receiver on streams of made-up frames.
 use super::streams::{ALL, Source, Steps, packet_of_zeros};
 use super::toy::{
-    DUMMY, FRAME, InBytes, Taken, Whole, frame, losing, lost, put_dummy, put_frame, put_symbols,
-    receive_in_bytes, receive_within, take, take_within, totals, toy,
+    FRAME, InBytes, Taken, frame, losing, lost, put_frame, put_symbols, receive_in_bytes, take,
+    take_within, totals,
 };
-use s2_mode::{ByOne, MAX_SYMBOLS, StreamFault, WriteFault};
+use s2_mode::{ByOne, WriteFault};
 use s2_receive::{Fault, Step, Totals};
 use std::alloc::{AllocError, Global};
 use std::process::Abort;
@@ -133,23 +133,6 @@ fn stops_at_its_limit(rt: HostRuntime) -> Result<(), Fail> {
     assert_each_stops(&rt, rt.alloc(), &bytes)
 }
 
-/// The totals of a new receiver that takes at most this number of symbols.
-fn totals_before(alloc: Global, limit: u64) -> Result<Totals, Fail> {
-    let receiver = toy(alloc, limit.min(MAX_SYMBOLS))?;
-    Ok(receiver.totals())
-}
-
-#[test]
-fn has_room_within_any_limit(rt: HostRuntime) -> Result<(), Fail> {
-    for limit in 0..101u64 {
-        assert_eq!(rt; totals_before(rt.alloc(), limit)?, totals(0, 0, 0));
-    }
-    for limit in [FRAME - 1, FRAME, FRAME + 1] {
-        assert_eq!(rt; totals_before(rt.alloc(), limit)?, totals(0, 0, 0));
-    }
-    Ok(())
-}
-
 /// Asserts that a failed write of packets is reported.
 fn assert_told<A: Abort>(rt: &A, received: &InBytes) {
     assert_eq!(rt; received.answer, Err(WriteFault));
@@ -168,69 +151,4 @@ fn assert_write_fails<A: Abort>(rt: &A, alloc: Global, bytes: &[u8]) -> Result<(
 fn tells_a_failed_write(rt: HostRuntime) -> Result<(), Fail> {
     let bytes = frames_of(rt.alloc(), &[1], 0, 2)?;
     assert_write_fails(&rt, rt.alloc(), &bytes)
-}
-
-/// The two parts of a packet, with dummy frames before, between and after them.
-fn parts(alloc: Global, last: u32) -> Result<Vec<u8>, AllocError> {
-    let mut bytes = Vec::new(alloc);
-    put_dummy(&mut bytes, 3330)?;
-    put_frame(&mut bytes, 1)?;
-    put_dummy(&mut bytes, 3330)?;
-    put_dummy(&mut bytes, 3330)?;
-    put_frame(&mut bytes, 2)?;
-    put_dummy(&mut bytes, last)?;
-    Ok(bytes)
-}
-
-/// The position of the second part.
-const SECOND: u64 = FRAME + 3 * DUMMY;
-
-/// The first lines of the report of the two parts.
-const LINES: [&str; 4] = [
-    "",
-    "frame 1 at 3330 most-likely fixed 0\n",
-    "frame 1 at 3330 most-likely fixed 0\nframe 2 at 15480 most-likely fixed 0\n",
-    "frame 1 at 3330 most-likely fixed 0\nframe 2 at 15480 most-likely fixed 0\nend frames 2 delivered 2 packets 1 bad 0\n",
-];
-
-/// Asserts that a run stopped, and its report.
-fn assert_stopped<A: Abort>(rt: &A, whole: &Whole, report: &str) {
-    assert_eq!(rt; whole.answer, Err(StreamFault::Read));
-    assert_eq!(rt; whole.report.as_slice(), report.as_bytes());
-}
-
-/// Asserts that this number of lines is written within this number of symbols.
-fn assert_limited<A: Abort>(
-    rt: &A,
-    alloc: Global,
-    bytes: &[u8],
-    limit: u64,
-    lines: usize,
-) -> Result<(), Fail> {
-    let whole = receive_within(alloc, limit, bytes)?;
-    assert_stopped(rt, &whole, LINES[lines.min(3)]);
-    Ok(())
-}
-
-/// Asserts it within each of these.
-fn assert_each_limited<A: Abort>(rt: &A, alloc: Global, bytes: &[u8]) -> Result<(), Fail> {
-    for (limit, lines) in [
-        (DUMMY - 1, 0),
-        (DUMMY + FRAME - 1, 0),
-        (DUMMY + FRAME, 1),
-        (DUMMY + FRAME + 1, 1),
-        (DUMMY + FRAME + 1570, 1),
-        (SECOND + FRAME - 1, 1),
-        (SECOND + FRAME, 2),
-        (SECOND + FRAME + DUMMY - 1, 2),
-    ] {
-        assert_limited(rt, alloc, bytes, limit, lines)?;
-    }
-    Ok(())
-}
-
-#[test]
-fn stops_at_its_limit_inside_a_dummy_frame(rt: HostRuntime) -> Result<(), Fail> {
-    let bytes = parts(rt.alloc(), 3330)?;
-    assert_each_limited(&rt, rt.alloc(), &bytes)
 }

@@ -1,7 +1,6 @@
 //! The transmitter after a refusal and at its limit. The sum of the symbols is that of the modulator in plain C.
-use super::streams::{
-    ALL, Sides, Source, link_of, packet_of_zeros, send, sent_by, sum_of, transmitter_of,
-};
+use super::sending::{send, sum_of};
+use super::streams::{ALL, Sides, Source, link_of, packet_of_zeros, sent_by, transmitter_of};
 use s2_link::SetupFault;
 use s2_mode::Endless;
 use s2_send::{Counts, PacketSize, SendFault, Transmitter};

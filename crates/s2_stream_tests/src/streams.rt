@@ -1,22 +1,15 @@
-//! Small links and their streams, for the tests here and in `s2_link_tests`. In the tests, calls with a large contract
-//! are made only here, each in a function without a contract. So a test's own proof stays small.
+//! Small links, readers and writers, for the tests here and in `s2_link_tests`. Calls with a large contract are made in
+//! such modules only, each in a function without a contract. So a test's own proof stays small.
 use s2_link::{Setup, SetupFault};
 use s2_matrix::Matrix;
-use s2_mode::{
-    ByOne, Counted, Counting, DUMMY_SYMBOLS, Endless, FailAt, Mode, Shape, Symbol, bytes_into,
-};
-use s2_plframe::dummy_into;
+use s2_mode::{ByOne, Counted, Counting, Endless, FailAt, Mode, Shape};
 use s2_receive::{Fault, Step};
 use s2_rows::make_rows;
-use s2_scramble::Gold;
 use s2_send::{Counts, SendFault, Transmitter};
 use std::alloc::{AllocError, Global};
 use std::io;
 use std::io::Read;
 use std::test::Fail;
-
-/// The rounds of a receiver here.
-pub const ROUNDS: u32 = 50;
 
 /// No write fails.
 pub const ALL: u64 = u64::MAX;
@@ -37,15 +30,9 @@ impl Drop for Sides {
 }
 
 /// The checks of a code, by rows of this weight that seed 1 makes.
-pub fn matrix_of(alloc: Global, shape: Shape, weight: usize) -> Result<Matrix, Fail> {
+fn matrix_of(alloc: Global, shape: Shape, weight: usize) -> Result<Matrix, Fail> {
     let rows = make_rows(alloc, shape, weight, 1)?;
     Ok(Matrix::build(alloc, &rows)?)
-}
-
-/// The sides of a setup, by rows of weight 3.
-pub fn link_in(alloc: Global, setup: Setup) -> Result<Sides, Fail> {
-    let matrix = matrix_of(alloc, setup.mode.shape(), 3)?;
-    Ok(Sides { setup, matrix })
 }
 
 /// The setup of a mode without pilots, of number 0 and roll-off 0.
@@ -60,7 +47,9 @@ pub fn setup_of(modcod: u8, short: bool) -> Result<Setup, Fail> {
 
 /// The link of a mode without pilots, of number 0 and roll-off 0, by rows of weight 3.
 pub fn link_of(alloc: Global, modcod: u8, short: bool) -> Result<Sides, Fail> {
-    link_in(alloc, setup_of(modcod, short)?)
+    let setup = setup_of(modcod, short)?;
+    let matrix = matrix_of(alloc, setup.mode.shape(), 3)?;
+    Ok(Sides { setup, matrix })
 }
 
 /// A packet of zeros.
@@ -68,20 +57,6 @@ pub fn packet_of_zeros() -> [u8; 188] {
     let mut packet = [0; 188];
     packet[0] = 0x47;
     packet
-}
-
-/// The packet of a number, whose bytes count in steps of 7 from there on.
-pub fn packet_of(number: u8) -> [u8; 188] {
-    let mut packet = [0x47u8; 188];
-    for i in 0..187usize {
-        packet[i + 1] = ((7 * i + usize::from(number) + 1) % 256) as u8;
-    }
-    packet
-}
-
-/// The packets of the numbers 0 and 1.
-pub fn two_packets() -> [[u8; 188]; 2] {
-    [packet_of(0), packet_of(1)]
 }
 
 /// The input: a slice, all at once or byte by byte, or one that repeats for ever.
@@ -239,116 +214,4 @@ pub fn sent_by(
         failed: [reader.count(), writer.count()],
         symbols: taken(writer),
     }
-}
-
-/// Limits a transmitter to this number of packets.
-fn limit(transmitter: &mut Transmitter<'_>, packets: u32) {
-    transmitter.limit(u64::from(packets.max(1)));
-}
-
-/// The results of a link's transmitter on an input, for at most this number of packets, if these numbers of reads and
-/// of writes succeed.
-pub fn send(
-    alloc: Global,
-    link: &Sides,
-    packets: u32,
-    source: Source<'_>,
-    passes: [u64; 2],
-) -> Result<Sent, SetupFault> {
-    match transmitter_of(alloc, link) {
-        Ok(mut transmitter) => {
-            limit(&mut transmitter, packets);
-            Ok(sent_by(alloc, &mut transmitter, source, passes))
-        }
-        Err(fault) => Err(fault),
-    }
-}
-
-/// Appends the bytes of a symbol.
-pub fn put_symbol(bytes: &mut Vec<u8>, symbol: Symbol) -> Result<(), AllocError> {
-    bytes.extend_from_slice(&symbol.i.to_be_bytes())?;
-    bytes.extend_from_slice(&symbol.q.to_be_bytes())
-}
-
-/// The header that begins with the mark and continues with these bits, as symbols.
-pub fn header_of(code: u64) -> [Symbol; 90] {
-    let bits = (0x018D_2E82u128 << 64) | u128::from(code);
-    let mut symbols = [Symbol { i: 700, q: 700 }; 90];
-    for k in 0..90usize {
-        let level = if (bits >> (89 - k)) % 2 == 1 {
-            -700
-        } else {
-            700
-        };
-        symbols[k] = Symbol {
-            i: if k % 2 == 0 { level } else { -level },
-            q: level,
-        };
-    }
-    symbols
-}
-
-/// The bytes of a dummy frame under a scrambling number.
-pub fn dummy_of(alloc: Global, number: u32) -> Result<Vec<u8>, Fail> {
-    let gold = Gold::new(alloc, number)?;
-    let mut symbols = vec![in alloc; Symbol { i: 0, q: 0 }; DUMMY_SYMBOLS]?;
-    dummy_into(&gold, &mut symbols);
-    let mut bytes = vec![in alloc; 0u8; 4 * DUMMY_SYMBOLS]?;
-    bytes_into(&symbols, &mut bytes);
-    Ok(bytes)
-}
-
-/// A sum of bytes in which each place counts.
-pub fn sum_of(bytes: &[u8]) -> u64 {
-    let mut sum = 0u64;
-    for byte in bytes {
-        sum = sum.wrapping_mul(31).wrapping_add(u64::from(*byte));
-    }
-    sum
-}
-
-/// The stream of packets on a link.
-pub fn send_packets(alloc: Global, link: &Sides, packets: &[u8]) -> Result<Sent, SetupFault> {
-    send(alloc, link, u32::MAX, Source::Slice(packets), [ALL, ALL])
-}
-
-/// The symbols of packets on a link.
-pub fn symbols_of(alloc: Global, link: &Sides, packets: &[u8]) -> Result<Vec<u8>, Fail> {
-    let sent = send_packets(alloc, link, packets)?;
-    match sent.answer {
-        Ok(_) => Ok(sent.symbols),
-        Err(fault) => Err(Fail::from(fault)),
-    }
-}
-
-/// A link and symbols on it.
-pub struct Sample {
-    pub link: Sides,
-    pub symbols: Vec<u8>,
-}
-
-impl Drop for Sample {
-    fn drop(self) {
-        let Sample {
-            link: _,
-            symbols: _,
-        } = self;
-    }
-}
-
-/// The link of a mode, and the symbols of packets on it.
-pub fn sample_of(alloc: Global, modcod: u8, short: bool, packets: &[u8]) -> Result<Sample, Fail> {
-    let link = link_of(alloc, modcod, short)?;
-    let symbols = symbols_of(alloc, &link, packets)?;
-    Ok(Sample { link, symbols })
-}
-
-/// The link of QPSK 1/4 in short frames, and the symbols of two packets on it.
-pub fn two_frames(alloc: Global) -> Result<Sample, Fail> {
-    sample_of(alloc, 1, true, two_packets().as_flattened())
-}
-
-/// The link of QPSK 1/4 in normal frames, and the symbols of a packet of zeros on it.
-pub fn one_frame(alloc: Global) -> Result<Sample, Fail> {
-    sample_of(alloc, 1, false, &packet_of_zeros())
 }

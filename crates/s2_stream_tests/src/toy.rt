@@ -3,21 +3,19 @@
 //! As in `streams`, calls with a large contract are made only here in the tests.
 ghost use Rattle.std.specs.Prelude.{◌≡◌, ◌/◌, ◌<◌, ◌≤◌, IfOk, IfSome, length};
 ghost use Rattle.s2_mode.specs.Limits.{max_symbols};
-ghost use Rattle.s2_receive.specs.Receiving.{IsLive, begun};
+ghost use Rattle.s2_receive.specs.Receiving.{begun};
 ghost use Rattle.s2_stream_tests.specs.Toy.{content_of, energy_for, figures_for, header_for, outcome_for, place_for, verdict_for};
 
-use super::streams::{
-    ALL, Fed, Heard, Reader, Source, Steps, Writer, header_of, put_symbol, reader_of, taken,
-    writer_of,
-};
+use super::sending::{header_of, put_symbol};
+use super::streams::{ALL, Fed, Heard, Reader, Source, Steps, Writer, reader_of, taken, writer_of};
 use s2_bbframe::{Header, HeaderFault};
 use s2_bits::Bits;
 use s2_check::Verdict;
-use s2_mode::{Counted, MAX_SYMBOLS, Mode, StreamFault, Symbol, WriteFault};
+use s2_mode::{Counted, MAX_SYMBOLS, Mode, Symbol, WriteFault};
 use s2_plframe::Lock;
 use s2_receive::{
-    Decide, Decided, Fault, Figures, Frame, Outcome, Received, Receiver, Report, Step, Tally,
-    Totals, receive_all, receive_bytes,
+    Decide, Decided, Fault, Figures, Frame, Outcome, Receiver, Report, Step, Tally, Totals,
+    receive_bytes,
 };
 use std::alloc::{AllocError, Global};
 use std::test::Fail;
@@ -445,58 +443,6 @@ pub(crate) fn take(alloc: Global, source: Source<'_>) -> Result<Taken, Fail> {
 pub(crate) fn take_figured(alloc: Global, source: Source<'_>) -> Result<Taken, Fail> {
     match toy_with(alloc, MAX_SYMBOLS, true) {
         Ok(mut receiver) => Ok(taken_by(alloc, &mut receiver, source)),
-        Err(fault) => Err(fault),
-    }
-}
-
-/// Runs a receiver to the end of its input.
-fn run_receiver(
-    receiver: &mut Toy,
-    reader: &mut Reader<'_>,
-    packets: &mut Writer,
-    report: &mut Writer,
-) -> Result<Received, StreamFault>
-    requires { IsLive receiver.old.state.phase }
-{
-    let failed = [reader.count(), packets.count(), report.count()];
-    if failed[0] == u64::MAX || failed[1] == u64::MAX || failed[2] == u64::MAX {
-        return Err(StreamFault::Read);
-    }
-    receive_all(receiver, reader, packets, report)
-}
-
-/// The results of a run, and its report.
-pub(crate) struct Whole {
-    pub(crate) answer: Result<Received, StreamFault>,
-    pub(crate) report: Vec<u8>,
-}
-
-impl Drop for Whole {
-    fn drop(self) {
-        let Whole {
-            answer: _,
-            report: _,
-        } = self;
-    }
-}
-
-fn whole_by(alloc: Global, receiver: &mut Toy, bytes: &[u8]) -> Whole
-    requires { IsLive receiver.old.state.phase }
-{
-    let mut reader = reader_of(Source::Slice(bytes), ALL);
-    let mut packets = writer_of(alloc, ALL);
-    let mut report = writer_of(alloc, ALL);
-    let answer = run_receiver(receiver, &mut reader, &mut packets, &mut report);
-    Whole {
-        answer,
-        report: taken(report),
-    }
-}
-
-/// The results of all of these bytes by a single call of a receiver that takes at most this number of symbols.
-pub(crate) fn receive_within(alloc: Global, limit: u64, bytes: &[u8]) -> Result<Whole, Fail> {
-    match toy(alloc, limit.min(MAX_SYMBOLS)) {
-        Ok(mut receiver) => Ok(whole_by(alloc, &mut receiver, bytes)),
         Err(fault) => Err(fault),
     }
 }
