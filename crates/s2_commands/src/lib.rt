@@ -25,10 +25,10 @@ mod run;
 mod seeds;
 mod sums;
 
-pub use crate::choices::{Channel, DemodOptions, RunOptions};
-pub use crate::demod::demod_command;
-pub use crate::link_files::LinkFiles;
-pub use crate::modulate::mod_command;
-pub use crate::noise::noise_command;
-pub use crate::rows::rows_command;
-pub use crate::run::run_command;
+pub use choices::{Channel, DemodOptions, RunOptions};
+pub use demod::demod_command;
+pub use link_files::LinkFiles;
+pub use modulate::mod_command;
+pub use noise::noise_command;
+pub use rows::rows_command;
+pub use run::run_command;
