@@ -3,13 +3,11 @@ ghost use Rattle.std.specs.Prelude.{OnErr};
 ghost use Rattle.s2_mode.specs.Counts.{CanCount};
 ghost use Rattle.s2_console.specs.Screens.{CanNote};
 
-use crate::demod::demod_command;
-use crate::modulate::mod_command;
 use crate::opening::{open_link, show_on};
-use crate::options::{DemodOptions, RunOptions, demod_options, run_options};
+use crate::options::{demod_options, run_options};
 use crate::records::{conclude_records, open_records};
-use crate::run::run_command;
 use crate::serve::mode_of;
+use s2_commands::{DemodOptions, RunOptions, demod_command, mod_command, run_command};
 use s2_console::{Console, Exit, Fault};
 use s2_files::{Disk, Opener};
 use s2_link::{LinkSetup, RollOff};

@@ -1,23 +1,11 @@
 //! The program.
 #![tactic(auto)]
 
-mod demod;
-mod frame_notes;
-mod hearing;
-mod link_files;
 mod link_request;
-mod losses;
-mod modulate;
-mod noise;
 mod opening;
 mod options;
 mod records;
-mod refusals;
-mod rows;
-mod run;
-mod seeds;
 mod serve;
-mod sums;
 
 use crate::opening::{errors_of, screen_beside};
 use crate::serve::{explain, request_of, run_request, takes_output, words_given};

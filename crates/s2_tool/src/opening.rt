@@ -4,8 +4,8 @@ ghost use Rattle.s2_console.specs.Files.{CanStart};
 ghost use Rattle.s2_console.specs.Screens.{CanNote};
 ghost use Rattle.s2_evidence.specs.Files.{CanJudge};
 
-use crate::link_files::LinkFiles;
 use either::{Either, Left, Right};
+use s2_commands::LinkFiles;
 use s2_console::{Console, Fault};
 use s2_evidence::JudgeFiles;
 use s2_files::{Destination, Disk, Opener, Reader, StandardStreams, Target};

@@ -3,13 +3,13 @@
 //! The parser has tested every number: its ranges are those of these types (below). So no refusal here can be met.
 use crate::link_request::setup_of;
 use s2_channel::{EsN0, Strength};
+use s2_commands::{Channel, DemodOptions, RunOptions};
 use s2_console::Fault;
 use s2_mode::{FaultText, Mode};
 use s2_soft::Divisor;
 use s2_tuning::{Number, Tuning, Wanted, judging_by, tuning_by};
 use s2_words::{
-    ChannelWords, DemodWords, JudgeWords, NoteWords, NumberWords, RunWords, Seeds, StrengthWords,
-    TuningWords, limits,
+    ChannelWords, DemodWords, JudgeWords, NumberWords, RunWords, StrengthWords, TuningWords, limits,
 };
 
 const _: () = prove!(limits::MAX_ADDRESSES as usize == s2_rows::MAX_ADDRESSES);
@@ -33,32 +33,6 @@ const _: () = prove!(limits::MAX_LOCK == s2_plframe::MAX_LOCK);
 const _: () = prove!(limits::LEAST_ESN0 == s2_channel::LEAST_ESN0);
 
 const _: () = prove!(limits::MAX_ESN0 == s2_channel::MAX_ESN0);
-
-/// A channel: the seed of its noise, and how strong that is.
-#[derive(Clone, Copy)]
-pub struct Channel {
-    pub seed: u64,
-    pub strength: Strength,
-}
-
-/// What `demod` is asked for, besides its link and its files.
-#[derive(Clone, Copy)]
-pub struct DemodOptions {
-    pub tuning: Tuning,
-    pub notes: NoteWords,
-}
-
-/// What `run` is asked for, besides its link and its files: the number of frames between dummy frames (0 for none), the
-/// tuning, a channel, the seeds of its runs if there are many (the channel's seed is then the first of them), and the
-/// notes.
-#[derive(Clone, Copy)]
-pub struct RunOptions {
-    pub dummy: u16,
-    pub tuning: Tuning,
-    pub channel: Channel,
-    pub seeds: Option<Seeds>,
-    pub notes: NoteWords,
-}
 
 /// The channel of two options.
 pub(crate) fn channel_of(words: ChannelWords) -> Result<Channel, Fault<'static>> {

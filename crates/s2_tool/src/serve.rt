@@ -4,15 +4,14 @@ ghost use Rattle.s2_mode.specs.Counts.{CanCount};
 ghost use Rattle.s2_console.specs.Screens.{CanNote};
 
 use crate::link_request::{LinkRequest, setup_of, with_link};
-use crate::noise::noise_command;
 use crate::opening::{
     open_audit, open_input, open_inputs, open_join, open_judge, open_noise, screen_beside, show_on,
 };
 use crate::options::{channel_of, divisor_of, judging_of};
-use crate::rows::rows_command;
 use clap::Error;
 use clap::error::ErrorKind;
 use s2_audit::audit_command;
+use s2_commands::{noise_command, rows_command};
 use s2_console::{Console, Exit, Fault};
 use s2_evidence::{
     check_command, check_each_command, judge_command, judge_each_command, self_command,

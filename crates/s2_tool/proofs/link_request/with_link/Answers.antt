@@ -1,4 +1,4 @@
-use Rattle.s2_tool.proofs.Names.{◌≡◌, ℕ, ◌+◌, ◌≤◌, Option, Some, None, refl, arith}
+use Rattle.std.proofs.Common.{◌≡◌, ℕ, ◌+◌, ◌≤◌, Option, Some, None, refl, arith}
 use Rattle.s2_send.specs.Sinks as sent
 use Rattle.s2_receive.specs.Sinks as heard
 use Rattle.s2_tool.proofs.link_request.with_link.Goals.{in-Mod, in-Demod, in-Run}

@@ -1,0 +1,22 @@
+use Rattle.s2_commands.proofs.Names.{rules, sym, err_from_is_err_and, setup_of, CausesWith, Modulates}
+use Rattle.s2_commands.proofs.Names.faults
+use Rattle.s2_commands.proofs.LinkLemmas.{without_rows, without_memory, on_rows, none_failed_with, sends_on}
+use Rattle.s2_commands.proofs.modulate.send_files.Goals as goal
+
+pub returns-in_err-matrix-clause-run : goal.returns-in_err-matrix-clause-run
+returns-in_err-matrix-clause-run g c =
+    let p = err_from_is_err_and c.from_residual.result c.from_residual.ensures.1 in
+    let f = c.in_err-matrix.field-0.0 in
+    rw (sym c.files.view_is, p.1, p.2) (without_rows (Modulates g.K.SendSink.takes g.K.SendSink.fails c.args.words.now.dummy) (CausesWith g.K.SendSink.count) _ (setup_of c.args.setup) _ _ f _ c.in_err-matrix.ensures.rows
+    c.in_err-matrix.ensures.noted (search rules) (search rules) (search rules) (search rules) (none_failed_with g.K.SendSink.count f _))
+
+pub returns-clause-run : goal.returns-clause-run
+returns-clause-run g c =
+    rw (sym c.files.view_is, sym c.console.view_is) (without_memory (Modulates g.K.SendSink.takes g.K.SendSink.fails c.args.words.now.dummy) (CausesWith g.K.SendSink.count) _ (setup_of c.args.setup) _ _ c.in_ok-matrix.matrix c.of-link.result _
+    c.in_ok-matrix.ensures.rows c.in_ok-matrix.ensures.noted c.of-link.ensures (c.in_ok-matrix.ensures.no_other (λ e. cc)) (search rules) (none_failed_with g.K.SendSink.count faults.NoMemory _))
+
+pub returns-in-Ok-clause-run : goal.returns-in-Ok-clause-run
+returns-in-Ok-clause-run g c =
+    rw (sym c.files.view_is, sym c.console.view_is) (on_rows (Modulates g.K.SendSink.takes g.K.SendSink.fails c.args.words.now.dummy) (CausesWith g.K.SendSink.count) _ (setup_of c.args.setup) _ _ c.in_ok-matrix.matrix c.of-link.result _ _ c.send_begun.result
+    c.in_ok-matrix.ensures.rows c.in_ok-matrix.ensures.noted c.of-link.ensures (c.in_ok-matrix.ensures.no_other (λ e. cc))
+    (sends_on g.K.SendSink.takes g.K.SendSink.fails c.of-link.result c.args.words.now.dummy c.in-Ok.transmitter c.dummy_every.new.self c.in-Ok.ensures.is c.dummy_every.ensures _ _ _ _ c.send_begun.ensures.sends) c.send_begun.ensures.causes)
