@@ -139,61 +139,83 @@ fn modcod_message(alloc: Global, m: &ArgMatches<'_>) -> Result<Option<String>, A
     }
 }
 
-/// What is said of a number that is no roll-off.
-fn roll_off_message(alloc: Global, m: &ArgMatches<'_>) -> Result<Option<String>, AllocError> {
-    match m.get_str("ro") {
-        Some(name) if roll_off_of(m).is_none() => Ok(Some(format!(in alloc;
-            "invalid value '{name}' for '--ro <R>': it is 0 for 0.35, 1 for 0.25, or 2 for 0.20"
-        )?)),
-        _ => Ok(None),
+/// A value that an option does not accept.
+#[derive(Clone, Copy)]
+struct Refused<'a> {
+    value: &'a str,
+    option: &'static str,
+    accepted: &'static str,
+}
+
+/// The value of an option that accepts these, if it is given and could not be read.
+fn refused_by<'a>(
+    value: Option<&'a str>,
+    is_read: bool,
+    option: &'static str,
+    accepted: &'static str,
+) -> Option<Refused<'a>> {
+    match value {
+        Some(value) if !is_read => Some(Refused {
+            value,
+            option,
+            accepted,
+        }),
+        _ => None,
     }
 }
 
-/// What is said of a number that is no Es/N0.
-fn esn0_message(alloc: Global, m: &ArgMatches<'_>) -> Result<Option<String>, AllocError> {
-    match m.get_str("esn0") {
-        Some(number) if read_esn0(number).is_none() => Ok(Some(format!(in alloc;
-            "invalid value '{number}' for '--esn0 <DB>': it is -10 to 40, with at most two digits after the point"
-        )?)),
-        _ => Ok(None),
-    }
+/// The first value that its option does not accept.
+fn refused_in<'a>(m: &ArgMatches<'a>) -> Option<Refused<'a>> {
+    let (roll_off, esn0) = (m.get_str("ro"), m.get_str("esn0"));
+    let (seeds, rate) = (m.get_str("seeds"), m.get_str("rate"));
+    refused_by(
+        roll_off,
+        roll_off_of(m).is_some(),
+        "--ro <R>",
+        "0 for 0.35, 1 for 0.25, or 2 for 0.20",
+    )
+    .or(refused_by(
+        esn0,
+        esn0.and_then(read_esn0).is_some(),
+        "--esn0 <DB>",
+        "-10 to 40, with at most two digits after the point",
+    ))
+    .or(refused_by(
+        seeds,
+        seeds.and_then(read_seeds).is_some(),
+        "--seeds <A..B>",
+        "two numbers of 64 bits with two points between them, the first at most the second, as 1..100",
+    ))
+    .or(refused_by(
+        rate,
+        rate.and_then(SymbolRate::read).is_some(),
+        "--rate <R>",
+        "a whole number, 1 to 1000000000, also as 27.5M, 27.5e6 or 27500k",
+    ))
 }
 
-/// What is said of a text that is no symbol rate.
-fn rate_message(alloc: Global, m: &ArgMatches<'_>) -> Result<Option<String>, AllocError> {
-    match m.get_str("rate") {
-        Some(text) if SymbolRate::read(text).is_none() => Ok(Some(format!(in alloc;
-            "invalid value '{text}' for '--rate <R>': it is a whole number, 1 to 1000000000, also as 27.5M, 27.5e6 or 27500k"
+/// The accepted values in place of one that is refused, if there is one.
+fn refused_message(alloc: Global, m: &ArgMatches<'_>) -> Result<Option<String>, AllocError> {
+    match refused_in(m) {
+        Some(
+            Refused {
+                value,
+                option,
+                accepted,
+            },
+        ) => Ok(Some(format!(in alloc;
+            "invalid value '{value}' for '{option}': it is {accepted}"
         )?)),
-        _ => Ok(None),
-    }
-}
-
-/// What is said of a text that is no range of seeds.
-fn seeds_message(alloc: Global, m: &ArgMatches<'_>) -> Result<Option<String>, AllocError> {
-    match m.get_str("seeds") {
-        Some(text) if read_seeds(text).is_none() => Ok(Some(format!(in alloc;
-            "invalid value '{text}' for '--seeds <A..B>': it is two numbers of 64 bits with two points between them, the first at most the second, as 1..100"
-        )?)),
-        _ => Ok(None),
+        None => Ok(None),
     }
 }
 
 /// The accepted values in place of unknown ones, if there are any.
 fn message_of(alloc: Global, m: &ArgMatches<'_>) -> Result<Option<String>, AllocError> {
-    if let Some(text) = modcod_message(alloc, m)? {
-        return Ok(Some(text));
+    match modcod_message(alloc, m)? {
+        Some(text) => Ok(Some(text)),
+        None => refused_message(alloc, m),
     }
-    if let Some(text) = roll_off_message(alloc, m)? {
-        return Ok(Some(text));
-    }
-    if let Some(text) = esn0_message(alloc, m)? {
-        return Ok(Some(text));
-    }
-    if let Some(text) = seeds_message(alloc, m)? {
-        return Ok(Some(text));
-    }
-    rate_message(alloc, m)
 }
 
 /// The usage fault of arguments from which no request can be made.
