@@ -28,7 +28,7 @@ pub returns-in-Err-write_notes-clause-finishes : goal.returns-in-Err-write_notes
 returns-in-Err-write_notes-clause-finishes g c =
     let notes = notes_of c.args.mode.now c.in-Ok-2.received in
     let some : notes ≢ [] =
-        λ e. absurd (omega (arith, c.in-Err-write_notes.ensures.cause, ap (λ w. g.E.Counted.count w) (c.write_notes.ensures.none e))) in
+    λ e. absurd (omega (arith, c.in-Err-write_notes.ensures.cause, ap (λ w. g.E.Counted.count w) (c.write_notes.ensures.none e))) in
     rw (sym c.console.view_is) (record {
       ended = Err faults.Write;
       notes = notes;
