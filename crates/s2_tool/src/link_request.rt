@@ -4,7 +4,6 @@ ghost use Rattle.s2_mode.specs.Counts.{CanCount};
 ghost use Rattle.s2_console.specs.Screens.{CanNote};
 
 use crate::opening::{open_link, show_on};
-use crate::options::{demod_options, run_options};
 use crate::records::{conclude_records, open_records};
 use crate::serve::mode_of;
 use s2_commands::{DemodOptions, RunOptions, demod_command, mod_command, run_command};
@@ -21,21 +20,11 @@ use std::time::Clock;
 #[derive(Clone, Copy)]
 pub(crate) enum LinkRequest<'w, 'a> {
     Mod(&'w ModWords<'a>),
-    Demod(&'w DemodWords<'a>, DemodOptions),
-    Run(&'w RunWords<'a>, RunOptions),
+    Demod(&'w DemodWords<'a>, &'w DemodOptions),
+    Run(&'w RunWords<'a>, &'w RunOptions),
 }
 
 impl<'w, 'a> LinkRequest<'w, 'a> {
-    /// The request of `demod`.
-    pub(crate) fn demod(words: &'w DemodWords<'a>) -> Result<LinkRequest<'w, 'a>, Fault<'a>> {
-        Ok(LinkRequest::Demod(words, demod_options(words)?))
-    }
-
-    /// The request of `run`.
-    pub(crate) fn run(words: &'w RunWords<'a>) -> Result<LinkRequest<'w, 'a>, Fault<'a>> {
-        Ok(LinkRequest::Run(words, run_options(words)?))
-    }
-
     /// The options of its link.
     fn link(self) -> LinkWords {
         match self {
@@ -146,10 +135,10 @@ pub(crate) fn with_link<'a, R: Disk + Clock + AllocGlobal, O: CountedWrite, E: C
             notes,
         ),
         LinkRequest::Demod(_, options) => demod_command(
-            alloc, setup, &options, open, sinks, console, notes,
+            alloc, setup, options, open, sinks, console, notes,
         ),
         LinkRequest::Run(_, options) => run_command(
-            alloc, setup, &options, open, sinks, console, notes,
+            alloc, setup, options, open, sinks, console, notes,
         ),
     };
     show.finish();

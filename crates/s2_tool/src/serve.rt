@@ -7,7 +7,7 @@ use crate::link_request::{LinkRequest, setup_of, with_link};
 use crate::opening::{
     open_audit, open_input, open_inputs, open_join, open_judge, open_noise, screen_beside, show_on,
 };
-use crate::options::{channel_of, divisor_of, judging_of};
+use crate::options::{channel_of, demod_options, divisor_of, judging_of, run_options};
 use clap::Error;
 use clap::error::ErrorKind;
 use s2_audit::audit_command;
@@ -24,8 +24,9 @@ use s2_progress::{Pace, Terminal};
 use s2_scan::scan_command;
 use s2_table::table_command;
 use s2_words::{
-    AuditWords, CheckWords, CodeWords, JoinWords, JudgeWords, ModesWords, NoiseWords, RecordWords,
-    Request, RowsWords, ScanWords, ShapeWords, TableWords, not_text, read_words,
+    AuditWords, CheckWords, CodeWords, DemodWords, JoinWords, JudgeWords, ModesWords, NoiseWords,
+    RecordWords, Request, RowsWords, RunWords, ScanWords, ShapeWords, TableWords, not_text,
+    read_words,
 };
 use std::alloc::{AllocError, Global};
 use std::env::FillError;
@@ -170,17 +171,13 @@ pub(crate) fn run_request<R: Disk + Clock + AllocGlobal, O: CountedWrite, E: Cou
         Request::Join(words) => conclude(serve_join(rt, words, console), console),
         Request::Audit(words) => conclude(serve_audit(rt, words, console), console),
         Request::Mod(words) => {
-            let request = Ok(LinkRequest::Mod(words));
-            conclude(serve_link(rt, terminal, request, console, notes), console)
+            let request = LinkRequest::Mod(words);
+            conclude(with_link(rt, terminal, request, console, notes), console)
         }
         Request::Demod(words) => {
-            let request = LinkRequest::demod(words);
-            conclude(serve_link(rt, terminal, request, console, notes), console)
+            conclude(serve_demod(rt, terminal, words, console, notes), console)
         }
-        Request::Run(words) => {
-            let request = LinkRequest::run(words);
-            conclude(serve_link(rt, terminal, request, console, notes), console)
-        }
+        Request::Run(words) => conclude(serve_run(rt, terminal, words, console, notes), console),
     }
 }
 
@@ -203,11 +200,11 @@ pub(crate) fn mode_of(modcod: u8, short: bool, pilots: bool) -> Result<Mode, Fau
     Mode::of(modcod, short, pilots).ok_or(Fault::refused(FaultText::of("no such mode")))
 }
 
-/// `mod`, `demod` and `run`, if their options could be read.
-fn serve_link<'a, R: Disk + Clock + AllocGlobal, O: CountedWrite, E: CountedWrite>(
+/// `demod`.
+fn serve_demod<'a, R: Disk + Clock + AllocGlobal, O: CountedWrite, E: CountedWrite>(
     rt: &R,
     terminal: &Terminal<'_, R>,
-    request: Result<LinkRequest<'_, 'a>, Fault<'a>>,
+    words: &DemodWords<'a>,
     console: &mut Console<O, E>,
     notes: &mut E,
 ) -> Result<Exit, Fault<'a>>
@@ -215,7 +212,26 @@ fn serve_link<'a, R: Disk + Clock + AllocGlobal, O: CountedWrite, E: CountedWrit
     requires notes { CanCount (E.count notes.old) }
     ensures { OnErr result (CanCount console.new.errors_failed) }
 {
-    with_link(rt, terminal, request?, console, notes)
+    let options = demod_options(words)?;
+    let request = LinkRequest::Demod(words, &options);
+    with_link(rt, terminal, request, console, notes)
+}
+
+/// `run`.
+fn serve_run<'a, R: Disk + Clock + AllocGlobal, O: CountedWrite, E: CountedWrite>(
+    rt: &R,
+    terminal: &Terminal<'_, R>,
+    words: &RunWords<'a>,
+    console: &mut Console<O, E>,
+    notes: &mut E,
+) -> Result<Exit, Fault<'a>>
+    requires console { CanNote console.old }
+    requires notes { CanCount (E.count notes.old) }
+    ensures { OnErr result (CanCount console.new.errors_failed) }
+{
+    let options = run_options(words)?;
+    let request = LinkRequest::Run(words, &options);
+    with_link(rt, terminal, request, console, notes)
 }
 
 /// `modes`.
