@@ -300,7 +300,7 @@ fn qpsk_at_the_edges_of_its_range(rt: HostRuntime) -> Result<(), Fail> {
     for (number, step, cap) in STEPS {
         let payload = repeated(&rt, mode, &edges(step, cap))?;
         let soft = soft_of(&rt, mode, number, &payload)?;
-        assert_eq!(rt; [payload.len(), soft.len()], [8100, 16200]);
+        assert!(rt; payload.len() == 8100 && soft.len() == 16200);
         assert!(rt; are_of_qpsk(number, &payload, &soft));
     }
     Ok(())
@@ -313,7 +313,7 @@ fn psk_at_the_edges_of_its_range(rt: HostRuntime) -> Result<(), Fail> {
     for (number, step, cap) in STEPS {
         let payload = repeated(&rt, mode, &edges(step, cap))?;
         let soft = soft_of(&rt, mode, number, &payload)?;
-        assert_eq!(rt; [payload.len(), soft.len()], [5400, 16200]);
+        assert!(rt; payload.len() == 5400 && soft.len() == 16200);
         let (first, rest) = soft.split_at(5400);
         let (second, third) = rest.split_at(5400);
         assert!(rt; are_of_psk(number, &payload, first, second, third));
