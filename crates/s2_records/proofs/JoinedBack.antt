@@ -8,14 +8,14 @@ use Rattle.s2_mode.specs.Mode.{Mode, IsMode, kbch_of}
 use Rattle.s2_mode.specs.declared.symbols.Symbol.{Symbol}
 use Rattle.s2_bbframe.specs.Joining.{Event, gap, joining}
 use Rattle.s2_bbframe.proofs.Events.{joining-append}
-use Rattle.s2_plframe.specs.declared.receive.found.Found.{Found}
-use Rattle.s2_plframe.specs.declared.receive.found.Found.TheVariants as founds
 use Rattle.s2_receive.specs.declared.gap.Gap.{Gap}
 use Rattle.s2_receive.specs.Laws.{events_of, joined}
 use Rattle.s2_receive.specs.Meeting.{Met, frame, cut, ended, no_gap, is_gap, extended, begins, by_found, met_from}
 use Rattle.s2_receive.specs.Parts.{IsSaidBy}
 use Rattle.s2_receive.specs.Receiving.{Decision, Rules, all_packets, at_start, delivery}
 use Rattle.s2_receive.specs.Sinks.{frames_of}
+use Rattle.s2_receive.proofs.Names.{Found}
+use Rattle.s2_receive.proofs.Names.founds
 use Rattle.s2_receive.proofs.JoinLemmas.{all_joined}
 use Rattle.s2_receive.proofs.SameSymbols.{all_met}
 use Rattle.s2_join.specs.Frames.{delivered_in, event_of, frame_bytes, frames_in, joined_from, packets_in}
@@ -71,8 +71,11 @@ spelt m (first ∷ later) = spelt_one m first.0 first.1 (each_bbframe m later) �
 
 module _ (m : Mode) (valid : IsMode m) where
   whole_one : (after_gap : Bool) (decision : Decision) → All (IsWhole (frame_bytes m)) (bbframes_for m after_gap decision)
-  whole_one true decision = let (one, none) = whole_lem m decision valid in All-cons (IsWhole (frame_bytes m)) _ _ none (All-cons (IsWhole (frame_bytes m)) _ _ one (All-nil (IsWhole (frame_bytes m))))
-  whole_one false decision = All-cons (IsWhole (frame_bytes m)) _ _ (whole_lem m decision valid).0 (All-nil (IsWhole (frame_bytes m)))
+  whole_one true decision =
+      let (one, zeros) = whole_lem m decision valid in
+      let whole = IsWhole (frame_bytes m) in
+      All-cons whole (no_bbframe m) (message_bytes m decision ∷ []) zeros (All-cons whole (message_bytes m decision) [] one (All-nil whole))
+  whole_one false decision = All-cons (IsWhole (frame_bytes m)) (message_bytes m decision) [] (whole_lem m decision valid).0 (All-nil (IsWhole (frame_bytes m)))
 
   each_whole : (frames : List (Bool × Decision)) → All (IsWhole (frame_bytes m)) (each_bbframe m frames)
   each_whole [] = All-nil (IsWhole (frame_bytes m))
