@@ -1,11 +1,14 @@
-use Rattle.std.proofs.Common.{rules, sym, subst, ap, ◌∙◌, ℤ, List, Ok, Err, refl}
+use Rattle.std.proofs.Common.{rules, Result, ◌≡◌, ℕ, ◌+◌, sym, subst, ap, ◌∙◌, ℤ, List, Ok, Err, refl}
 use Rattle.std.specs.Prelude.{IfSome}
 use Rattle.std.proofs.lemmas.Result.{err_from_is_err_and}
 use Rattle.std.specs.List.{list_all}
 use Rattle.s2_rows.specs.Rows.{Rows}
 use Rattle.s2_evidence.specs.declared.hard_note.Ran.{Ran}
 use Rattle.s2_evidence.specs.declared.reading.Judged.{Judged}
-use Rattle.s2_console.specs.Exits.{Follows, CommandRuns}
+use Rattle.s2_console.specs.Exits.{Follows, CommandRuns, CommandCounts}
+use Rattle.s2_console.specs.declared.exit.Exit.{Exit}
+use Rattle.s2_console.specs.declared.fault.Fault.{Fault}
+use Rattle.s2_console.specs.declared.fault.Fault.TheVariants as faults
 use Rattle.s2_console.proofs.CommandLemmas.{refused, runs_moved}
 use Rattle.s2_evidence.specs.Files.{JudgeFiles, written}
 use Rattle.s2_evidence.specs.HardNotes.{is_bit}
@@ -15,6 +18,16 @@ use Rattle.s2_evidence.proofs.CertifyLemmas.{unchanged, leaves_moved}
 use Rattle.s2_evidence.proofs.InputLemmas.{refused_inputs}
 use Rattle.s2_evidence.proofs.NoteLemmas.{one_frame, counts_after}
 use Rattle.s2_evidence.proofs.judge.print_judgement.Goals as goal
+
+abbrev stopped : Fault → Result Exit Fault
+stopped f = Err f
+
+-- the counts of a reading that failed
+counts_stopped : (f : Fault) (a b w : ℕ) → (stopped f ≡ Err faults.Read → b ≡ a + 1) → ((stopped f ≡ Err faults.Read → ⊥) → b ≡ a) → (stopped f ≡ Err faults.Write → ⊥) → CommandCounts (stopped f) a b w w
+counts_stopped f a b w read no_read no_write = record {
+  only = record { no_read = no_read; write_reported = λ e. absurd (no_write e); no_write = λ _. (refl, refl) };
+  read = read;
+}
 
 pub returns-in_err-judged-clause-run : goal.returns-in_err-judged-clause-run
 returns-in_err-judged-clause-run g c =
@@ -74,3 +87,17 @@ returns-clause-leaves g c =
     let input : Rows × List ℤ = (c.in_ok-judged.judged.matrix, c.in_ok-judged.judged.soft.items) in
     let Is = AreInputsBy c.args.hard c.args.shape (g.R.CountedRead.remaining c.files.inside.rows) (g.R.CountedRead.remaining c.files.inside.soft) in
     rw (sym c.files.view_is) (leaves_moved c.args.tuning Is input (Ok c.in_ok-exit.exit) (file c.files.inside.certificate) (file c.print_soft.new.certificate) c.in_ok-judged.ensures.says c.in_ok-exit.ensures.leaves)
+
+pub returns-in_err-judged-clause-causes : goal.returns-in_err-judged-clause-causes
+returns-in_err-judged-clause-causes g c =
+    let p = err_from_is_err_and c.from_residual.result c.from_residual.ensures.1 in
+    rw (p.1, p.2, sym c.files.view_is) (counts_stopped c.in_err-judged.field-0.0 _ _ _ (λ e. c.in_err-judged.ensures.read (search e)) (λ other. c.in_err-judged.ensures.no_read (λ e. other (search e))) (λ e. c.in_err-judged.ensures.write (search e)))
+
+pub returns-in_err-exit-clause-causes : goal.returns-in_err-exit-clause-causes
+returns-in_err-exit-clause-causes g c =
+    let p = err_from_is_err_and c.from_residual-in_err-exit.result c.from_residual-in_err-exit.ensures.1 in
+    rw (p.1, p.2, sym c.files.view_is) (counts_after (Err c.in_err-exit.field-0.0) _ _ _ _ (c.in_ok-judged.ensures.no_read (λ e. absurd (cc))) c.in_err-exit.ensures.read c.in_err-exit.ensures.causes)
+
+pub returns-clause-causes : goal.returns-clause-causes
+returns-clause-causes g c =
+    rw (sym c.files.view_is) (counts_after (Ok c.in_ok-exit.exit) _ _ _ _ (c.in_ok-judged.ensures.no_read (λ e. absurd (cc))) (λ e. absurd (cc)) c.in_ok-exit.ensures.causes)
