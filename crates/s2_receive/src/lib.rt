@@ -20,7 +20,8 @@
 //! - packets are joined only if there is no gap;
 //! - frames received unchanged give the packets that were sent;
 //! - the way in which a reader cuts the bytes does not matter;
-//! - two runs in a row are one.
+//! - two runs in a row are one;
+//! - calls of [`Receiver::advance`] up to the end are one run.
 //!
 //! ```
 //! let mut receiver = Receiver::new(alloc, mode, lock, decider, MAX_SYMBOLS)?;
