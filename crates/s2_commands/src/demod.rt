@@ -11,9 +11,9 @@ ghost use Rattle.s2_commands.specs.Ends.{BeginsWith, CausesWith, ends_of};
 ghost use Rattle.s2_commands.specs.Links.{OnLink, noted_by};
 ghost use Rattle.s2_commands.specs.Receptions.{ReceivesToEnd, Demodulates, DemodExits};
 
+use crate::choices::DemodOptions;
 use crate::link_files::LinkFiles;
 use crate::losses::conclude_reception;
-use crate::choices::DemodOptions;
 use s2_console::{Console, Exit, Fault};
 use s2_files::{Destination, Output};
 use s2_link::{Link, LinkSetup};

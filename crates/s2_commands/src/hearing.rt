@@ -6,9 +6,9 @@ ghost use Rattle.s2_modem.specs.Reception.{link_rules};
 ghost use Rattle.s2_commands.specs.Ends.{CausesWith, ends_of};
 ghost use Rattle.s2_commands.specs.Hearing.{kept_fault, ReceivesWithNoise, written_by};
 
+use crate::choices::Channel;
 use crate::demod::receive_begun;
 use crate::noise::add_noise;
-use crate::choices::Channel;
 use s2_console::Fault;
 use s2_files::{Destination, Output};
 use s2_link::Link;

@@ -12,10 +12,10 @@ ghost use Rattle.s2_commands.specs.Hearing.{written_by};
 ghost use Rattle.s2_commands.specs.Links.{OnLink, noted_by};
 ghost use Rattle.s2_commands.specs.Looping.{FinishesRun, LoopsBy, Loops, ReceivesRuns, RunExits, refused_in_memory};
 
+use crate::choices::RunOptions;
 use crate::hearing::receive_noisy;
 use crate::link_files::LinkFiles;
 use crate::losses::conclude_reception;
-use crate::choices::RunOptions;
 use crate::refusals::{Ended, refused_by, report_refusal, sent_by};
 use crate::seeds::receive_range;
 use s2_console::{Console, Exit, Fault};

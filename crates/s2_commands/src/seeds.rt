@@ -7,10 +7,10 @@ ghost use Rattle.s2_commands.specs.Ends.{BeginsWith, CausesWith, ends_of};
 ghost use Rattle.s2_commands.specs.Hearing.{written_by};
 ghost use Rattle.s2_commands.specs.Seeding.{HearsRange, HearsSeed, SeedsAnswer};
 
+use crate::choices::{Channel, RunOptions};
 use crate::demod::receive_to_end;
 use crate::hearing::kept_fault;
 use crate::noise::add_noise;
-use crate::choices::{Channel, RunOptions};
 use crate::sums::{nothing_received, received_sum, sums_line};
 use s2_console::Fault;
 use s2_files::{Destination, Output};
