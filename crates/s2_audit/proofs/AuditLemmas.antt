@@ -1,12 +1,13 @@
 -- An audit, turn by turn.
-use Rattle.std.proofs.Common.{◌≡◌, ◌≢◌, ◌⊎◌, ℕ, ◌+◌, ◌*◌, ◌<◌, ◌≤◌, ℤ, Bool, true, false, List, [], ◌∷◌, ◌++◌, All, Option, Some, None, Result, Ok, Err, length, map, refl, sym, ap, ap₂, subst, ◌∙◌, append-nil, append_assoc, length-append, arith, inl, inr}
+use Rattle.std.proofs.Common.{◌≡◌, ◌≢◌, ◌⊎◌, ℕ, ◌+◌, ◌*◌, ◌<◌, ◌≤◌, ℤ, Bool, true, false, List, [], ◌∷◌, ◌++◌, All, Option, Some, None, Result, Ok, Err, length, map, get_or, refl, sym, ap, ap₂, subst, ◌∙◌, append-nil, append_assoc, length-append, arith, inl, inr}
 use Rattle.std.specs.Prelude.{if◌then◌else◌}
-use Rattle.std.specs.List.{flat_map, count_by}
+use Rattle.std.specs.List.{flat_map, count_by, AllPairs}
 use Rattle.std.specs.Io.KnownBytes.{Appends, Consumes, IsAtEnd}
 use Rattle.std.proofs.KnownBytes.{Appends-nil, Appends-trans, Consumes-nil, Consumes-trans}
 use Rattle.std.proofs.lemmas.List.{map_push}
 use Rattle.std.proofs.lemmas.List.Concat.{flat_map-append}
-use Rattle.std.proofs.lemmas.List.Elements.{All-nil, All-push, All-weaker}
+use Rattle.std.proofs.lemmas.List.Elements.{All-get_or, All-nil, All-push, All-weaker}
+use Rattle.std.proofs.lemmas.List.Quantifiers.{all_pairs_push}
 use Rattle.std.proofs.lemmas.List.Sums.{sum_by_push, count_by-le-length}
 use Rattle.s2_certfile.specs.File.{File}
 use Rattle.s2_certfile.specs.Format.{file_of_bytes}
@@ -35,7 +36,7 @@ use Rattle.s2_audit.specs.Lines.{shown_line}
 use Rattle.s2_audit.specs.Reading.{GivesEntry, NextEntry}
 use Rattle.s2_audit.specs.Showing.{Finds, FindsFile, FindsParsed}
 use Rattle.s2_audit.specs.Turns.{Evidence, EndTurn, EntryTurn, FrameTurn, Judges, LineTurn, SilentTurn, Standing, Turns, standing}
-use Rattle.s2_audit.specs.Auditing.{Audits, AuditsToEnd, Checked, IsAt, IsChecked, IsReadable, LineIs, PrintsTurn, ReachesLimit, Shows, last_of, line_of, turn_exit, turn_text}
+use Rattle.s2_audit.specs.Auditing.{Audits, AuditsToEnd, Checked, IsAt, IsChecked, IsReadable, LieApart, LineIs, PrintsTurn, ReachesLimit, Shows, last_of, line_of, turn_exit, turn_text}
 
 -- ---- the counts of one line more
 
@@ -92,6 +93,25 @@ IsChecked-more t recording more c h = record {
   shown = h.shown;
 }
 
+-- ---- frames apart
+
+none_apart : (t : Terms) → AllPairs (LieApart t) []
+none_apart t = λ i j d first within. absurd (omega (arith, within))
+
+-- a part of a file ends within it
+ends_within : (whole part : List ℕ) (place : ℕ) → IsAt whole place part → place + length part ≤ length whole
+ends_within whole part place (before, after, long, is) =
+    let all : length whole ≡ length before + length (part ++ after) = ap length is ∙ length-append before (part ++ after) in
+    let rest : length (part ++ after) ≡ length part + length after = length-append part after in
+    omega (arith, all, rest, long)
+
+-- a frame that is checked lies before each place behind the recording
+lies_before : (t : Terms) (recording : List ℕ) (place : ℕ) (c d : Checked) → length recording ≡ 4 * place → place ≤ d.frame.at → IsChecked t recording c → LieApart t c d
+lies_before t recording place c d long later h =
+    let ends : 4 * c.frame.at + length c.symbols ≤ length recording = ends_within recording c.symbols (4 * c.frame.at) h.place in
+    let whole : length c.symbols ≡ 4 * symbols_in t.mode = h.whole in
+    omega (arith, ends, whole, long, later)
+
 -- ---- the audit so far
 
 -- so many lines were audited, and these are their counts
@@ -110,6 +130,7 @@ begins t r old o is place none = record {
     readable = All-nil IsReadable;
     frames = refl;
     each = All-nil (IsChecked t []);
+    apart = none_apart t;
     report_read = Consumes-nil r;
     symbols_read = Consumes-nil old.symbols;
     symbols_long = ap (λ n. 4 * n) (sym place);
@@ -142,6 +163,7 @@ goes_silent t r r' r'' old new o o' lines line entry place a given none = record
   readable = All-push IsReadable lines line a.readable (readable_line r' r'' line entry given);
   frames = certified_push lines line entry given.says ∙ ap (λ l. certified_in lines ++ l) none ∙ append-nil (certified_in lines) ∙ a.frames;
   each = a.each;
+  apart = a.apart;
   report_read = subst (Consumes r r'') (sym (text_push lines line)) (Consumes-trans r r' r'' (text_of lines) (line ++ 10 ∷ []) a.report_read given.read);
   symbols_read = a.symbols_read;
   symbols_long = a.symbols_long;
@@ -168,6 +190,7 @@ module _ (t : Terms) (r r' r'' : Option (List ℕ)) (old new new' : Evidence) (o
       } in
       let total : length recording ≡ length a.recording + (length f.skipped + length j.judged.symbols) = length-append a.recording more ∙ ap (λ n. length a.recording + n) (length-append f.skipped j.judged.symbols) in
       let whole : length j.judged.symbols ≡ 4 * symbols_in t.mode = f.whole in
+      let later : place ≤ frame.at = omega (arith, f.place_is) in
       let one : certified_of (Some (entries.Frame frame)) ≡ frame ∷ [] = ap (λ b. if b then frame ∷ [] else []) certified in
       record {
         checked = a.checked ++ c ∷ [];
@@ -175,6 +198,8 @@ module _ (t : Terms) (r r' r'' : Option (List ℕ)) (old new new' : Evidence) (o
         readable = All-push IsReadable lines line a.readable (readable_line r' r'' line (entries.Frame frame) given);
         frames = certified_push lines line (entries.Frame frame) given.says ∙ ap₂ (λ xs ys. xs ++ ys) a.frames one ∙ sym (map_push (λ (x : Checked). x.frame) a.checked c);
         each = All-push (IsChecked t recording) a.checked c (All-weaker (IsChecked t a.recording) (IsChecked t recording) (λ x h. IsChecked-more t a.recording more x h) a.checked a.each) checked;
+        apart = all_pairs_push (LieApart t) a.checked c a.apart
+            (λ k d within. lies_before t a.recording place (get_or a.checked k d) c a.symbols_long later (All-get_or (IsChecked t a.recording) a.checked k d within a.each));
         report_read = subst (Consumes r r'') (sym (text_push lines line)) (Consumes-trans r r' r'' (text_of lines) (line ++ 10 ∷ []) a.report_read given.read);
         symbols_read = Consumes-trans old.symbols new.symbols new'.symbols a.recording more a.symbols_read f.read;
         symbols_long = omega (arith, total, at, whole, j.judged.behind_it);
@@ -199,6 +224,7 @@ moved_on t r r' old new new' o o' o'' lines place behind a same here none =
       readable = a.readable;
       frames = a.frames;
       each = a.each;
+      apart = a.apart;
       report_read = a.report_read;
       symbols_read = a.symbols_read;
       symbols_long = a.symbols_long;

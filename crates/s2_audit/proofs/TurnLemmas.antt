@@ -1,6 +1,7 @@
 -- What is said of a frame.
 use Rattle.std.proofs.Common.{◌≡◌, ℕ, Ok, inl, inr}
 use Rattle.s2_audit.specs.declared.entry.Frame.{Frame}
+use Rattle.s2_audit.specs.declared.judging.Reason.TheVariants as reasons
 use Rattle.s2_audit.specs.declared.judging.Finding.{Finding}
 use Rattle.s2_audit.specs.declared.judging.Finding.TheVariants.{Shown, Failed}
 use Rattle.s2_audit.specs.declared.turning.Turn.{Turn}
@@ -12,7 +13,7 @@ pub frame_says : (t : Terms) (p b : ℕ) (old new : Evidence) (frame : Frame) (f
 frame_says t p b old new frame (Shown found) turns.Silent h says = absurd says
 frame_says t p b old new frame (Shown found) (turns.Ended printed) h says = absurd says
 frame_says t p b old new frame (Shown found) (turns.Shown text) (inl lacks) says = cc
-frame_says t p b old new frame (Shown found) (turns.Shown text) (inr (inl lacks)) says = cc
+frame_says t p b old new frame (Shown found) (turns.Shown text) (inr (inl only)) says = let lacks : Shown found ≡ Failed reasons.NoSymbols = only.lacks.0 in cc
 frame_says t p b old new frame (Shown found) (turns.Shown text) (inr (inr judged)) says = (found, judged, says)
 frame_says t p b old new frame (Failed reason) turns.Silent h says = absurd says
 frame_says t p b old new frame (Failed reason) (turns.Shown text) h says = absurd says

@@ -1,7 +1,8 @@
 -- An audit: the certificates of a report's frames, one after another, and what is printed (own).
-use Rattle.std.specs.Prelude.{◌≡◌, ◌≢◌, ◌⊎◌, ℕ, ◌+◌, ◌*◌, ℤ, List, [], ◌++◌, All, length, map, Option, Some, None, Result, Ok, Err}
-use Rattle.std.specs.List.{flat_map}
+use Rattle.std.specs.Prelude.{◌≡◌, ◌≢◌, ◌⊎◌, ℕ, ◌+◌, ◌*◌, ◌≤◌, ℤ, List, [], ◌++◌, All, length, map, Option, Some, None, Result, Ok, Err}
+use Rattle.std.specs.List.{flat_map, AllPairs}
 use Rattle.std.specs.Io.KnownBytes.{Appends, Consumes}
+use Rattle.s2_mode.specs.Mode.{symbols_in}
 use Rattle.s2_mode.specs.Pieces.{AppendsPart}
 use Rattle.s2_rows.specs.Rows.{Rows}
 use Rattle.s2_certfile.specs.File.{File}
@@ -55,18 +56,24 @@ pub record IsChecked (t : Terms) (recording : List ℕ) (c : Checked) : Type 0 w
 abbrev pub line_of : Checked → List ℕ
 line_of c = shown_line c.frame (cost c.file.soft c.file.bits)
 
+-- the first symbol of a later frame is at or after the end of an earlier one
+abbrev pub LieApart : Terms → (earlier later : Checked) → Type 0
+LieApart t earlier later = earlier.frame.at + symbols_in t.mode ≤ later.frame.at
+
 -- a line that an audit reads
 abbrev pub IsReadable : List ℕ → Type 0
 IsReadable line = IsLine line × (entry_in line ≢ None)
 
 -- These lines of the report were read, and each of their frames that is reported sole or most likely is shown by the
--- certificate in its turn. So many symbols were read, and the line of each of these frames is printed
+-- certificate in its turn. No two of these frames overlap. So many symbols were read, and the line of each of these
+-- frames is printed
 pub record Audits (t : Terms) (report report_new : Option (List ℕ)) (old new : Evidence) (out out_new : Option (List ℕ)) (lines : List (List ℕ)) (place : ℕ) : Type 0 where
   pub checked : List Checked
   pub recording : List ℕ
   pub readable : All IsReadable lines
   pub frames : certified_in lines ≡ map (λ c. c.frame) checked
   pub each : All (IsChecked t recording) checked
+  pub apart : AllPairs (LieApart t) checked
   pub report_read : Consumes report report_new (text_of lines)
   pub symbols_read : Consumes old.symbols new.symbols recording
   pub symbols_long : length recording ≡ 4 * place

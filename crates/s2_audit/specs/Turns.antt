@@ -64,10 +64,18 @@ abbrev pub LacksCertificate : Evidence → Evidence → Finding → Type 0
 LacksCertificate old new finding =
     (finding ≡ Failed reasons.NoCertificate) × Consumes old.certificates new.certificates [] × IsAtEnd new.certificates
 
--- what is found of a frame by the next certificate and by its symbols
+-- the next certificate was read, and then the recording lacks the symbols of a frame
+pub record LacksOnlySymbols (t : Terms) (place : ℕ) (old new : Evidence) (frame : Frame) (finding : Finding) : Type 0 where
+  pub block : List ℕ
+  pub long : length block ≡ certificate_bytes t.mode
+  pub read : Consumes old.certificates new.certificates block
+  pub lacks : LacksSymbols t place old.symbols new.symbols frame finding
+
+-- What is found of a frame by the next certificate and by its symbols. The reason is that of the first test that fails:
+-- a certificate is left, the recording has the symbols, and the certificate shows the verdict for them
 abbrev pub FindsFrame : Terms → (place behind : ℕ) → Evidence → Evidence → Frame → Finding → Type 0
 FindsFrame t place behind old new frame finding =
-    LacksCertificate old new finding ⊎ (LacksSymbols t place old.symbols new.symbols frame finding ⊎ Judges t place behind old new frame finding)
+    LacksCertificate old new finding ⊎ (LacksOnlySymbols t place old new frame finding ⊎ Judges t place behind old new frame finding)
 
 -- the fault of a certificate that is cut
 abbrev pub cut_fault : Fault
