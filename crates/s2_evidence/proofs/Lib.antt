@@ -1,15 +1,4 @@
-pub mod CertifyLemmas
-pub mod BitTokens
-pub mod HardLemmas
 pub mod InputLemmas
-pub mod JudgeLemmas
-pub mod OwnLemmas
 pub mod PieceLemmas
 pub mod EachLemmas
 pub mod CheckEachLemmas
-pub mod ValueRange
-pub mod Spelling
-pub mod WordByWord
-pub mod FrameLemmas
-pub mod JudgeEachLemmas
-pub mod NoteLemmas

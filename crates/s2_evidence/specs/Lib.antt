@@ -1,14 +1,5 @@
-pub mod Files
-pub mod Hard
-pub mod Inputs
 pub mod Lines
-pub mod Judging
-pub mod Certifying
 pub mod Checking
 pub mod Pieces
 pub mod Each
 pub mod CheckingEach
-pub mod Frames
-pub mod Bytewise
-pub mod HardNotes
-pub mod JudgingEach

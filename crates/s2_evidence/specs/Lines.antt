@@ -1,4 +1,4 @@
--- The lines of verdicts and of the checker's results (own).
+-- The front of a verdict's line, and the lines of the checker's results (own).
 use Rattle.std.specs.Prelude.{ℕ, ℤ, List, ◌++◌, codes, decimal, if◌then◌else◌}
 use Rattle.std.specs.Fmt.{signed_decimal}
 use Rattle.s2_check.specs.Verdicts.{verdict_word}
@@ -16,18 +16,6 @@ cost_text verdict cost = verdict_word verdict ++ (codes " cost " ++ signed_decim
 -- of bits that are more likely than any other codeword
 abbrev pub sole_line : ℤ → List ℕ
 sole_line cost = cost_text verdicts.Sole cost ++ codes "\n"
-
--- `most-likely cost C` with LF
-abbrev pub most_likely_line : ℤ → List ℕ
-most_likely_line cost = cost_text verdicts.MostLikely cost ++ codes "\n"
-
--- of a codeword that is not known to be most likely
-abbrev pub parity_line : ℤ → List ℕ
-parity_line cost = cost_text verdicts.Parity cost ++ codes "\n"
-
--- of bits that are not a codeword: their cost, and their first odd check
-abbrev pub broken_line : ℤ → ℕ → List ℕ
-broken_line cost check = cost_text verdicts.Broken cost ++ (codes " check " ++ decimal check) ++ codes "\n"
 
 -- the checker's result, with the cost of the bits
 abbrev pub answer_text : ℤ → Answer → List ℕ

@@ -18,7 +18,7 @@ use s2_mode::{CountedRead, CountedWrite};
 use std::alloc::Global;
 
 /// The exit of one line and then others: 0 only if it is 0 of each.
-pub(crate) fn worse(first: Exit, others: Exit) -> Exit
+pub fn worse(first: Exit, others: Exit) -> Exit
     ensures { result ≡ worse first others }
 {
     match first {

@@ -1,45 +1,27 @@
-//! The commands `judge` and `check`, over any readers and writers.
+//! The command `check`, over any readers and writers.
 //!
-//! [`judge_command`] reads a row file and a value file, which has soft values or hard decisions, and prints the verdict
-//! on the bits that a receiver decides. It writes their certificate, if there is a file for it. [`judge_each_command`]
-//! does so for each frame of a value file, one after another, in the memory of one. [`check_command`] reads a row file
-//! and a certificate, and prints the checker's result. [`check_each_command`] does so for each certificate of a file.
+//! [`check_command`] reads a row file and a certificate, and prints the checker's result. [`check_each_command`] does so
+//! for each certificate of a file, one after another. No decoder is below this crate.
 //!
-//! The exit is that of the verdict or of the result. If a file is refused, a reader or a writer fails, or memory runs
-//! out, one line on the errors reports it. Only failed calls are counted. The certificate's file is begun after the
-//! input or its first frame was accepted, if there is memory to judge it; otherwise it is unchanged. If soft values look
-//! like hard decisions, a note on the errors says so.
+//! The exit is that of the result. If a file is refused, a reader or a writer fails, or memory runs out, one line on the
+//! errors reports it. Only failed calls are counted.
 //!
-//! [`self_command`] judges its input under the toy rows, and prints most likely also if the bits are sole. The files of
-//! `judge` are one value ([`JudgeFiles`]).
+//! The command `judge` (`s2_judging`) shares three calls with it: [`with_cost`] begins the line of a verdict, [`sole_line`]
+//! is the line of sole bits, and [`worse`] is the exit of several lines.
 //!
-//! In the literature, soft values are quantized LLRs, and a certificate is an ML certificate.
+//! In the literature, a certificate is an ML certificate.
 //!
 //! ```text
-//! let mut files = JudgeFiles { rows, soft, certificate: Some(Destination::new(file)) };
-//! let exit = judge_command(alloc, shape, false, false, Tuning::new(50, 0)?, &mut files, &mut console);
+//! let exit = check_command(alloc, &mut rows, &mut certificate, &mut console);
 //! ```
 #![tactic(auto)]
 
 mod check;
 mod check_each;
-mod decision;
-mod files;
-mod frames;
-mod hard;
-mod hard_note;
-mod judge;
-mod judge_each;
 mod lines;
 mod next;
-mod own;
-mod reading;
 mod sizes;
-mod words;
 
 pub use check::check_command;
-pub use check_each::check_each_command;
-pub use files::JudgeFiles;
-pub use judge::judge_command;
-pub use judge_each::judge_each_command;
-pub use own::{TOY_ROWS, self_command};
+pub use check_each::{check_each_command, worse};
+pub use lines::{sole_line, with_cost};

@@ -1,12 +1,12 @@
-//! The lines of verdicts and of the checker's results. They take no memory.
+//! The front of a verdict's line, and the lines of the checker's results. They take no memory.
 ghost use Rattle.std.specs.Prelude.{◌≡◌, ◌≤◌, length};
-ghost use Rattle.s2_evidence.specs.Lines.{cost_text, sole_line, most_likely_line, parity_line, broken_line, answer_text, answer_line, examined_line};
+ghost use Rattle.s2_evidence.specs.Lines.{cost_text, sole_line, answer_text, answer_line, examined_line};
 
 use s2_check::{Answer, Examined, Refusal, Verdict};
 use s2_console::Line;
 
 /// A verdict on bits, and their cost.
-fn with_cost(verdict: Verdict, cost: i64) -> Line
+pub fn with_cost(verdict: Verdict, cost: i64) -> Line
     ensures text { result ≡ cost_text verdict cost }
     ensures short { length result ≤ 57 }
 {
@@ -17,38 +17,10 @@ fn with_cost(verdict: Verdict, cost: i64) -> Line
 }
 
 /// The line of bits that are more likely than any other codeword.
-pub(crate) fn sole_line(cost: i64) -> Line
+pub fn sole_line(cost: i64) -> Line
     ensures { result ≡ sole_line cost }
 {
     let mut line = with_cost(Verdict::Sole, cost);
-    line.push("\n");
-    line
-}
-
-/// The line of bits that are most likely.
-pub(crate) fn most_likely_line(cost: i64) -> Line
-    ensures { result ≡ most_likely_line cost }
-{
-    let mut line = with_cost(Verdict::MostLikely, cost);
-    line.push("\n");
-    line
-}
-
-/// The line of a codeword that is not known to be most likely.
-pub(crate) fn parity_line(cost: i64) -> Line
-    ensures { result ≡ parity_line cost }
-{
-    let mut line = with_cost(Verdict::Parity, cost);
-    line.push("\n");
-    line
-}
-
-/// The line of bits that are not a codeword, with their first odd check.
-pub(crate) fn broken_line(cost: i64, check: usize) -> Line
-    ensures { result ≡ broken_line cost check }
-{
-    let mut line = with_cost(Verdict::Broken, cost);
-    line.push_number(" check ", check);
     line.push("\n");
     line
 }

@@ -2,13 +2,13 @@
 ghost use Rattle.std.specs.Prelude.{◌≡◌, ◌≤◌, false, IfOk, IfSome, OnOk, [], length};
 ghost use Rattle.s2_console.specs.Files.{CanStart};
 ghost use Rattle.s2_console.specs.Screens.{CanNote};
-ghost use Rattle.s2_evidence.specs.Files.{CanJudge};
+ghost use Rattle.s2_judging.specs.Files.{CanJudge};
 
 use either::{Either, Left, Right};
 use s2_commands::LinkFiles;
 use s2_console::{Console, Fault};
-use s2_evidence::JudgeFiles;
 use s2_files::{Destination, Disk, Opener, Reader, StandardStreams, Target};
+use s2_judging::JudgeFiles;
 use s2_mode::Counting;
 use s2_progress::{Clearing, Meter, Pace, Show, Terminal, Watched};
 use s2_words::{AuditWords, JoinWords, JudgeWords, Progress};

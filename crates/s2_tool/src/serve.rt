@@ -13,11 +13,10 @@ use clap::error::ErrorKind;
 use s2_audit::audit_command;
 use s2_commands::{noise_command, rows_command};
 use s2_console::{Console, Exit, Fault};
-use s2_evidence::{
-    check_command, check_each_command, judge_command, judge_each_command, self_command,
-};
+use s2_evidence::{check_command, check_each_command};
 use s2_files::{Disk, Role, is_standard};
 use s2_join::join_command;
+use s2_judging::{judge_command, judge_each_command, self_command};
 use s2_mode::{CountedWrite, Counting, FaultText, Mode, Shape};
 use s2_names::modes_command;
 use s2_progress::{Pace, Terminal};

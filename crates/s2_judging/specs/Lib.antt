@@ -1,0 +1,10 @@
+pub mod Files
+pub mod Hard
+pub mod Inputs
+pub mod Lines
+pub mod Judging
+pub mod Certifying
+pub mod Frames
+pub mod Bytewise
+pub mod HardNotes
+pub mod JudgingEach
