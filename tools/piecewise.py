@@ -3,6 +3,7 @@
 What a receiver meets is a function of the symbols. After a frame its search depends on the frame's position only: it stands right after
 a frame, and holds no symbols. So two receivers that report a frame at one position report the same frames from there on. A new receiver
 is put in that state by a dummy frame before its first symbol. The packets and their counts come from `s2 join`, which reads the BBFRAMEs."""
+import argparse
 import collections
 import contextlib
 import ctypes
@@ -18,6 +19,7 @@ import struct
 import subprocess
 import sys
 import tempfile
+import threading
 import time
 import typing
 
@@ -51,6 +53,13 @@ AMPLITUDE, USUAL_AMPLITUDES, GREATEST_AMPLITUDE = 990, range(833, 1178), 46341
 
 class Fault(Exception):
     """Why the work cannot go on, in one line."""
+
+
+class Words(argparse.ArgumentParser):
+    """The command line of a tool. Refused words have exit 1: 2 means that something was lost."""
+
+    def error(self, message):
+        self.exit(1, f"{self.prog}: {message}; see tools/{self.prog} --help\n")
 
 
 class Refused(Exception):
@@ -118,6 +127,8 @@ def symbols_in(path, stretch):
         while left and (piece := file.read(min(left, BLOCK))):
             yield piece
             left -= len(piece)
+        if left:
+            raise Fault(f"{path} has {os.path.getsize(path)} bytes, fewer than when this began")
 
 
 class Receiver(typing.NamedTuple):
@@ -140,7 +151,8 @@ class Receiver(typing.NamedTuple):
         named = [word for name in records for word in (f"--{name}", os.path.join(folder, name))]
         words = [self.program, "demod", *self.words, *named, self.rows, "-", os.devnull]
         before = [bytes.fromhex(self.dummy)] if stretch.follows else []
-        with open(f"{folder}/report", "wb") as report, open(f"{folder}/notes", "wb") as notes:
+        # the notes come to memory first: where the disk is full, a file would hide the line of s2
+        with open(f"{folder}/report", "wb") as report, os.fdopen(os.memfd_create("notes"), "w+b") as notes:
             child = subprocess.Popen(words, stdin=subprocess.PIPE, stdout=report, stderr=notes)
             # fewer turns between the two; refused where the user has no room for it
             with contextlib.suppress(OSError):
@@ -151,9 +163,13 @@ class Receiver(typing.NamedTuple):
             finally:
                 child.kill()
                 child.wait()
+            notes.seek(0)
+            said = notes.read()
         if code not in (0, 2):
-            last = text_of(f"{folder}/notes").decode(errors="replace").strip().split("\n")[-1]
+            last = said.decode(errors="replace").strip().split("\n")[-1]
             raise Fault(f"s2 {ending(code)}" + (f": {last}" if last else ""))
+        with open(f"{folder}/notes", "wb") as file:
+            file.write(said)
 
     def receive(self, stretch, symbols, folder):
         """Runs s2 with all records. The folder appears when it is whole."""
@@ -273,30 +289,40 @@ def is_whole_only(name):
 
 
 class Output:
-    """A file that has its name only when it is whole. A device, a pipe and standard output are written at once."""
+    """A file that has its name only when it is whole. Before, it has none, or one with a point where the file system wants it. A device, a pipe
+    and standard output are written at once."""
 
     def __init__(self, name):
         self.name, self.path = name, os.path.realpath(name)
         self.standard = name in STANDARD
         self.whole_only = is_whole_only(name)
-        self.part = name
+        self.part, self.number = None, 1 if self.standard else None
         if self.whole_only:
-            number, self.part = tempfile.mkstemp(prefix=f".{os.path.basename(self.path)}.", dir=os.path.dirname(self.path))
-            os.close(number)
+            folder = os.path.dirname(self.path)
+            try:
+                self.number = os.open(folder, os.O_TMPFILE | os.O_RDWR, 0o600)
+            except OSError:
+                self.number, self.part = tempfile.mkstemp(prefix=f".{os.path.basename(self.path)}.", dir=folder)
             mask = os.umask(0)
             os.umask(mask)
-            os.chmod(self.part, stat.S_IMODE(os.stat(name).st_mode) if os.path.exists(name) else 0o666 & ~mask)
+            os.fchmod(self.number, stat.S_IMODE(os.stat(name).st_mode) if os.path.exists(name) else 0o666 & ~mask)
 
     def opened(self):
-        return open(1, "wb", closefd=False) if self.standard else open(self.part, "wb")
+        return open(self.name, "wb") if self.number is None else open(self.number, "wb", closefd=False)
 
     def keep(self):
         if self.whole_only:
+            if not self.part:
+                self.part = f"{os.path.dirname(self.path)}/.{os.path.basename(self.path)}.{os.urandom(4).hex()}"
+                # with a folder's number Python follows the link
+                os.link(f"/proc/self/fd/{self.number}", self.part, src_dir_fd=self.number)
             os.replace(self.part, self.path)
 
     def drop(self):
-        if self.whole_only and os.path.exists(self.part):
-            os.remove(self.part)
+        if self.whole_only:
+            os.close(self.number)
+            if self.part and os.path.exists(self.part):
+                os.remove(self.part)
 
 
 class Outputs:
@@ -613,22 +639,35 @@ class Whole:
 
 
 class Progress:
-    """A line on standard error that is written again."""
+    """A line on standard error that is written again each second, from the first one on. `text` makes it of the seconds so far. What else is
+    written there is written within `aside`."""
 
-    def __init__(self, name, chosen, of=""):
-        self.name, self.of, self.length = name, of, 0
-        self.shown = chosen.progress or sys.stderr.isatty() and not chosen.quiet
+    def __init__(self, name, chosen, text):
+        self.name, self.text, self.length, self.begun = name, text, 0, time.monotonic()
+        self.lock, self.ended = threading.Lock(), threading.Event()
+        if chosen.progress or sys.stderr.isatty() and not chosen.quiet:
+            threading.Thread(target=self.go_on, daemon=True).start()
 
-    def tell(self, number):
-        if self.shown:
-            line = f"{self.name}: {number}{self.of}"
-            self.length = len(line)
-            os.write(2, f"\r{line}".encode())
+    def go_on(self):
+        while not self.ended.wait(1):
+            with self.lock:
+                if not self.ended.is_set():
+                    line = f"{self.name}: {self.text(time.monotonic() - self.begun)}"
+                    os.write(2, f"\r{line:{self.length}}".encode())
+                    self.length = len(line)
 
-    def clear(self):
-        if self.length:
-            os.write(2, f"\r{' ' * self.length}\r".encode())
-            self.length = 0
+    @contextlib.contextmanager
+    def aside(self):
+        with self.lock:
+            if self.length:
+                os.write(2, f"\r{' ' * self.length}\r".encode())
+                self.length = 0
+            yield
+
+    def end(self):
+        self.ended.set()
+        with self.aside():
+            pass
 
 
 def add_options(words):
@@ -651,6 +690,11 @@ def settle(words, chosen):
             words.error(f"--{name} is at least 1")
     chosen.records = {name: file for name in RECORDS if (file := getattr(chosen, name))}
     chosen.given_jobs, chosen.jobs = chosen.jobs, chosen.jobs or len(os.sched_getaffinity(0))
+
+
+def data_of(name):
+    """The file with the symbols of a recording: that of a SigMF recording is beside its meta file."""
+    return name.removesuffix("-meta") + "-data" if name.endswith(".sigmf-meta") else name
 
 
 def file_of(name):

@@ -8,13 +8,9 @@ import sys
 import tempfile
 import threading
 
-import matplotlib
 import numpy
 from gnuradio import analog, blocks, filter as filters, gr
 from gnuradio.filter import firdes
-
-matplotlib.use("Agg")
-from matplotlib import pyplot
 
 S2 = os.environ.get("S2", os.path.join(os.path.dirname(os.path.abspath(__file__)), "../../s2"))
 # QPSK 3/4, normal frames, pilots: the words, the packets that a frame has room for, and what stands for 1 in a symbol file.
@@ -28,8 +24,8 @@ SAMPLES, ROLL_OFF, SPAN = 4, 0.35, 32
 DRAWN, HEARD, LINE = 8000, 60000, 512
 
 
-def pulse(gain, rate=SAMPLES):
-    return firdes.root_raised_cosine(gain, rate, 1, ROLL_OFF, SPAN * rate + 1)
+def pulse(gain, rate=SAMPLES, roll_off=ROLL_OFF):
+    return firdes.root_raised_cosine(gain, rate, 1, roll_off, round(SPAN * rate) + 1)
 
 
 def shaped():
@@ -48,6 +44,11 @@ def noised(graph, samples, ratio, seed):
     graph.connect(samples, (added, 0))
     graph.connect(analog.noise_source_c(analog.GR_GAUSSIAN, (SAMPLES / 10 ** (ratio / 10)) ** 0.5, seed), (added, 1))
     return added
+
+
+def numbers():
+    """Symbols of amplitude 1 to those of a symbol file."""
+    return [blocks.multiply_const_cc(AMPLITUDE), blocks.complex_to_interleaved_short(), blocks.endian_swap(2)]
 
 
 class Keep(gr.sync_block):
@@ -101,8 +102,7 @@ class Link:
         read, self.written = os.pipe()
         self.begin(["demod", *MODE, "--passes", str(self.chosen.passes), self.chosen.rows, f"/dev/fd/{read}", self.place("received")], read)
         self.sink = blocks.file_sink(gr.sizeof_short, f"/dev/fd/{self.written}")
-        numbers = [blocks.multiply_const_cc(AMPLITUDE), blocks.complex_to_interleaved_short(), blocks.endian_swap(2)]
-        graph.connect(symbols, *numbers, self.sink)
+        graph.connect(symbols, *numbers(), self.sink)
 
     def tell(self, end):
         for line in end.stdout:
@@ -167,6 +167,11 @@ def spectrum(samples):
 
 def draw(path, title, samples, symbols):
     """A picture of the spectrum on the channel and of the symbols behind the receiver's filter."""
+    import matplotlib
+
+    matplotlib.use("Agg")
+    from matplotlib import pyplot
+
     figure, (left, right) = pyplot.subplots(1, 2, figsize=(9, 4))
     left.plot(*spectrum(samples), linewidth=0.8)
     left.set(xlabel="frequency / symbol rate", ylabel="power, dB", title="spectrum on the channel")
@@ -179,7 +184,7 @@ def draw(path, title, samples, symbols):
 
 def words_given(what, ratio, frames, most_lost, **more):
     """The words of a flow graph; `more` are further options, whole numbers that are 0 without them, with their help."""
-    words = argparse.ArgumentParser(description=what.partition("\n")[0])
+    words = argparse.ArgumentParser(description=what, formatter_class=argparse.RawDescriptionHelpFormatter)
     words.add_argument("rows", help="row file of rate 3/4, normal frames")
     words.add_argument("--ratio", type=float, default=ratio, help=f"Es/N0 in dB, {ratio} without it")
     words.add_argument("--frames", type=int, default=frames, help=f"frames that are sent, {frames} without it")

@@ -24,12 +24,13 @@ FILTERS = 32
 
 
 class QuarterTurns(gr.sync_block):
-    """Finds the headers of a mode in symbols of amplitude 1 that are turned by quarters, and turns back what comes from each on."""
+    """Finds the headers of a mode in symbols of amplitude 1 that are turned by quarters, or by other parts of a turn, and turns back what comes
+    from each on."""
 
-    def __init__(self, modcod, frame_type):
+    def __init__(self, modcod, frame_type, parts=4):
         gr.sync_block.__init__(self, "quarter turns", [numpy.complex64], [numpy.complex64])
         self.header = numpy.array(bpsk(header(modcod, frame_type))) / 2**0.5
-        self.turn = 1
+        self.turn, self.parts = 1, parts
         self.set_history(len(self.header))
 
     def work(self, input_items, output_items):
@@ -40,7 +41,8 @@ class QuarterTurns(gr.sync_block):
         for start in [*numpy.flatnonzero(abs(sums) > 0.6), len(out)]:
             out[begun:start] = symbols[begun:start] * self.turn
             if start < len(out):
-                self.turn = 1j ** -round(numpy.angle(sums[start]) / (numpy.pi / 2))
+                part = 2 * numpy.pi / self.parts
+                self.turn = numpy.exp(-1j * part * round(numpy.angle(sums[start]) / part))
             begun = start
         return len(out)
 
@@ -59,16 +61,17 @@ def spoilt(graph, samples, ratio, seed):
     return flow.noised(graph, phased, ratio, seed)
 
 
-def recovered(graph, samples, quarters=0):
-    """Symbols of the samples, turned back. The Costas loop holds one of four phases, as it begins; so many quarters are added to it."""
+def recovered(graph, samples, quarters=0, rate=flow.SAMPLES, roll_off=flow.ROLL_OFF, psk=4, mode=(flow.MODCOD, flow.TYPE)):
+    """Symbols of samples at this rate, turned back by the headers of a mode, if they are known. The Costas loop holds one of as many phases as
+    the symbols have points; so many quarters are added to it."""
     points = digital.constellation_qpsk().base()
-    bank = flow.pulse(FILTERS, FILTERS * flow.SAMPLES)
+    bank = flow.pulse(FILTERS, FILTERS * rate, roll_off)
     timing = digital.symbol_sync_cc(
-        digital.TED_SIGNAL_TIMES_SLOPE_ML, flow.SAMPLES, 0.002, 1, 1, 0.1, 1, points, digital.IR_PFB_MF, FILTERS, bank
+        digital.TED_SIGNAL_TIMES_SLOPE_ML, rate, 0.002, 1, 1, 0.1, 1, points, digital.IR_PFB_MF, FILTERS, bank
     )
-    turns = QuarterTurns(flow.MODCOD, flow.TYPE)
-    edges = digital.fll_band_edge_cc(flow.SAMPLES, flow.ROLL_OFF, 12 * flow.SAMPLES + 1, 0.0015)
-    graph.connect(samples, edges, timing, digital.costas_loop_cc(0.008, 4), blocks.multiply_const_cc(1j**quarters), turns)
+    turns = QuarterTurns(*mode, psk) if mode else blocks.multiply_const_cc(1)
+    edges = digital.fll_band_edge_cc(rate, roll_off, 12 * round(rate) + 1, 0.0015)
+    graph.connect(samples, edges, timing, digital.costas_loop_cc(0.008, psk), blocks.multiply_const_cc(1j**quarters), turns)
     graph.turns = turns  # the graph itself does not keep a block of Python alive
     return turns
 

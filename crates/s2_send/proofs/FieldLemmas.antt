@@ -52,6 +52,37 @@ AreCodewords-push link at (f ∷ fs) (c ∷ cs) field codeword h k =
           (subst (λ n. IsCodewordFor link.setup.mode link.rows (header_at link.setup.roll_off n field) field codeword) e k),
     )
 
+-- the last one of them
+pub AreUnits-last : (t : Transmitter) (number at : ℕ) (fields units : List (List ℕ)) (field unit : List ℕ) → AreUnits t number at fields units
+    → AreUnits t number at (fields ++ field ∷ []) (units ++ unit ∷ [])
+    → IsUnitOf t.link (is_due t.dummy_every (number + length fields)) (header_at t.link.setup.roll_off (at + length (joined fields)) field) field unit
+AreUnits-last t number at [] [] field unit h k =
+    let e : at ≡ at + 0 = omega arith in
+    let f : number ≡ number + 0 = omega arith in
+    subst (λ n. IsUnitOf t.link (is_due t.dummy_every n) (header_at t.link.setup.roll_off (at + 0) field) field unit) f
+    (subst (λ n. IsUnitOf t.link (is_due t.dummy_every number) (header_at t.link.setup.roll_off n field) field unit) e k.0)
+AreUnits-last t number at [] (g ∷ gs) field unit h k = absurd h
+AreUnits-last t number at (f ∷ fs) [] field unit h k = absurd h
+AreUnits-last t number at (f ∷ fs) (g ∷ gs) field unit h k =
+    let e : (at + length f) + length (joined fs) ≡ at + length (f ++ joined fs) = omega (arith, length-append f (joined fs)) in
+    let n : (number + 1) + length fs ≡ number + suc (length fs) = omega arith in
+    subst (λ m. IsUnitOf t.link (is_due t.dummy_every m) (header_at t.link.setup.roll_off (at + length (f ++ joined fs)) field) field unit) n
+    (subst (λ m. IsUnitOf t.link (is_due t.dummy_every ((number + 1) + length fs)) (header_at t.link.setup.roll_off m field) field unit) e
+    (AreUnits-last t (number + 1) (at + length f) fs gs field unit h.1 k.1))
+
+pub AreCodewords-last : (link : Link) (at : ℕ) (fields : List (List ℕ)) (codewords : List (List Bool)) (field : List ℕ) (codeword : List Bool) → AreCodewords link at fields codewords
+    → AreCodewords link at (fields ++ field ∷ []) (codewords ++ codeword ∷ [])
+    → IsCodewordFor link.setup.mode link.rows (header_at link.setup.roll_off (at + length (joined fields)) field) field codeword
+AreCodewords-last link at [] [] field codeword h k =
+    let e : at ≡ at + 0 = omega arith in
+    subst (λ n. IsCodewordFor link.setup.mode link.rows (header_at link.setup.roll_off n field) field codeword) e k.0
+AreCodewords-last link at [] (c ∷ cs) field codeword h k = absurd h
+AreCodewords-last link at (f ∷ fs) [] field codeword h k = absurd h
+AreCodewords-last link at (f ∷ fs) (c ∷ cs) field codeword h k =
+    let e : (at + length f) + length (joined fs) ≡ at + length (f ++ joined fs) = omega (arith, length-append f (joined fs)) in
+    subst (λ n. IsCodewordFor link.setup.mode link.rows (header_at link.setup.roll_off n field) field codeword) e
+    (AreCodewords-last link (at + length f) fs cs field codeword h.1 k.1)
+
 -- a sink that took some codewords, and one more
 pub TakesCodewords-push : {S : Type 0} (takes : Taking S) (old mid new : S) (codewords : List (List Bool)) (codeword : List Bool)
     → TakesCodewords takes old mid codewords → takes mid new codeword → TakesCodewords takes old new (codewords ++ codeword ∷ [])

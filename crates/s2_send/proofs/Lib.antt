@@ -1,8 +1,10 @@
+pub mod StreamSteps
+pub mod SenderSteps
+pub mod ReadSteps
+pub mod RunSteps
 pub mod FieldLemmas
 pub mod FrameLengths
 pub mod Waiting
-pub mod Taken
-pub mod Steps
 pub mod OnlyFrames
 pub mod PacketsRead
 pub mod OnlyRuns

@@ -1,8 +1,6 @@
 -- The frame of a header and its data field, and dummy frames after it (EN 302 307-1, 5.2 to 5.5).
-use Rattle.std.specs.Prelude.{◌≡◌, ℕ, ◌-◌, ◌*◌, Bool, false, List, [], ◌++◌, length, replicate, if◌then◌else◌, Option, Result, OnOk, OnErr}
-use Rattle.std.specs.Io.KnownBytes.{Appends}
+use Rattle.std.specs.Prelude.{◌≡◌, ℕ, ◌-◌, ◌*◌, Bool, false, List, [], ◌++◌, length, replicate, if◌then◌else◌}
 use Rattle.s2_mode.specs.Mode.{Mode, kbch_of, k_of, n_of, shape_in, HasCodeSizes}
-use Rattle.s2_mode.specs.Pieces.{AppendsPart}
 use Rattle.s2_mode.specs.Symbols.{bytes_of_symbols}
 use Rattle.s2_bits.specs.Bits.{bits_of_bytes}
 use Rattle.s2_rows.specs.Rows.{Rows}
@@ -56,10 +54,6 @@ pub record IsUnitOf (link : Link) (due : Bool) (header : Header) (field bytes : 
   pub is_frame : IsFrameOf link header field frame
   pub spelt : bytes ≡ frame ++ sent_behind link due
 
--- bytes with this property are written, or a part of them if a write fails
-abbrev pub WritesSome : {T E : Type 0} → (List ℕ → Type 0) → (old new : Option (List ℕ)) → Result T E → Type 0
-WritesSome holds old new result = (bytes : List ℕ) × holds bytes × OnOk result (Appends old new bytes) × OnErr result (AppendsPart bytes old new)
-
 -- ---- what the stages hold
 
 -- the coding half: what codes, and the last codeword
@@ -80,4 +74,10 @@ pub record FitsCode (coding : Coding) (message bch_word : List Bool) : Type 0 wh
 pub record Modulation : Type 0 where
   pub mode : Mode
   pub number : ℕ
+  pub bytes : List ℕ
+
+-- a maker of frames: its link, the last codeword, and the bytes of the last frame
+pub record Framing : Type 0 where
+  pub link : Link
+  pub codeword : List Bool
   pub bytes : List ℕ

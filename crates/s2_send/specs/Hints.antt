@@ -4,7 +4,7 @@ use Rattle.s2_bbframe.specs.Limits.{sync}
 use Rattle.s2_send.specs.declared.outcome.PacketSize.{PacketSize}
 use Rattle.s2_send.specs.declared.outcome.PacketSize.TheVariants.{Unknown, Has192, Has204}
 use Rattle.s2_send.specs.declared.outcome.SendFault.{SendFault}
-use Rattle.s2_send.specs.declared.outcome.SendFault.TheVariants.{NotWholePacket, NoSync, Read, Write}
+use Rattle.s2_send.specs.declared.outcome.SendFault.TheVariants.{NoSync}
 
 -- whether this byte of a packet is that with which packets begin
 abbrev pub has_sync_at : List ℕ → ℕ → Bool

@@ -1,7 +1,7 @@
 -- What the packets, the setup and the address rows determine (EN 302 307-1, 5.1 to 5.5).
-use Rattle.std.specs.Prelude.{◌≡◌, ◌≢◌, ℕ, ◌+◌, ◌≤◌, ◌⊎◌, ◌↔◌, length, List, Option, Some, Result, Err}
+use Rattle.std.specs.Prelude.{◌≡◌, ◌≢◌, ℕ, ◌+◌, ◌≤◌, ◌⊎◌, ◌↔◌, ◌++◌, length, List, Option, Some, Result, Err}
 use Rattle.s2_mode.specs.Mode.{Mode}
-use Rattle.s2_bbframe.specs.DataStream.{field_bytes}
+use Rattle.s2_bbframe.specs.DataStream.{field_bytes, IsReady}
 use Rattle.s2_bbframe.specs.declared.header.Header.{Header}
 use Rattle.s2_send.specs.declared.outcome.Counts.{Counts}
 use Rattle.s2_send.specs.declared.outcome.SendFault.{SendFault}
@@ -9,7 +9,8 @@ use Rattle.s2_send.specs.declared.outcome.SendFault.TheVariants.{Read, Write}
 use Rattle.s2_link.specs.Link.{Link, HasShape}
 use Rattle.s2_send.specs.Frames.{IsFrameOf, IsUnitOf}
 use Rattle.s2_send.specs.Transmitter.{Transmitter}
-use Rattle.s2_send.specs.Sending.{is_due, TransmitterRuns}
+use Rattle.s2_send.specs.Sending.{joined, is_due, TransmitterRuns}
+use Rattle.s2_send.specs.Sender.{Sender, Past, HasPast, StopsThere, Gives, EndsAs, IsAll, transmitter_of}
 
 -- the links of a mode, with rows of its shape
 abbrev pub IsLinkOf : Mode → Link → Type 0
@@ -43,3 +44,19 @@ RunLaw m =
     → TransmitterRuns t (ReadFails t.limit count_a new_a) (Some bytes) reader_a (Some held) writer_a a
     → TransmitterRuns t (ReadFails t.limit count_b new_b) (Some bytes) reader_b (Some held) writer_b b
     → (a ≡ b) × (writer_a ≡ writer_b)
+
+-- a sender without a frame that can be taken has given all that comes of the bytes that it took
+abbrev pub GivesLaw : Type 0
+GivesLaw =
+    (s : Sender) (past : Past) → StopsThere s.stream → HasPast past s → (IsReady s.stream.slicing → ⊥)
+    → Gives (transmitter_of s) s.stream.slicing.closed past
+
+-- A sender was given the bytes of a stream, its frames were all taken, and it ended or refused the stream. A run over these
+-- bytes, in which neither a read nor a write failed, has the same result, and writes the units that the sender gave
+abbrev pub AsRunLaw : Mode → Type 0
+AsRunLaw m =
+    (s : Sender) (past : Past) (more held : List ℕ) (count_old count_new : ℕ) (reader_new writer_new : Option (List ℕ)) (told result : Result Counts SendFault)
+    → IsLinkOf m s.link → StopsThere s.stream → HasPast past s → (IsReady s.stream.slicing → ⊥) → EndsAs s.stream told → IsAll more told
+    → NoneFailed told → NoneFailed result
+    → TransmitterRuns (transmitter_of s) (ReadFails s.stream.limit count_old count_new) (Some (past.bytes ++ more)) reader_new (Some held) writer_new result
+    → (result ≡ told) × (writer_new ≡ Some (held ++ joined past.units))

@@ -5,4 +5,6 @@ pub mod Transmitter
 pub mod Frames
 pub mod Sinks
 pub mod Sending
+pub mod Sender
+pub mod Running
 pub mod Laws

@@ -1,6 +1,6 @@
 -- The limit of a run (own).
 use Rattle.std.specs.Prelude.{◌≡◌, ◌^◌, ℕ}
-use Rattle.s2_send.specs.declared.sending.TheConstants.{MAX_PACKETS}
+use Rattle.s2_send.specs.declared.intake.TheConstants.{MAX_PACKETS}
 
 -- the most packets that a run takes
 abbrev pub max_packets : ℕ

@@ -1,15 +1,14 @@
 -- What a run of the transmitter reads and writes (EN 302 307-1, 5.1): the frames of the data fields of the packets' stream,
 -- and dummy frames among them.
-use Rattle.std.specs.Prelude.{◌≡◌, ◌≢◌, ℕ, ◌+◌, ◌<◌, ◌≤◌, ◌⊎◌, ◌%◌, ◌==◌, Bool, true, false, if◌then◌else◌, List, [], ◌∷◌, ◌++◌, length, take, All, slice_index, Option, Result, Ok, Err, ⊤}
+use Rattle.std.specs.Prelude.{◌≡◌, ◌≢◌, ℕ, ◌+◌, ◌<◌, ◌≤◌, ◌⊎◌, ◌%◌, ◌==◌, Bool, false, if◌then◌else◌, List, [], ◌∷◌, ◌++◌, length, take, All, slice_index, Option, Result, Ok, Err, ⊤}
 use Rattle.std.specs.List.{flat_map}
 use Rattle.std.specs.Io.KnownBytes.{Consumes, Appends, IsAtEnd}
-use Rattle.s2_mode.specs.Pieces.{AppendsPart}
 use Rattle.s2_bbframe.specs.Limits.{packet_bytes, sync}
-use Rattle.s2_bbframe.specs.DataStream.{IsPacket, stream_of, full_fields, fields_of, header_at, field_bytes, Slicing, Sliced, IsReady, next_field, after_field, after_packet}
+use Rattle.s2_bbframe.specs.DataStream.{IsPacket, stream_of, full_fields, fields_of, header_at, field_bytes}
 use Rattle.s2_link.specs.Link.{Link}
 use Rattle.s2_send.specs.Frames.{IsCodewordFor, IsUnitOf}
 use Rattle.s2_send.specs.Hints.{size_told}
-use Rattle.s2_send.specs.Sinks.{Taking, TakesCodewords, TakesOrFails}
+use Rattle.s2_send.specs.Sinks.{Taking, TakesCodewords}
 use Rattle.s2_send.specs.Transmitter.{Transmitter}
 use Rattle.s2_send.specs.declared.outcome.Counts.{Counts}
 use Rattle.s2_send.specs.declared.outcome.SendFault.{SendFault}
@@ -119,45 +118,3 @@ pub record RunsWith {S : Type 0} (takes fails : Taking S) (t : Transmitter) (May
   pub sink : S
   pub takes_all : TakesCodewords takes sink_old sink codewords
   pub ends_taking : EndsTaking takes fails t reader_new run.packets run.fields run.begun result run.begins sink sink_new
-
--- The next packet was read, and the slicer has it. Or at the reader's end the slicer is closed, and there was no
--- packet. If the packet is refused, or a read failed, its bytes were read
-abbrev pub AcceptsNext : ℕ → Slicing → Slicing → Option (List ℕ) → Option (List ℕ) → Result Bool SendFault → Type 0
-AcceptsNext behind old new reader_old reader_new (Ok true) =
-    (packet : List ℕ) × IsPacket packet × Consumes reader_old reader_new packet × (new ≡ after_packet packet old)
-    × ((packets fields : List (List ℕ)) → Sliced packets fields old → Sliced (packets ++ packet ∷ []) fields new)
-AcceptsNext behind old new reader_old reader_new (Ok false) = Consumes reader_old reader_new [] × IsAtEnd reader_new × (new ≡ record old { closed = true })
-AcceptsNext behind old new reader_old reader_new (Err NotWholePacket) =
-    (rest : List ℕ) × (0 < length rest) × (length rest < packet_bytes) × Consumes reader_old reader_new rest × IsAtEnd reader_new
-AcceptsNext behind old new reader_old reader_new (Err (NoSync packet told)) =
-    (rest : List ℕ) × (length rest ≡ packet_bytes) × (slice_index rest 0 ≢ sync) × Consumes reader_old reader_new rest × (packet ≡ behind + 1)
-    × (told ≡ size_told packet rest)
-AcceptsNext behind old new reader_old reader_new (Err Read) = (rest : List ℕ) × (length rest < packet_bytes) × Consumes reader_old reader_new rest
-AcceptsNext behind old new reader_old reader_new (Err Write) = ⊥
-
--- the unit of the next data field after these fields
-abbrev pub IsNextUnit : Link → Bool → List (List ℕ) → Slicing → List ℕ → Type 0
-IsNextUnit link due fields s unit = IsUnitOf link due (header_at link.setup.roll_off (length (joined fields)) (next_field s)) (next_field s) unit
-
--- the codeword of the next data field after these fields
-abbrev pub IsNextCodeword : Link → List (List ℕ) → Slicing → List Bool → Type 0
-IsNextCodeword link fields s codeword =
-    IsCodewordFor link.setup.mode link.rows (header_at link.setup.roll_off (length (joined fields)) (next_field s)) (next_field s) codeword
-
--- the next data field's unit is written exactly if a field can be taken, and the sink took its codeword before
-abbrev pub SendsNext : {S : Type 0} → Taking S → Link → Bool → Slicing → Slicing → (sink_old sink_new : S) → Option (List ℕ) → Option (List ℕ) → Bool → Type 0
-SendsNext takes link due old new sink_old sink_new writer_old writer_new true =
-    IsReady old × (new ≡ after_field old)
-    × ((packets fields : List (List ℕ)) → Sliced packets fields old → Sliced packets (fields ++ next_field old ∷ []) new
-    × ((unit : List ℕ) × (codeword : List Bool) × IsNextUnit link due fields old unit × IsNextCodeword link fields old codeword
-    × takes sink_old sink_new codeword × Appends writer_old writer_new unit))
-SendsNext takes link due old new sink_old sink_new writer_old writer_new false =
-    (IsReady old → ⊥) × (new ≡ old) × (sink_new ≡ sink_old) × (writer_new ≡ writer_old)
-
--- if that fails, a field could be taken; either the sink failed, or it took the codeword and a part of the unit is written
-abbrev pub FailsToSend : {S : Type 0} → (takes fails : Taking S) → Link → Bool → Slicing → (sink_old sink_new : S) → Option (List ℕ) → Option (List ℕ) → Type 0
-FailsToSend takes fails link due old sink_old sink_new writer_old writer_new =
-    IsReady old
-    × ((packets fields : List (List ℕ)) → Sliced packets fields old → ((unit : List ℕ) × (codeword : List Bool)
-    × IsNextUnit link due fields old unit × IsNextCodeword link fields old codeword
-    × TakesOrFails takes fails codeword unit sink_old sink_new writer_old writer_new))

@@ -1,6 +1,5 @@
 -- What a sink does with the codewords that a transmitter sends (own).
 use Rattle.std.specs.Prelude.{◌≡◌, ℕ, ◌⊎◌, Bool, List, [], ◌∷◌, Option, Some, None, Result, Ok, Err}
-use Rattle.std.specs.Io.KnownBytes.{Appends}
 use Rattle.s2_mode.specs.Pieces.{AppendsPart}
 use Rattle.s2_mode.specs.Streams.{NoneFailed, OneFailed}
 
@@ -47,17 +46,6 @@ TakesCodewords {S} takes old new (first ∷ later) = (mid : S) × takes old mid 
 abbrev pub TakesOrFails : {S : Type 0} → (takes fails : Taking S) → List Bool → List ℕ → (sink_old sink_new : S) → (old new : Option (List ℕ)) → Type 0
 TakesOrFails takes fails codeword bytes sink_old sink_new old new =
     (takes sink_old sink_new codeword × AppendsPart bytes old new) ⊎ (fails sink_old sink_new codeword × (new ≡ old))
-
--- the sink took the codeword, and then these bytes were written; or the one or the other failed
-abbrev pub TakesAndWrites : {S T E : Type 0} → (takes fails : Taking S) → List Bool → List ℕ → (sink_old sink_new : S) → (old new : Option (List ℕ)) → Result T E → Type 0
-TakesAndWrites takes fails codeword bytes sink_old sink_new old new (Ok done) = takes sink_old sink_new codeword × Appends old new bytes
-TakesAndWrites takes fails codeword bytes sink_old sink_new old new (Err fault) = TakesOrFails takes fails codeword bytes sink_old sink_new old new
-
--- there are a codeword with the one property and bytes with the other, and the sink took the codeword before the bytes were
--- written
-abbrev pub TakesSome : {S T E : Type 0} → (takes fails : Taking S) → (List Bool → Type 0) → (List ℕ → Type 0) → (sink_old sink_new : S) → (old new : Option (List ℕ)) → Result T E → Type 0
-TakesSome takes fails IsWord HasBytes sink_old sink_new old new result =
-    (codeword : List Bool) × (bytes : List ℕ) × IsWord codeword × HasBytes bytes × TakesAndWrites takes fails codeword bytes sink_old sink_new old new result
 
 -- by the counts of failed calls of a writer and of a sink: after `Ok` none failed, else one failed, once
 abbrev pub CountsEither : {T E : Type 0} → (writes_old writes_new takes_old takes_new : ℕ) → Result T E → Type 0

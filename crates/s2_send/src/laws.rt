@@ -1,6 +1,6 @@
 //! Laws of the definitions: each a call that does nothing, whose clause is the law.
 ghost use Rattle.s2_send.specs.Limits.{LimitsLaw};
-ghost use Rattle.s2_send.specs.Laws.{FrameLaw, NoDummiesLaw, RunLaw};
+ghost use Rattle.s2_send.specs.Laws.{AsRunLaw, FrameLaw, GivesLaw, NoDummiesLaw, RunLaw};
 
 use s2_mode::Mode;
 
@@ -21,6 +21,19 @@ pub fn no_dummies()
 /// over the same bytes, in which neither a read nor a write failed, return the same and write the same.
 pub fn one_run(mode: Mode)
     ensures { RunLaw mode }
+{
+    one_frame(mode);
+}
+
+/// However the bytes of a stream are cut into calls of [`crate::Sender::put`]: when no frame can be taken, the sender has
+/// given exactly the units of the full data fields of the packets so far, and after its end those of all data fields.
+pub fn sender_gives()
+    ensures { GivesLaw }
+{}
+
+/// A sender and a run over the same bytes end in the same way, and the run writes exactly the units that the sender gave.
+pub fn as_run(mode: Mode)
+    ensures { AsRunLaw mode }
 {
     one_frame(mode);
 }

@@ -15,9 +15,13 @@
 //!
 //! [`Transmitter::run_with`] also gives the codeword of each frame to a [`SendSink`], before the frame is written.
 //!
+//! A [`Sender`] is the transmitter without input and output. [`Sender::put`] takes bytes of the packets, in any pieces, up to
+//! a complete frame. [`Sender::take`] makes the frame, and [`Sender::symbols`] and [`Sender::codeword`] lend it.
+//! [`Sender::close`] ends the stream. What it gives depends on the bytes alone: [`laws::sender_gives`]. It is what a run
+//! writes: [`laws::as_run`].
+//!
 //! The stages can be used by themselves. [`frame_bits_into`] writes the bits of a header and its data field.
-//! [`Coder`] makes their codeword, and [`Modulator`] the bytes of a codeword's symbols. [`Framer`] does both: it
-//! writes the frame of a header and its data field.
+//! [`Coder`] makes their codeword, and [`Modulator`] the bytes of a codeword's symbols. [`Framer`] does both.
 //!
 //! ```text
 //! let setup = Setup { mode, number: 0, roll_off: 0 };
@@ -29,9 +33,12 @@
 mod bits;
 mod coder;
 mod framer;
+mod intake;
 pub mod laws;
 mod modulator;
 mod outcome;
+mod part;
+mod sender;
 mod sending;
 mod sinks;
 mod transmitter;
@@ -39,8 +46,9 @@ mod transmitter;
 pub use bits::frame_bits_into;
 pub use coder::Coder;
 pub use framer::Framer;
+pub use intake::MAX_PACKETS;
 pub use modulator::Modulator;
 pub use outcome::{Counts, PacketSize, SendFault};
-pub use sending::MAX_PACKETS;
+pub use sender::Sender;
 pub use sinks::SendSink;
 pub use transmitter::Transmitter;

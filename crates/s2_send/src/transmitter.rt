@@ -7,49 +7,35 @@ ghost use Rattle.s2_send.specs.Transmitter.{TransmitterAnswers, new_transmitter}
 ghost use Rattle.s2_send.specs.Sending.{RunsWith, TransmitterRuns};
 ghost use Rattle.s2_send.specs.Laws.{ReadFails};
 
-use crate::framer::Framer;
 use crate::outcome::{Counts, SendFault};
-use crate::sending::{MAX_PACKETS, Plan, send_all};
+use crate::sender::Sender;
+use crate::sending::send_all;
 use crate::sinks::SendSink;
-use s2_bbframe::{Slicer, field_bytes};
 use s2_link::{Link, Setup, SetupFault};
 use s2_matrix::Matrix;
 use s2_mode::{CountedRead, CountedWrite};
 use std::alloc::{AllocError, Global};
 use std::marker::Model;
 
-/// Sends packets as frames of symbols. To contracts it is its link, the most packets of a run, and after how many
-/// frames a run sends a dummy frame.
+/// Sends packets as frames of symbols, from a reader to a writer. To contracts it is its link, the most packets of a run,
+/// and after how many frames a run sends a dummy frame.
 pub struct Transmitter<'a> {
-    framer: Framer<'a>,
-    slicer: Slicer,
-    field: Vec<u8>,
-    plan: Plan,
+    sender: Sender<'a>,
 }
 
 impl<'a> Drop for Transmitter<'a> {
     fn drop(self) {
-        let Transmitter {
-            framer: _,
-            slicer: _,
-            field: _,
-            plan: _,
-        } = self;
+        let Transmitter { sender: _ } = self;
     }
 }
 
 impl<'a> Model for Transmitter<'a> {
-    ghost use Rattle.std.specs.Prelude.{◌≡◌, ◌<◌, length};
-    ghost use Rattle.s2_bbframe.specs.Limits.{packet_bytes};
-    ghost use Rattle.s2_bbframe.specs.DataStream.{field_bytes};
+    ghost use Rattle.s2_send.specs.Sender.{transmitter_of};
     ghost use Rattle.s2_send.specs.Transmitter.{Transmitter as TransmitterValue};
 
     ghost Value = { TransmitterValue };
 
-    ghost view = { λ t. record { link = t.framer; limit = t.plan.limit; dummy_every = t.plan.dummy_every } };
-
-    ghost invariant = { λ t. (t.slicer.size ≡ field_bytes t.framer.setup.mode)
-        × (length t.field.items ≡ field_bytes t.framer.setup.mode) × (packet_bytes < field_bytes t.framer.setup.mode) };
+    ghost view = { λ t. transmitter_of t.sender };
 }
 
 impl<'a> Transmitter<'a> {
@@ -76,26 +62,18 @@ impl<'a> Transmitter<'a> {
     pub fn on_link(alloc: Global, link: &Link<'a>) -> Result<Transmitter<'a>, AllocError>
         ensures is { IfOk result (λ t. t ≡ new_transmitter link.now) }
     {
-        let slicer = Slicer::new(alloc, link.mode())?;
-        let field = vec![in alloc; 0u8; field_bytes(link.mode())]?;
-        let framer = Framer::new(alloc, link)?;
         Ok(Transmitter {
-            framer,
-            slicer,
-            field,
-            plan: Plan {
-                limit: MAX_PACKETS,
-                dummy_every: 0,
-            },
+            sender: Sender::on_link(alloc, link)?,
         })
     }
 
-    /// Sets the most packets of each run, 1 to [`MAX_PACKETS`].
+    /// Sets the most packets of each run, 1 to [`crate::MAX_PACKETS`].
     pub fn limit(&mut self, packets: u64)
         requires { (1 ≤ packets) × (packets ≤ max_packets) }
         ensures { self.new ≡ record self.old { limit = packets } }
     {
-        self.plan.limit = packets;
+        self.sender.restart();
+        self.sender.limit(packets);
     }
 
     /// Sets after how many frames each run writes a dummy frame. One may follow the last frame of the run too. With 0,
@@ -103,13 +81,13 @@ impl<'a> Transmitter<'a> {
     pub fn dummy_every(&mut self, frames: u16)
         ensures { self.new ≡ record self.old { dummy_every = frames } }
     {
-        self.plan.dummy_every = frames;
+        self.sender.dummy_every(frames);
     }
 
     /// Reads packets of 188 bytes to the reader's end, and writes the frames of their data stream,
     /// which begins anew with each run. It takes no memory. It reads packet by packet, and writes
     /// frame by frame. A packet is accepted if it is whole and begins with 47 hexadecimal. At most
-    /// [`MAX_PACKETS`] are accepted, or fewer if [`Transmitter::limit`] was called. A dummy frame
+    /// [`crate::MAX_PACKETS`] are accepted, or fewer if [`Transmitter::limit`] was called. A dummy frame
     /// follows a frame if [`Transmitter::dummy_every`] says so. Below, it belongs to that frame, and
     /// is not counted.
     ///
@@ -161,14 +139,6 @@ impl<'a> Transmitter<'a> {
             → NoneFailed (W.count output.old) (W.count output.new) (K.count sink.old) (K.count sink.new) }
         ensures same { self.new ≡ self.old }
     {
-        send_all(
-            &mut self.framer,
-            &mut self.slicer,
-            &mut self.field,
-            self.plan,
-            input,
-            sink,
-            output,
-        )
+        send_all(&mut self.sender, input, sink, output)
     }
 }

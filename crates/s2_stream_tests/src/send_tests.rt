@@ -1,5 +1,5 @@
 //! The transmitter after a refusal and at its limit. The sum of the symbols is that of the modulator in plain C.
-use super::sending::{send, sum_of};
+use super::sending::{put_pieces, send, sum_of};
 use super::streams::{ALL, Sides, Source, link_of, packet_of_zeros, sent_by, transmitter_of};
 use s2_link::SetupFault;
 use s2_mode::Endless;
@@ -67,6 +67,21 @@ fn assert_stops<A: Abort>(rt: &A, alloc: Global, link: &Sides) -> Result<(), Fai
 fn takes_no_more_packets_than_its_limit(rt: HostRuntime) -> Result<(), Fail> {
     let link = link_of(rt.alloc(), 1, true)?;
     assert_stops(&rt, rt.alloc(), &link)
+}
+
+/// Asserts the sum of the symbols of a packet that a sender is given in pieces of this many bytes.
+fn assert_pieces<A: Abort>(rt: &A, alloc: Global, link: &Sides, size: usize) -> Result<(), Fail> {
+    let symbols = put_pieces(alloc, link, &packet_of_zeros(), size)?;
+    assert_eq!(rt; sum_of(&symbols), 3895363348699734475);
+    Ok(())
+}
+
+#[test]
+fn takes_a_stream_in_pieces(rt: HostRuntime) -> Result<(), Fail> {
+    let link = link_of(rt.alloc(), 1, false)?;
+    assert_pieces(&rt, rt.alloc(), &link, 1)?;
+    assert_pieces(&rt, rt.alloc(), &link, 100)?;
+    assert_pieces(&rt, rt.alloc(), &link, 188)
 }
 
 #[test]

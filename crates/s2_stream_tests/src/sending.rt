@@ -1,9 +1,10 @@
 //! Transmitters with a limit, and symbols made by hand.
 use super::streams::{Sent, Sides, Source, sent_by, transmitter_of};
-use s2_link::SetupFault;
+use s2_link::{Link, SetupFault};
 use s2_mode::Symbol;
-use s2_send::Transmitter;
+use s2_send::{Sender, Transmitter};
 use std::alloc::{AllocError, Global};
+use std::test::Fail;
 
 /// Limits a transmitter to this number of packets.
 fn limit(transmitter: &mut Transmitter<'_>, packets: u32) {
@@ -26,6 +27,48 @@ pub(crate) fn send(
         }
         Err(fault) => Err(fault),
     }
+}
+
+/// A sender of a link.
+fn sender_of<'a>(alloc: Global, link: &'a Sides) -> Result<Sender<'a>, Fail> {
+    let link = Link::new(link.setup, &link.matrix)?;
+    Ok(Sender::on_link(alloc, &link)?)
+}
+
+/// Gives a piece of a stream to a sender, and adds the symbols of the frame that is complete then.
+fn put_piece(sender: &mut Sender<'_>, piece: &[u8], symbols: &mut Vec<u8>) -> Result<(), Fail> {
+    if sender.is_closed() || sender.put(piece)? < piece.len() {
+        return Err(Fail::from("a frame is complete"));
+    }
+    if sender.take() {
+        symbols.extend_from_slice(sender.symbols())?;
+    }
+    Ok(())
+}
+
+/// Ends a sender's stream, and adds the symbols of the last frame.
+fn end(sender: &mut Sender<'_>, symbols: &mut Vec<u8>) -> Result<(), Fail> {
+    sender.close()?;
+    if sender.take() {
+        symbols.extend_from_slice(sender.symbols())?;
+    }
+    Ok(())
+}
+
+/// The symbols of a stream that a link's sender is given in pieces of this many bytes.
+pub(crate) fn put_pieces(
+    alloc: Global,
+    link: &Sides,
+    packets: &[u8],
+    size: usize,
+) -> Result<Vec<u8>, Fail> {
+    let mut symbols = Vec::new(alloc);
+    let mut sender = sender_of(alloc, link)?;
+    for piece in packets.chunks(size.max(1)) {
+        put_piece(&mut sender, piece, &mut symbols)?;
+    }
+    end(&mut sender, &mut symbols)?;
+    Ok(symbols)
 }
 
 /// Appends the bytes of a symbol.

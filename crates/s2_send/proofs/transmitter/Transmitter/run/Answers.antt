@@ -1,4 +1,4 @@
-use Rattle.s2_send.proofs.Taken.{writer_failed}
+use Rattle.s2_send.proofs.RunSteps.{writer_failed}
 use Rattle.s2_send.proofs.transmitter.Transmitter.run.Goals as goal
 
 pub returns-clause-runs : goal.returns-clause-runs

@@ -1,0 +1,4 @@
+pub mod Plans
+pub mod Steps
+pub mod Loads
+pub mod Places

@@ -1,0 +1,5 @@
+pub mod Courses
+pub mod Ports
+pub mod Machines
+pub mod Loading
+pub mod Opened

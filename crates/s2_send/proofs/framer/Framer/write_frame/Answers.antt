@@ -1,7 +1,0 @@
-use Rattle.std.specs.Prelude.{◌≡◌, ⊤}
-use Rattle.s2_send.proofs.Taken.{without}
-use Rattle.s2_send.proofs.framer.Framer.write_frame.Goals as goal
-
-pub returns-clause-frame : goal.returns-clause-frame
-returns-clause-frame g c = without {S = ⊤} (λ old new codeword. new ≡ old) (λ old new codeword. ⊥) _ _ tt tt
-    (g.W.CountedWrite.contents c.args.writer.now) (g.W.CountedWrite.contents c.write_frame_with.new.writer) c.write_frame_with.result (λ old new codeword never. never) c.write_frame_with.ensures.frame
