@@ -63,7 +63,7 @@ fn number_of(words: NumberWords) -> Number {
 /// The tuning of a receiver of a mode.
 fn tuning_of(mode: &Mode, words: TuningWords) -> Result<Tuning, Fault<'static>> {
     let wanted = Wanted {
-        rounds: words.rounds,
+        rounds: number_of(words.rounds),
         passes: number_of(words.passes),
         divisor: number_of(words.divisor),
         factor: number_of(words.factor),

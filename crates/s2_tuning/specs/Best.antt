@@ -3,57 +3,59 @@ use Rattle.std.specs.Prelude.{ℕ, ◌-◌, List, [], ◌∷◌, get_or, if◌th
 use Rattle.s2_mode.specs.Mode.{Mode}
 use Rattle.s2_tuning.specs.declared.best.Best.{Best}
 
--- the line of a code: the factor of min-sum's messages, the divisor of soft values, and the passes of settling
-abbrev pub best : ℕ → ℕ → ℕ → Best
-best factor divisor passes = record { factor = factor; divisor = divisor; passes = passes }
+-- the line of a code: the factor of min-sum's messages, the divisor of soft values, the rounds of min-sum, and the
+-- passes of settling
+abbrev pub best : ℕ → ℕ → ℕ → ℕ → Best
+best factor divisor rounds passes =
+    record { factor = factor; divisor = divisor; rounds = rounds; passes = passes }
 
 -- normal frames, MODCOD 1 to 17: QPSK 1/4 to 9/10, then 8PSK 3/5, 2/3, 3/4, 5/6, 8/9, 9/10
 abbrev pub best_normal : List Best
 best_normal =
-    best 15 8192 96
-    ∷ best 14 8192 96
-    ∷ best 13 8192 96
-    ∷ best 13 8192 96
-    ∷ best 11 8192 96
-    ∷ best 13 8192 96
-    ∷ best 13 8192 96
-    ∷ best 13 8192 96
-    ∷ best 13 8192 96
-    ∷ best 13 8192 96
-    ∷ best 13 8192 96
-    ∷ best 13 8192 96
-    ∷ best 13 8192 96
-    ∷ best 12 8192 96
-    ∷ best 12 8192 96
-    ∷ best 13 8192 96
-    ∷ best 13 8192 96
+    best 15 8192 200 96
+    ∷ best 14 8192 200 96
+    ∷ best 13 8192 200 96
+    ∷ best 13 8192 200 96
+    ∷ best 11 8192 200 96
+    ∷ best 13 8192 200 96
+    ∷ best 13 8192 200 96
+    ∷ best 13 8192 200 96
+    ∷ best 13 8192 200 96
+    ∷ best 13 8192 200 96
+    ∷ best 13 8192 200 96
+    ∷ best 13 8192 200 96
+    ∷ best 13 8192 200 96
+    ∷ best 12 8192 200 96
+    ∷ best 12 8192 200 96
+    ∷ best 13 8192 200 96
+    ∷ best 13 8192 200 96
     ∷ []
 
 -- short frames, MODCOD 1 to 17; of 9/10, which is 11 and 17, there are none
 abbrev pub best_short : List Best
 best_short =
-    best 15 8192 96
-    ∷ best 14 8192 96
-    ∷ best 13 8192 96
-    ∷ best 13 8192 96
-    ∷ best 11 8192 96
-    ∷ best 13 8192 96
-    ∷ best 13 8192 96
-    ∷ best 13 8192 96
-    ∷ best 13 8192 96
-    ∷ best 13 8192 96
-    ∷ best 13 8192 96
-    ∷ best 13 8192 96
-    ∷ best 13 8192 96
-    ∷ best 12 8192 96
-    ∷ best 12 8192 96
-    ∷ best 13 8192 96
-    ∷ best 13 8192 96
+    best 15 8192 200 96
+    ∷ best 14 8192 200 96
+    ∷ best 13 8192 200 96
+    ∷ best 13 8192 200 96
+    ∷ best 11 8192 200 96
+    ∷ best 13 8192 200 96
+    ∷ best 13 8192 200 96
+    ∷ best 13 8192 200 96
+    ∷ best 13 8192 200 96
+    ∷ best 13 8192 200 96
+    ∷ best 13 8192 200 96
+    ∷ best 13 8192 200 96
+    ∷ best 13 8192 200 96
+    ∷ best 12 8192 200 96
+    ∷ best 12 8192 200 96
+    ∷ best 13 8192 200 96
+    ∷ best 13 8192 200 96
     ∷ []
 
 -- the line of a mode's code
 unfoldable pub best_of : Mode → Best
-best_of m = get_or (if m.short then best_short else best_normal) (m.modcod - 1) (best 0 0 0)
+best_of m = get_or (if m.short then best_short else best_normal) (m.modcod - 1) (best 0 0 0 0)
 
 -- the largest number of wrong header bits, for each code
 abbrev pub best_max_header_errors : ℕ

@@ -11,16 +11,19 @@ pub(crate) struct Best {
     pub(crate) factor: u32,
     /// The divisor of soft values.
     pub(crate) divisor: u32,
+    /// The rounds of min-sum.
+    pub(crate) rounds: u32,
     /// The passes of settling.
     pub(crate) passes: u32,
 }
 
-/// The line of a code: factor, divisor and passes.
+/// The line of a code: factor, divisor, rounds and passes.
 macro_rules! best {
-    ($factor:literal, $divisor:literal, $passes:literal) => {
+    ($factor:literal, $divisor:literal, $rounds:literal, $passes:literal) => {
         Best {
             factor: $factor,
             divisor: $divisor,
+            rounds: $rounds,
             passes: $passes,
         }
     };
@@ -28,44 +31,44 @@ macro_rules! best {
 
 /// Normal frames, MODCOD 1 to 17.
 const NORMAL: [Best; 17] = [
-    best!(15, 8192, 96), // QPSK 1/4
-    best!(14, 8192, 96), // QPSK 1/3
-    best!(13, 8192, 96), // QPSK 2/5
-    best!(13, 8192, 96), // QPSK 1/2
-    best!(11, 8192, 96), // QPSK 3/5
-    best!(13, 8192, 96), // QPSK 2/3
-    best!(13, 8192, 96), // QPSK 3/4
-    best!(13, 8192, 96), // QPSK 4/5
-    best!(13, 8192, 96), // QPSK 5/6
-    best!(13, 8192, 96), // QPSK 8/9
-    best!(13, 8192, 96), // QPSK 9/10
-    best!(13, 8192, 96), // 8PSK 3/5
-    best!(13, 8192, 96), // 8PSK 2/3
-    best!(12, 8192, 96), // 8PSK 3/4
-    best!(12, 8192, 96), // 8PSK 5/6
-    best!(13, 8192, 96), // 8PSK 8/9
-    best!(13, 8192, 96), // 8PSK 9/10
+    best!(15, 8192, 200, 96), // QPSK 1/4
+    best!(14, 8192, 200, 96), // QPSK 1/3
+    best!(13, 8192, 200, 96), // QPSK 2/5
+    best!(13, 8192, 200, 96), // QPSK 1/2
+    best!(11, 8192, 200, 96), // QPSK 3/5
+    best!(13, 8192, 200, 96), // QPSK 2/3
+    best!(13, 8192, 200, 96), // QPSK 3/4
+    best!(13, 8192, 200, 96), // QPSK 4/5
+    best!(13, 8192, 200, 96), // QPSK 5/6
+    best!(13, 8192, 200, 96), // QPSK 8/9
+    best!(13, 8192, 200, 96), // QPSK 9/10
+    best!(13, 8192, 200, 96), // 8PSK 3/5
+    best!(13, 8192, 200, 96), // 8PSK 2/3
+    best!(12, 8192, 200, 96), // 8PSK 3/4
+    best!(12, 8192, 200, 96), // 8PSK 5/6
+    best!(13, 8192, 200, 96), // 8PSK 8/9
+    best!(13, 8192, 200, 96), // 8PSK 9/10
 ];
 
 /// Short frames, MODCOD 1 to 17. There are none of 9/10, so these lines are not used.
 const SHORT: [Best; 17] = [
-    best!(15, 8192, 96), // QPSK 1/4
-    best!(14, 8192, 96), // QPSK 1/3
-    best!(13, 8192, 96), // QPSK 2/5
-    best!(13, 8192, 96), // QPSK 1/2
-    best!(11, 8192, 96), // QPSK 3/5
-    best!(13, 8192, 96), // QPSK 2/3
-    best!(13, 8192, 96), // QPSK 3/4
-    best!(13, 8192, 96), // QPSK 4/5
-    best!(13, 8192, 96), // QPSK 5/6
-    best!(13, 8192, 96), // QPSK 8/9
-    best!(13, 8192, 96), // QPSK 9/10
-    best!(13, 8192, 96), // 8PSK 3/5
-    best!(13, 8192, 96), // 8PSK 2/3
-    best!(12, 8192, 96), // 8PSK 3/4
-    best!(12, 8192, 96), // 8PSK 5/6
-    best!(13, 8192, 96), // 8PSK 8/9
-    best!(13, 8192, 96), // 8PSK 9/10
+    best!(15, 8192, 200, 96), // QPSK 1/4
+    best!(14, 8192, 200, 96), // QPSK 1/3
+    best!(13, 8192, 200, 96), // QPSK 2/5
+    best!(13, 8192, 200, 96), // QPSK 1/2
+    best!(11, 8192, 200, 96), // QPSK 3/5
+    best!(13, 8192, 200, 96), // QPSK 2/3
+    best!(13, 8192, 200, 96), // QPSK 3/4
+    best!(13, 8192, 200, 96), // QPSK 4/5
+    best!(13, 8192, 200, 96), // QPSK 5/6
+    best!(13, 8192, 200, 96), // QPSK 8/9
+    best!(13, 8192, 200, 96), // QPSK 9/10
+    best!(13, 8192, 200, 96), // 8PSK 3/5
+    best!(13, 8192, 200, 96), // 8PSK 2/3
+    best!(12, 8192, 200, 96), // 8PSK 3/4
+    best!(12, 8192, 200, 96), // 8PSK 5/6
+    best!(13, 8192, 200, 96), // 8PSK 8/9
+    best!(13, 8192, 200, 96), // 8PSK 9/10
 ];
 
 /// The settings that are best for the code of a mode.

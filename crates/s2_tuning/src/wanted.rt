@@ -21,7 +21,7 @@ pub struct Number {
 /// those that are not given.
 #[derive(Clone, Copy, Debug, PartialEq, Eq)]
 pub struct Wanted {
-    pub rounds: u32,
+    pub rounds: Number,
     pub passes: Number,
     pub divisor: Number,
     pub factor: Number,
@@ -102,8 +102,9 @@ fn tuning_with(best: Best, wanted: Wanted) -> Option<Tuning>
         wanted.max_header_errors,
         BEST_MAX_HEADER_ERRORS,
     ))?;
+    let rounds = number_by(wanted.tuned, wanted.rounds, best.rounds);
     let passes = number_by(wanted.tuned, wanted.passes, best.passes);
-    let tuning = Tuning::new(wanted.rounds, passes_by(wanted.uncertified, passes)).ok()?;
+    let tuning = Tuning::new(rounds, passes_by(wanted.uncertified, passes)).ok()?;
     let tuning = tuning
         .with_divisor(divisor)
         .with_factor(factor)

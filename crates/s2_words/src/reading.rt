@@ -67,7 +67,7 @@ fn number_of(m: &ArgMatches<'_>, name: &str) -> Option<NumberWords> {
 
 fn tuning_of(m: &ArgMatches<'_>) -> Option<TuningWords> {
     Some(TuningWords {
-        rounds: m.get_one::<u32>("rounds")?,
+        rounds: number_of(m, "rounds")?,
         passes: number_of(m, "passes")?,
         divisor: number_of(m, "divisor")?,
         factor: number_of(m, "factor")?,

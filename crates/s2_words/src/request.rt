@@ -43,7 +43,7 @@ pub struct NumberWords {
 /// What the line says of how a receiver is tuned.
 #[derive(Clone, Copy)]
 pub struct TuningWords {
-    pub rounds: u32,
+    pub rounds: NumberWords,
     pub passes: NumberWords,
     pub divisor: NumberWords,
     pub factor: NumberWords,
