@@ -263,11 +263,11 @@ TURNED = (8, 600)
 GAUSSIAN = (1, 2.5)
 # By each of these factors it leaves another count, too.
 FACTORS = (12, 13, 14, 16)
-# Words that are best for QPSK 1/4, and those that win over them, also by what is their default: the divisor and the factor.
+# Words that are best for QPSK 1/4, short, and those that win over them, also by what is their default: the divisor and the factor.
 TUNED = [
-    ("--tuned", 8192, 15),
-    ("--tuned --divisor 4096", 4096, 15),
-    ("--factor 12 --tuned", 8192, 12),
+    ("--tuned", 16384, 14),
+    ("--tuned --divisor 4096", 4096, 14),
+    ("--factor 12 --tuned", 16384, 12),
     ("--divisor 4096 --factor 13 --tuned", 4096, 13),
     ("--tuned --factor 12 --divisor 4096", 4096, 12),
 ]

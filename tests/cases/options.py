@@ -186,19 +186,23 @@ def both(option, words, ends, channel, more):
 def tuning_effects(two, report):
     """`report` returns the report of the noisy symbols after two rounds, for a divisor and a factor."""
     noisy = {"reads": {"in": spoilt(two, *NOISY)}}
-    by = {pair: received(report(*pair), NO) for pair in ((4096, 12), (8192, 12), (4096, 13), (8192, 15), (4096, 15))}
+    by = {pair: received(report(*pair), NO) for pair in ((4096, 12), (8192, 12), (4096, 13), (16384, 14), (4096, 14), (16384, 12))}
     usual, words = by[4096, 12], f"{LINK} --rounds 2 {{}}"
     yield from both("--divisor", words, by_default("--divisor", 4096, 8192, usual, by[8192, 12]), NOISY, noisy)
     yield from both("--factor", words, by_default("--factor", 12, 13, usual, by[4096, 13]), NOISY, noisy)
-    yield from both("--tuned", words, {"": usual, "--tuned": by[8192, 15]}, NOISY, noisy)
+    yield from both("--tuned", words, {"": usual, "--tuned": by[16384, 14]}, NOISY, noisy)
     # beside --tuned each option that it sets wins
     words = f"{LINK} --rounds 2 --tuned {{}}"
-    yield from both("--divisor", words, by_default("--divisor", 8192, 4096, by[8192, 15], by[4096, 15]), NOISY, noisy)
-    yield from both("--factor", words, by_default("--factor", 15, 12, by[8192, 15], by[8192, 12]), NOISY, noisy)
+    yield from both("--divisor", words, by_default("--divisor", 16384, 4096, by[16384, 14], by[4096, 14]), NOISY, noisy)
+    yield from both("--factor", words, by_default("--factor", 14, 12, by[16384, 14], by[16384, 12]), NOISY, noisy)
     # the result of fifty rounds, the default, is only known to differ from those of one and two
     many, one = ({"code": ANY, "out": ANY, "errors": errors, "writes": {"out": ANY}} for errors in ("", ANY))
     ends = {"": many, "--rounds 50": many, "--rounds 2": usual, "--rounds 1": one}
     yield from both("--rounds", f"{LINK} {{}}", ends, NOISY, noisy)
+    # with another scrambling number no frame is decoded, so all rounds are run
+    best, usual = (received(Rule(f"{it} rounds each", lambda got, it=it: got.count(b" rounds %d " % it) == 2), NO, b"") for it in (200, 50))
+    ends = {"": best, "--rounds 200": best, "--rounds 50": usual}
+    yield Effect("--rounds", f"demod {LINK} --number 5 --figures --tuned {{}} made in out", ends, {"reads": {"in": two}})
     hard, soft = {"reads": {"in": spoilt(two, 1, 500)}}, {"reads": {"in": spoilt(two, 1, 400)}}
     yield from both("--passes", f"{LINK} {{}}", by_default("--passes", 0, 96, UNCERTIFIED, WELL), (1, 500), hard)
     yield from both("--passes", f"{LINK} --tuned {{}}", by_default("--passes", 96, 0, WELL, UNCERTIFIED), (1, 500), hard)

@@ -1,18 +1,22 @@
-"""The values of --tuned in every mode, copied from docs/formats.md, and noise for which every other factor gives another report."""
+"""The values of --tuned for each code, copied from docs/formats.md, and symbols for which other values give other reports."""
 from cases.common import PACKET
 from cases.drawn import made_rows
-from cases.listing import NAMES, frame
+from cases.listing import NAMES, frame, kbch
 from cases.modes import MODES
 
-LOCK, DIVISOR, PASSES, FACTORS = 30, 8192, 96, (11, 12, 13, 14, 15)
-FACTOR = {"qpsk1/4": 15, "qpsk1/3": 14, "qpsk3/5": 11, "8psk3/4": 12, "8psk5/6": 12}
-# For each MODCOD: seed and level of the noise, and the number of rounds.
-CHANNELS = {
-    1: (412, 774, 4), 2: (496, 636, 2), 3: (932, 599, 4), 4: (26, 513, 2), 5: (585, 464, 2), 6: (646, 542, 6), 7: (574, 451, 2),
-    8: (585, 437, 2), 9: (561, 387, 1), 10: (185, 401, 2), 11: (352, 396, 4), 12: (169, 315, 3), 13: (587, 329, 3), 14: (817, 296, 4),
-    15: (698, 255, 4), 16: (893, 230, 4), 17: (181, 219, 2),
-}  # fmt: skip
-
+LOCK, PASSES = 30, 96
+FACTORS, DIVISORS, ROUNDS = range(8, 17), (4096, 8192, 16384, 32768, 65536), (50, 100, 200)
+# Factor, divisor and rounds of MODCOD 1 to 17: normal frames, then short ones, of which there are none for 11 and 17.
+NORMAL = [
+    (15, 16384, 200), (14, 16384, 200), (13, 16384, 200), (13, 8192, 200), (11, 8192, 200), (13, 8192, 200), (13, 8192, 200),
+    (13, 8192, 200), (13, 8192, 200), (13, 8192, 200), (13, 8192, 200), (13, 8192, 200), (13, 8192, 200), (12, 8192, 200), (12, 8192, 200),
+    (13, 8192, 200), (13, 8192, 200),
+]  # fmt: skip
+SHORT = [
+    (14, 16384, 200), (14, 16384, 200), (13, 16384, 200), (13, 8192, 200), (11, 8192, 200), (13, 8192, 200), (13, 8192, 200),
+    (13, 8192, 200), (13, 8192, 200), (13, 8192, 200), (13, 8192, 200), (13, 8192, 200), (13, 8192, 200), (12, 8192, 200), (12, 8192, 200),
+    (13, 8192, 200), (13, 8192, 200),
+]  # fmt: skip
 
 # Numbers of the rules, those of settling as bench/settle/shares.py has them, and the definitions to which the code's constants are proved
 # equal. No report was found that differs for a change of each.
@@ -32,28 +36,33 @@ PASSING = [(7175, 843, 48)]
 PASSING_ROWS = made_rows(360, 15, 30, 4, 1)
 
 
-def best(modcod):
-    return FACTOR.get(NAMES[modcod - 1], 13)
+def best(modcod, short):
+    return (SHORT if short else NORMAL)[modcod - 1]
 
 
-def words(factor, passes=PASSES):
-    return f"--lock {LOCK} --divisor {DIVISOR} --passes {passes} --factor {factor}"
+def words(best, passes=PASSES):
+    factor, divisor, rounds = best
+    return f"--lock {LOCK} --divisor {divisor} --rounds {rounds} --passes {passes} --factor {factor}"
+
+
+def neighbours(best):
+    """Settings of which one is not the best, but the next."""
+    for place, values in enumerate((FACTORS, DIVISORS, ROUNDS)):
+        at = values.index(best[place])
+        for other in values[max(0, at - 1) : at + 2]:
+            if other != best[place]:
+                yield (*best[:place], other, *best[place + 1 :])
 
 
 def lines():
-    """The best settings of MODCOD 1 to 17, of normal frames and then of short ones: factor, divisor and passes."""
-    return 2 * [(best(modcod), DIVISOR, PASSES) for modcod in CHANNELS]
+    """The best settings of MODCOD 1 to 17, of normal frames and then of short ones: factor, divisor, rounds and passes."""
+    return [(*line, PASSES) for line in NORMAL + SHORT]
 
 
 def links():
-    """For each MODCOD: its options by number and by name, its rows and the packets. Frames are short if the code rate has them."""
-    for modcod in CHANNELS:
-        length = "" if modcod in (11, 17) else "--short"
-        groups, q = next(it[2:4] for it in MODES if it[:2] == (modcod, length))
+    """For each code: its options by number and by name, its best settings, the symbols of its frame, its rows and packets for three frames."""
+    for modcod, length, groups, q in (it[:4] for it in MODES):
+        short = bool(length)
         named = (f"--modcod {name} {length}" for name in (modcod, NAMES[modcod - 1]))
-        yield modcod, *named, made_rows(360, groups, q, 3, 1), (40 if length else 80) * PACKET
-
-
-def symbols_of(modcod):
-    """The symbols of a frame."""
-    return frame(modcod, modcod not in (11, 17), 0)
+        packets = 2 * (kbch(modcod, short, 360 * groups) - 80) // 1504 + 2
+        yield *named, best(modcod, short), frame(modcod, short, 0), made_rows(360, groups, q, 3, 1), packets * PACKET

@@ -12,9 +12,9 @@ best factor divisor rounds passes =
 -- normal frames, MODCOD 1 to 17: QPSK 1/4 to 9/10, then 8PSK 3/5, 2/3, 3/4, 5/6, 8/9, 9/10
 abbrev pub best_normal : List Best
 best_normal =
-    best 15 8192 200 96
-    ∷ best 14 8192 200 96
-    ∷ best 13 8192 200 96
+    best 15 16384 200 96
+    ∷ best 14 16384 200 96
+    ∷ best 13 16384 200 96
     ∷ best 13 8192 200 96
     ∷ best 11 8192 200 96
     ∷ best 13 8192 200 96
@@ -34,9 +34,9 @@ best_normal =
 -- short frames, MODCOD 1 to 17; of 9/10, which is 11 and 17, there are none
 abbrev pub best_short : List Best
 best_short =
-    best 15 8192 200 96
-    ∷ best 14 8192 200 96
-    ∷ best 13 8192 200 96
+    best 14 16384 200 96
+    ∷ best 14 16384 200 96
+    ∷ best 13 16384 200 96
     ∷ best 13 8192 200 96
     ∷ best 11 8192 200 96
     ∷ best 13 8192 200 96

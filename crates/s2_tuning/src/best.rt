@@ -31,9 +31,9 @@ macro_rules! best {
 
 /// Normal frames, MODCOD 1 to 17.
 const NORMAL: [Best; 17] = [
-    best!(15, 8192, 200, 96), // QPSK 1/4
-    best!(14, 8192, 200, 96), // QPSK 1/3
-    best!(13, 8192, 200, 96), // QPSK 2/5
+    best!(15, 16384, 200, 96), // QPSK 1/4
+    best!(14, 16384, 200, 96), // QPSK 1/3
+    best!(13, 16384, 200, 96), // QPSK 2/5
     best!(13, 8192, 200, 96), // QPSK 1/2
     best!(11, 8192, 200, 96), // QPSK 3/5
     best!(13, 8192, 200, 96), // QPSK 2/3
@@ -52,9 +52,9 @@ const NORMAL: [Best; 17] = [
 
 /// Short frames, MODCOD 1 to 17. There are none of 9/10, so these lines are not used.
 const SHORT: [Best; 17] = [
-    best!(15, 8192, 200, 96), // QPSK 1/4
-    best!(14, 8192, 200, 96), // QPSK 1/3
-    best!(13, 8192, 200, 96), // QPSK 2/5
+    best!(14, 16384, 200, 96), // QPSK 1/4
+    best!(14, 16384, 200, 96), // QPSK 1/3
+    best!(13, 16384, 200, 96), // QPSK 2/5
     best!(13, 8192, 200, 96), // QPSK 1/2
     best!(11, 8192, 200, 96), // QPSK 3/5
     best!(13, 8192, 200, 96), // QPSK 2/3

@@ -242,12 +242,12 @@ pub(crate) const DIVISOR: Argument = Argument {
         default: Some(DEFAULT_DIVISOR_TEXT),
         ..FILE
     }),
-    help: "What soft values are divided by: 8192 at low code rates, more for stronger symbols",
+    help: "What soft values are divided by: 16384 at low code rates, more for stronger symbols",
 };
 
 /// The same option, for a report that was made with it.
 pub(crate) const DIVISOR_OF_REPORT: Argument = Argument {
-    help: "What soft values were divided by: that of the reception, with --tuned 8192",
+    help: "What soft values were divided by: that of the reception, with --tuned the mode's in docs/formats.md",
     ..DIVISOR
 };
 
@@ -282,7 +282,7 @@ pub(crate) const UNCERTIFIED: Argument = Argument {
 pub(crate) const TUNED: Argument = Argument {
     name: "tuned",
     form: Form::Flag,
-    help: "The factor that is best for the mode, --lock 30, --divisor 8192 and --passes 96; words that stand beside it win",
+    help: "The factor, divisor and rounds that are best for the mode, --lock 30 and --passes 96; words that stand beside it win",
 };
 
 pub(crate) const SEED: Argument = Argument {
