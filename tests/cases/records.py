@@ -214,7 +214,7 @@ def cases(two, dummy):
 
 
 # What is received for the laws: words of `demod`, and what they say to `judge`.
-TUNINGS = [("", ""), ("--passes 96", "--passes 96"), ("--uncertified", "--uncertified"), ("--tuned", "--passes 96 --factor 15"), ("--factor 13", "--factor 13")]
+TUNINGS = [("", ""), ("--passes 96", "--passes 96"), ("--uncertified", "--uncertified"), ("--tuned", "--passes 96 --factor 14"), ("--factor 13", "--factor 13")]
 
 
 def heard(two, dummy):

@@ -14,43 +14,43 @@ abbrev pub best_normal : List Best
 best_normal =
     best 15 16384 200 96
     ∷ best 14 16384 200 96
-    ∷ best 13 16384 200 96
-    ∷ best 13 8192 200 96
-    ∷ best 11 8192 200 96
-    ∷ best 13 8192 200 96
-    ∷ best 13 8192 200 96
-    ∷ best 13 8192 200 96
-    ∷ best 13 8192 200 96
-    ∷ best 13 8192 200 96
-    ∷ best 13 8192 200 96
-    ∷ best 13 8192 200 96
-    ∷ best 13 8192 200 96
-    ∷ best 12 8192 200 96
-    ∷ best 12 8192 200 96
-    ∷ best 13 8192 200 96
-    ∷ best 13 8192 200 96
+    ∷ best 13 16384 100 96
+    ∷ best 13 8192 100 96
+    ∷ best 11 32768 50 96
+    ∷ best 14 8192 100 96
+    ∷ best 13 8192 100 96
+    ∷ best 13 8192 100 96
+    ∷ best 13 8192 100 96
+    ∷ best 13 8192 100 96
+    ∷ best 13 8192 100 96
+    ∷ best 13 4096 100 96
+    ∷ best 13 4096 100 96
+    ∷ best 12 4096 100 96
+    ∷ best 12 4096 100 96
+    ∷ best 13 4096 100 96
+    ∷ best 13 4096 100 96
     ∷ []
 
 -- short frames, MODCOD 1 to 17; of 9/10, which is 11 and 17, there are none
 abbrev pub best_short : List Best
 best_short =
-    best 14 16384 200 96
+    best 14 16384 100 96
     ∷ best 14 16384 200 96
-    ∷ best 13 16384 200 96
-    ∷ best 13 8192 200 96
-    ∷ best 11 8192 200 96
-    ∷ best 13 8192 200 96
-    ∷ best 13 8192 200 96
-    ∷ best 13 8192 200 96
-    ∷ best 13 8192 200 96
-    ∷ best 13 8192 200 96
-    ∷ best 13 8192 200 96
-    ∷ best 13 8192 200 96
-    ∷ best 13 8192 200 96
-    ∷ best 12 8192 200 96
-    ∷ best 12 8192 200 96
-    ∷ best 13 8192 200 96
-    ∷ best 13 8192 200 96
+    ∷ best 13 16384 100 96
+    ∷ best 14 16384 100 96
+    ∷ best 11 8192 50 96
+    ∷ best 14 8192 100 96
+    ∷ best 14 8192 100 96
+    ∷ best 13 8192 100 96
+    ∷ best 13 8192 100 96
+    ∷ best 13 8192 100 96
+    ∷ best 13 8192 100 96
+    ∷ best 13 4096 100 96
+    ∷ best 13 4096 100 96
+    ∷ best 13 4096 100 96
+    ∷ best 13 4096 100 96
+    ∷ best 13 4096 100 96
+    ∷ best 13 4096 100 96
     ∷ []
 
 -- the line of a mode's code
