@@ -186,7 +186,7 @@ def run(words, given=b""):
 
 
 def program_of(chosen):
-    """The program: the one that is named, else that of this folder, which is built first if that can be done."""
+    """The program: the one that is named, else that of this folder, which is built first if that can be done. Of two, the one that `s2` runs."""
     front, built = os.path.join(TOP, "s2"), os.path.join(TOP, "crates/s2_tool/out/s2_tool")
     if chosen:
         return os.path.abspath(chosen)
@@ -195,7 +195,8 @@ def program_of(chosen):
         return front
     if (shutil.which("rt") or not os.path.exists(built)) and subprocess.run([front, "--build"], check=False).returncode:
         raise Told
-    return built
+    fitting = f"{built}.{run([front, '--version']).stdout.decode().split()[-1]}"
+    return fitting if os.path.exists(fitting) else built
 
 
 def link_words(chosen, names):

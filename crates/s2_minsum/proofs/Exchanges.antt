@@ -1,5 +1,5 @@
 -- Lanes that are written, and checks of a layer that are exchanged one block of lanes after another.
-use Rattle.std.proofs.Common.{◌≡◌, ℕ, zero, suc, ◌+◌, ◌-◌, ◌*◌, ◌<◌, ◌≤◌, List, [], ◌∷◌, length, get_or, set, refl, ap, sym, ◌∙◌, inl, inr, arith}
+use Rattle.std.proofs.Common.{◌≡◌, ℕ, suc, ◌+◌, ◌-◌, ◌*◌, ◌<◌, ◌≤◌, List, length, get_or, refl, ap, sym, ◌∙◌, inl, inr, arith}
 use Rattle.std.proofs.Math.Nat.{mul-le-mul_right}
 use Rattle.std.proofs.lemmas.Bool.{cases_lt, cases_eq}
 use Rattle.std.proofs.lemmas.Simd.{get_or-put_chunk_below, get_or-put_chunk_at, get_or-put_chunk_above}
@@ -88,16 +88,6 @@ sent_more n count at w e new inputs messages inputs' messages' xs ys inside lt s
   inputs_left = λ d c low off. lanes_other n count e at w inputs' xs inside lt size long d c low (λ same. off (omega arith)) ∙ s.inputs_left d c low (λ less. off (omega arith));
   messages_left = λ d c low off. lanes_other n count e at w messages' ys inside lt size' long' d c low (λ same. off (omega arith)) ∙ s.messages_left d c low (λ less. off (omega arith));
 }
-
--- one word written is a vector of one
-pub set_chunk : (i : ℕ) (xs : List ℕ) (x : ℕ) → set xs i x ≡ put_chunk i xs (x ∷ [])
-set_chunk i [] x = refl
-set_chunk zero (y ∷ xs) x = ap (λ t. x ∷ t) (sym (none xs))
-  where
-    none : (t : List ℕ) → put_chunk zero t [] ≡ t
-    none [] = refl
-    none (z ∷ t) = refl
-set_chunk (suc i) (y ∷ xs) x = ap (λ t. y ∷ t) (set_chunk i xs x)
 
 -- ---- checks that are exchanged
 

@@ -9,6 +9,7 @@ pub mod Columns
 pub mod Posteriors
 pub mod StepStates
 pub mod Sames
+pub mod EqualLanes
 pub mod Exchanges
 pub mod LayerIs
 pub mod FirstRows

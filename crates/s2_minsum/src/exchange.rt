@@ -8,69 +8,66 @@ ghost use Rattle.s2_minsum.specs.Nodes.{min1_of, min2_of, signs_of};
 ghost use Rattle.s2_minsum.specs.Exchange.{AreSent, AreExchanged};
 
 use crate::factor::Factor;
-use crate::kernels::{message, shorten, update_two_min};
-use crate::lanes;
+use crate::lanes::{all, load, message, minus, shorten, update_two_min};
 use crate::limits::MAX_MAGNITUDE;
-use s2_bits::lanes16::{all, minus};
 use std::simd::prelude::*;
 
-/// Finds the two least magnitudes of the inputs of eight checks, and the products of their signs.
+/// Finds the two least magnitudes of the inputs of `W` checks, and the products of their signs.
 #[inline(always)]
-fn two_min_of_eight(
+fn two_min_of<const W: usize>(
     inputs: &[u16],
     n: usize,
     count: usize,
     at: usize,
-    min1: &mut u16x8,
-    min2: &mut u16x8,
-    signs: &mut u16x8,
+    min1: &mut Simd<u16, W>,
+    min2: &mut Simd<u16, W>,
+    signs: &mut Simd<u16, W>,
 )
-    requires lanes { at + 8 ≤ n }
+    requires lanes { at + W ≤ n }
     requires long { length inputs.now ≡ count * n }
-    ensures min1 { HasLanes 8 (λ k. min1_of (λ e. magnitude16 (cell inputs.now n e (at + k))) count) min1.new }
-    ensures min2 { HasLanes 8 (λ k. min2_of (λ e. magnitude16 (cell inputs.now n e (at + k))) count) min2.new }
-    ensures signs { HasLanes 8 (λ k. signs_of (λ e. cell inputs.now n e (at + k)) count) signs.new }
+    ensures min1 { HasLanes W (λ k. min1_of (λ e. magnitude16 (cell inputs.now n e (at + k))) count) min1.new }
+    ensures min2 { HasLanes W (λ k. min2_of (λ e. magnitude16 (cell inputs.now n e (at + k))) count) min2.new }
+    ensures signs { HasLanes W (λ k. signs_of (λ e. cell inputs.now n e (at + k)) count) signs.new }
 {
     *min1 = all(MAX_MAGNITUDE);
     *min2 = all(MAX_MAGNITUDE);
     *signs = all(0);
     for e in 0..count {
-        let place = e * n + at;
-        lanes::update_two_min(min1, min2, signs, lanes::load(inputs, place));
+        update_two_min(min1, min2, signs, load(inputs, e * n + at));
     }
 }
 
-/// Writes the messages of eight checks. `min1` has the least magnitudes. `low` is the magnitude of messages to members
+/// Writes the messages of `W` checks. `min1` has the least magnitudes. `low` is the magnitude of messages to members
 /// whose input is not the least, `high` of those to the least. `signs` has the products of the signs.
 #[inline(always)]
-fn write_messages_of_eight(
+fn write_messages<const W: usize>(
     inputs: &mut [u16],
     messages: &mut [u16],
     n: usize,
     count: usize,
     at: usize,
-    min1: u16x8,
-    low: u16x8,
-    high: u16x8,
-    signs: u16x8,
+    min1: Simd<u16, W>,
+    low: Simd<u16, W>,
+    high: Simd<u16, W>,
+    signs: Simd<u16, W>,
 )
-    requires lanes { at + 8 ≤ n }
+    requires lanes { at + W ≤ n }
     requires long { length inputs.old ≡ count * n }
     requires same { length messages.old ≡ count * n }
-    ensures { AreSent n count at 8 (λ e k. sent16 (cell inputs.old n e (at + k)) (lane min1 k) (lane low k) (lane high k) (lane signs k)) inputs.old messages.old inputs.new messages.new }
+    ensures { AreSent n count at W (λ e k. sent16 (cell inputs.old n e (at + k)) (lane min1.entry k) (lane low.entry k) (lane high.entry k) (lane signs.entry k)) inputs.old messages.old inputs.new messages.new }
 {
     for e in 0..count {
         let place = e * n + at;
-        let new = lanes::message(lanes::load(inputs, place), min1, low, high, signs);
-        let change = minus(new, lanes::load(messages, place));
+        let new = message(load(inputs, place), min1, low, high, signs);
+        let change = minus(new, load(messages, place));
         change.copy_to_slice(&mut inputs[place..]);
         new.copy_to_slice(&mut messages[place..]);
     }
 }
 
-/// The exchange of eight checks.
+/// The exchange of `W` checks.
 #[inline(always)]
-fn exchange_eight(
+fn exchange_some<const W: usize>(
     inputs: &mut [u16],
     messages: &mut [u16],
     n: usize,
@@ -78,100 +75,34 @@ fn exchange_eight(
     at: usize,
     factor: Factor,
 )
-    requires lanes { at + 8 ≤ n }
+    requires width { W ≤ 16 }
+    requires lanes { at + W ≤ n }
     requires long { length inputs.old ≡ count * n }
     requires same { length messages.old ≡ count * n }
-    ensures { AreExchanged factor n count at (at + 8) inputs.old messages.old inputs.new messages.new }
+    ensures { AreExchanged factor n count at (at + W) inputs.old messages.old inputs.new messages.new }
 {
     let lacks = factor.lacks();
-    let mut min1 = all(0);
-    let mut min2 = all(0);
-    let mut signs = all(0);
-    two_min_of_eight(inputs, n, count, at, &mut min1, &mut min2, &mut signs);
-    let low = lanes::shorten(min1, lacks);
-    let high = lanes::shorten(min2, lacks);
-    write_messages_of_eight(inputs, messages, n, count, at, min1, low, high, signs);
-}
-
-/// Finds the two least magnitudes of the inputs of one check, and the product of their signs.
-fn two_min_of_one(
-    inputs: &[u16],
-    n: usize,
-    count: usize,
-    at: usize,
-    min1: &mut u16,
-    min2: &mut u16,
-    signs: &mut u16,
-)
-    requires lanes { at < n }
-    requires long { length inputs.now ≡ count * n }
-    ensures min1 { min1.new ≡ min1_of (λ e. magnitude16 (cell inputs.now n e at)) count }
-    ensures min2 { min2.new ≡ min2_of (λ e. magnitude16 (cell inputs.now n e at)) count }
-    ensures signs { signs.new ≡ signs_of (λ e. cell inputs.now n e at) count }
-{
-    *min1 = MAX_MAGNITUDE;
-    *min2 = MAX_MAGNITUDE;
-    *signs = 0;
-    for e in 0..count {
-        update_two_min(min1, min2, signs, inputs[e * n + at]);
-    }
-}
-
-/// Writes the messages of one check, as [`write_messages_of_eight`] does for eight.
-fn write_messages_of_one(
-    inputs: &mut [u16],
-    messages: &mut [u16],
-    n: usize,
-    count: usize,
-    at: usize,
-    min1: u16,
-    low: u16,
-    high: u16,
-    signs: u16,
-)
-    requires lanes { at < n }
-    requires long { length inputs.old ≡ count * n }
-    requires same { length messages.old ≡ count * n }
-    ensures { AreSent n count at 1 (λ e k. sent16 (cell inputs.old n e (at + k)) min1 low high signs) inputs.old messages.old inputs.new messages.new }
-{
-    for e in 0..count {
-        let place = e * n + at;
-        let new = message(inputs[place], min1, low, high, signs);
-        inputs[place] = new.wrapping_sub(messages[place]);
-        messages[place] = new;
-    }
-}
-
-/// The exchange of one check.
-fn exchange_one(
-    inputs: &mut [u16],
-    messages: &mut [u16],
-    n: usize,
-    count: usize,
-    at: usize,
-    factor: Factor,
-)
-    requires lanes { at < n }
-    requires long { length inputs.old ≡ count * n }
-    requires same { length messages.old ≡ count * n }
-    ensures { AreExchanged factor n count at (at + 1) inputs.old messages.old inputs.new messages.new }
-{
-    let lacks = factor.lacks();
-    let (mut min1, mut min2, mut signs) = (0u16, 0u16, 0u16);
-    two_min_of_one(inputs, n, count, at, &mut min1, &mut min2, &mut signs);
+    let mut min1 = all::<W>(0);
+    let mut min2 = all::<W>(0);
+    let mut signs = all::<W>(0);
+    two_min_of(inputs, n, count, at, &mut min1, &mut min2, &mut signs);
     let low = shorten(min1, lacks);
     let high = shorten(min2, lacks);
-    write_messages_of_one(inputs, messages, n, count, at, min1, low, high, signs);
+    write_messages(inputs, messages, n, count, at, min1, low, high, signs);
 }
 
-/// The exchange of the checks in whole vectors of lanes.
+/// The exchange of the checks in whole vectors of 16 lanes, and in one of 8 lanes after them.
 fn exchange_blocks(inputs: &mut [u16], messages: &mut [u16], n: usize, count: usize, factor: Factor)
     requires long { length inputs.old ≡ count * n }
     requires same { length messages.old ≡ count * n }
     ensures { AreExchanged factor n count 0 (n / 8 * 8) inputs.old messages.old inputs.new messages.new }
 {
-    for block in 0..n / 8 {
-        exchange_eight(inputs, messages, n, count, 8 * block, factor);
+    for block in 0..n / 16 {
+        exchange_some::<16>(inputs, messages, n, count, 16 * block, factor);
+    }
+    let at = n / 16 * 16;
+    if at + 8 <= n {
+        exchange_some::<8>(inputs, messages, n, count, at, factor);
     }
 }
 
@@ -189,6 +120,6 @@ pub(crate) fn exchange(
 {
     exchange_blocks(inputs, messages, n, count, factor);
     for lane in n / 8 * 8..n {
-        exchange_one(inputs, messages, n, count, lane, factor);
+        exchange_some::<1>(inputs, messages, n, count, lane, factor);
     }
 }

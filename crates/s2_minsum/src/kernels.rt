@@ -1,14 +1,10 @@
 //! The kernels of a layer, each for one row: a number in each lane.
-ghost use Rattle.std.specs.Prelude.{◌≡◌, ◌≤◌, ◌<◌, ◌+◌, ◌-◌, ◌*◌, ◌/◌, min, max, bit_xor, length, slice_index, EachIndex};
+ghost use Rattle.std.specs.Prelude.{◌≡◌, ◌≤◌, length, slice_index, EachIndex};
 ghost use Rattle.s2_mode.specs.Limits.{max_group};
-ghost use Rattle.s2_bits.specs.Lanes16.{minus16, plus16, magnitude16};
-ghost use Rattle.s2_minsum.specs.Plain.{max_magnitude};
-ghost use Rattle.s2_minsum.specs.Rows.{rotated, rotated_back, sent16};
+ghost use Rattle.s2_bits.specs.Lanes16.{minus16, plus16};
+ghost use Rattle.s2_minsum.specs.Rows.{rotated, rotated_back};
 
-use crate::lanes;
-use crate::lanes::load;
-use s2_bits::lanes16;
-use std::simd::prelude::*;
+use crate::lanes::{load, minus, plus};
 
 /// A circulant of the parity-check matrix, an entry of a layer: the row of a group that its checks read, and its
 /// rotation.
@@ -16,13 +12,6 @@ use std::simd::prelude::*;
 pub struct Circulant {
     pub row: u32,
     pub shift: u32,
-}
-
-/// The magnitude of a word: its distance from 0.
-fn magnitude(v: u16) -> u16
-    ensures { result ≡ magnitude16 v }
-{
-    v.min(0u16.wrapping_sub(v))
 }
 
 /// Writes the differences of rows that are shorter than a vector.
@@ -43,14 +32,14 @@ fn subtract(to: &mut [u16], a: &[u16], b: &[u16])
     ensures { EachIndex to.new (λ k. slice_index to.new k ≡ minus16 (slice_index a.now k) (slice_index b.now k)) }
 {
     let n = to.len();
-    if n < 8 {
+    if n < 16 {
         return subtract_few(to, a, b);
     }
-    let end = n - 8;
-    let last = lanes16::minus(load(a, end), load(b, end));
-    for block in 0..n / 8 {
-        let at = 8 * block;
-        lanes16::minus(load(a, at), load(b, at)).copy_to_slice(&mut to[at..]);
+    let end = n - 16;
+    let last = minus(load::<16>(a, end), load(b, end));
+    for block in 0..n / 16 {
+        let at = 16 * block;
+        minus(load::<16>(a, at), load(b, at)).copy_to_slice(&mut to[at..]);
     }
     last.copy_to_slice(&mut to[end..]);
 }
@@ -71,14 +60,14 @@ fn sum_into(to: &mut [u16], from: &[u16])
     ensures { EachIndex to.new (λ k. slice_index to.new k ≡ plus16 (slice_index to.old k) (slice_index from.now k)) }
 {
     let n = to.len();
-    if n < 8 {
+    if n < 16 {
         return sum_few_into(to, from);
     }
-    let end = to.len() - 8;
-    let last = lanes::plus(load(to, end), load(from, end));
-    for block in 0..n / 8 {
-        let at = 8 * block;
-        lanes::plus(load(to, at), load(from, at)).copy_to_slice(&mut to[at..]);
+    let end = to.len() - 16;
+    let last = plus(load::<16>(to, end), load(from, end));
+    for block in 0..n / 16 {
+        let at = 16 * block;
+        plus(load::<16>(to, at), load(from, at)).copy_to_slice(&mut to[at..]);
     }
     last.copy_to_slice(&mut to[end..]);
 }
@@ -96,39 +85,6 @@ pub(crate) fn gather(inputs: &mut [u16], row: &[u16], messages: &[u16], shift: u
     let (first_messages, last_messages) = messages.split_at(shift);
     subtract(first, high, first_messages);
     subtract(last, low, last_messages);
-}
-
-/// Updates the two least magnitudes of a check, and the product of its signs, by one input.
-pub(crate) fn update_two_min(min1: &mut u16, min2: &mut u16, signs: &mut u16, v: u16)
-    ensures min1 { min1.new ≡ min min1.old (magnitude16 v) }
-    ensures min2 { min2.new ≡ min min2.old (max min1.old (magnitude16 v)) }
-    ensures signs { signs.new ≡ bit_xor signs.old v }
-{
-    let magnitude = magnitude(v);
-    *min2 = (*min2).min((*min1).max(magnitude));
-    *min1 = (*min1).min(magnitude);
-    *signs = *signs ^ v;
-}
-
-/// A magnitude reduced by this number of sixteenths.
-pub(crate) fn shorten(magnitude: u16, lacks: u16) -> u16
-    requires magnitude { magnitude ≤ max_magnitude }
-    requires lacks { lacks ≤ 8 }
-    ensures { result ≡ magnitude - magnitude * lacks / 16 }
-{
-    magnitude - magnitude * lacks / 16
-}
-
-/// The message to a member.
-pub(crate) fn message(v: u16, min1: u16, low: u16, high: u16, signs: u16) -> u16
-    ensures { result ≡ sent16 v min1 low high signs }
-{
-    let magnitude = if magnitude(v) == min1 { high } else { low };
-    if (signs ^ v) / 32768 == 1 {
-        0u16.wrapping_sub(magnitude)
-    } else {
-        magnitude
-    }
 }
 
 /// Adds changes to a row, rotated back.

@@ -6,7 +6,7 @@ use Rattle.s2_minsum.proofs.exchange.exchange.Goals as goal
 pub loop-lane-preserved : goal.loop-lane-preserved
 loop-lane-preserved c =
     let at = c.loop-lane.lane in
-    exchanged_more c.args.factor c.args.n c.args.count at (at + 1) c.args.inputs.now c.args.messages.now c.loop-lane.inputs c.loop-lane.messages c.exchange_one.new.inputs c.exchange_one.new.messages (omega arith) (omega arith) c.loop-lane.invariant c.exchange_one.ensures
+    exchanged_more c.args.factor c.args.n c.args.count at (at + 1) c.args.inputs.now c.args.messages.now c.loop-lane.inputs c.loop-lane.messages c.exchange_some.new.inputs c.exchange_some.new.messages (omega arith) (omega arith) c.loop-lane.invariant c.exchange_some.ensures
 
 pub returns : goal.returns
 returns c =

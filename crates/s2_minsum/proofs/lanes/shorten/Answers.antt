@@ -11,7 +11,7 @@ exact magnitude lacks small few =
     omega (arith, one, most)
 
 pub returns : goal.returns
-returns c = record {
+returns g c = record {
   long = c.minus.ensures.long;
   each = λ k lt.
       let magnitude = get_or c.args.magnitudes k 0 in

@@ -1,13 +1,15 @@
-use Rattle.std.proofs.Common.{ℕ, ◌/◌, get_or, replicate, refl, ap, ◌∙◌, arith}
+use Rattle.std.proofs.Common.{ℕ, ◌/◌, get_or, replicate, ap, ◌∙◌, arith}
 use Rattle.std.proofs.lemmas.Simd.{get_or-replicate}
 use Rattle.s2_bits.proofs.Unsigned.{operator, asks}
+use Rattle.s2_minsum.proofs.EqualLanes.{same_lanes}
 use Rattle.s2_minsum.proofs.lanes.sixteenth.Goals as goal
 
 pub nonzero_div-result : goal.nonzero_div-result
-nonzero_div-result c =
-    asks _ c.args.a (replicate {A = ℕ} 8 16) c.fits-a.0 (λ k lt. let is = get_or-replicate {A = ℕ} 8 k 16 0 (omega (arith, c.fits-a.0)) in omega (arith, is))
+nonzero_div-result g c =
+    asks _ c.args.a (replicate {A = ℕ} g.row.W 16) (omega (arith, c.fits-a.0, (same_lanes g.row.W 16).long)) (λ k lt. let is = get_or-replicate {A = ℕ} g.row.W k 16 0 (omega (arith, c.fits-a.0)) in omega (arith, is))
 
 pub returns : goal.returns
-returns c =
-    let h = operator 8 _ c.args.a (replicate {A = ℕ} 8 16) c.fits-a.0 refl in
-    record { long = h.long; each = λ k lt. h.each k lt ∙ ap (λ x. get_or c.args.a k 0 / x) (get_or-replicate {A = ℕ} 8 k 16 0 lt) }
+returns g c =
+    let divisor = same_lanes g.row.W 16 in
+    let h = operator g.row.W _ c.args.a (replicate {A = ℕ} g.row.W 16) c.fits-a.0 divisor.long in
+    record { long = h.long; each = λ k lt. h.each k lt ∙ ap (λ x. get_or c.args.a k 0 / x) (divisor.each k lt) }
