@@ -1,4 +1,4 @@
--- Losses of a received stream: the exit of a strict command, and the notes (own).
+-- Losses of a received stream: the exit of its command, and the notes (own).
 use Rattle.std.specs.Prelude.{◌≡◌, ◌⊎◌, ℕ, ◌+◌, ◌-◌, ◌*◌, ◌/◌, ◌%◌, Bool, ◌&&◌, ◌||◌, not, nat_eq, nat_le, if◌then◌else◌, List, [], ◌++◌, drop, codes, decimal, Option, Some, None, Result, Ok, Err}
 use Rattle.s2_mode.specs.Limits.{header_symbols}
 use Rattle.s2_mode.specs.Mode.{Mode}
@@ -7,6 +7,8 @@ use Rattle.s2_receive.specs.declared.report.Received.{Received}
 use Rattle.s2_receive.specs.declared.report.Totals.{Totals}
 use Rattle.s2_scan.specs.Lines.{gain_of, is_usual}
 use Rattle.s2_scan.specs.Sightings.{amplitude_by}
+use Rattle.s2_words.specs.declared.request.ExitBy.{ExitBy}
+use Rattle.s2_words.specs.declared.request.ExitBy.TheVariants as by
 use Rattle.s2_words.specs.declared.request.NoteWords.{NoteWords}
 use Rattle.s2_table.specs.Wanted.{fault_note}
 use Rattle.s2_console.specs.declared.exit.Exit.{Exit}
@@ -24,10 +26,19 @@ no_sync r = nat_eq r.totals.frames 0 && not r.totals.cut && nat_le header_symbol
 abbrev pub is_clean : Totals → Bool
 is_clean t = nat_eq t.skipped 0 && nat_eq t.bad 0 && nat_eq t.incomplete 0
 
--- the exit of a stream that was received to its end: 0 if all frames were certified and, for a strict command, nothing
+-- each frame was delivered, none was cut, and no symbol was skipped
+abbrev pub all_delivered : Totals → Bool
+all_delivered t = nat_eq t.delivered t.frames && not t.cut && nat_eq t.skipped 0
+
+-- what decides the exit has come: all frames were certified, or all is delivered
+abbrev pub has_come : ExitBy → Received → Bool
+has_come by.Certainty r = r.all_certified
+has_come by.Delivery r = all_delivered r.totals
+
+-- the exit of a stream that was received to its end: 0 if what decides it has come and, for a strict command, nothing
 -- was lost
-abbrev pub exit_by : Bool → Received → Exit
-exit_by strict r = if r.all_certified && (not strict || (is_clean r.totals && not (no_sync r))) then exits.Fine else exits.No
+abbrev pub exit_by : NoteWords → Received → Exit
+exit_by words r = if has_come words.exit_by r && (not words.strict || (is_clean r.totals && not (no_sync r))) then exits.Fine else exits.No
 
 -- a number and a noun, which is plural unless the number is 1
 unfoldable pub counted : ℕ → List ℕ → List ℕ
@@ -99,7 +110,7 @@ notes_of m r = loss_notes m r ++ frame_notes r.totals
 
 -- The end of a command that received this, and its notes. If their writer failed, that is its fault
 abbrev pub Answered : NoteWords → Mode → Result Received Fault → Result Exit Fault → List ℕ → Screen → Screen → Type 0
-Answered words m (Ok r) ended notes old new = (notes ≡ (if words.quiet then [] else notes_of m r)) × ((ended ≡ Ok (exit_by words.strict r)) ⊎ NotesLost notes ended old new)
+Answered words m (Ok r) ended notes old new = (notes ≡ (if words.quiet then [] else notes_of m r)) × ((ended ≡ Ok (exit_by words r)) ⊎ NotesLost notes ended old new)
 Answered words m (Err f) ended notes old new = (notes ≡ (if words.quiet then [] else fault_note m f)) × (ended ≡ Err f)
 
 -- The end of a command that received this, and its exit: its notes, and the line of a fault, are on the errors

@@ -164,8 +164,10 @@ Verdicts:
 
 Exits:
   0  every frame is delivered, and sole or most-likely
+     with --exit-by delivery: every frame is delivered, none is cut, and no symbols were passed over
   1  a usage fault, or a fault that standard error tells
   2  a frame is lost, cut, parity or broken
+     with --exit-by delivery: a frame is lost or cut, or symbols were passed over
      with --strict also: symbols were passed over, no frame was found, or a packet was torn or bad
 
 Notes, on standard error:

@@ -1,11 +1,12 @@
 //! The request of the command line.
+use crate::arguments::{CERTAINTY_TEXT, DELIVERY_TEXT};
 use crate::decibels::read_esn0;
 use crate::limits::MAX_ROLL_OFF;
 use crate::options::{progress_by, read_modcod};
 use crate::parser::program;
 use crate::refusal::{misused, not_understood, values_in};
 use crate::request::{
-    AuditWords, ChannelWords, CheckWords, CodeWords, DemodWords, JoinWords, JudgeWords, LinkWords,
+    AuditWords, ChannelWords, CheckWords, CodeWords, DemodWords, ExitBy, JoinWords, JudgeWords, LinkWords,
     ModWords, ModesWords, NoiseWords, NoteWords, NumberWords, Progress, RecordWords, Request,
     RowsWords, RunWords, ScanWords, Seeds, ShapeWords, StrengthWords, TableWords, TuningWords,
 };
@@ -110,11 +111,20 @@ fn first_channel_of(m: &ArgMatches<'_>, seeds: Option<Seeds>) -> Option<ChannelW
     }
 }
 
-fn notes_of(m: &ArgMatches<'_>) -> NoteWords {
-    NoteWords {
+fn exit_by_of(m: &ArgMatches<'_>) -> Option<ExitBy> {
+    match m.get_str("exit-by")? {
+        CERTAINTY_TEXT => Some(ExitBy::Certainty),
+        DELIVERY_TEXT => Some(ExitBy::Delivery),
+        _ => None,
+    }
+}
+
+fn notes_of(m: &ArgMatches<'_>) -> Option<NoteWords> {
+    Some(NoteWords {
+        exit_by: exit_by_of(m)?,
         strict: m.get_flag("strict"),
         quiet: m.get_flag("quiet"),
-    }
+    })
 }
 
 fn records_of<'a>(m: &ArgMatches<'a>) -> RecordWords<'a> {
@@ -227,7 +237,7 @@ fn demod_of<'a>(m: &ArgMatches<'a>) -> Option<Request<'a>> {
     Some(Request::Demod(DemodWords {
         link: link_of(m)?,
         tuning: tuning_of(m)?,
-        notes: notes_of(m),
+        notes: notes_of(m)?,
         progress: progress_of(m),
         records: records_of(m),
         rows: m.get_str("ROWS")?,
@@ -244,7 +254,7 @@ fn run_of<'a>(m: &ArgMatches<'a>) -> Option<Request<'a>> {
         tuning: tuning_of(m)?,
         channel: first_channel_of(m, seeds)?,
         seeds,
-        notes: notes_of(m),
+        notes: notes_of(m)?,
         progress: progress_of(m),
         records: records_of(m),
         rows: m.get_str("ROWS")?,

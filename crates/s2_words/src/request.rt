@@ -142,10 +142,20 @@ pub struct NoiseWords<'a> {
     pub to: &'a str,
 }
 
-/// What a reception reports besides its lines: whether losses decide the exit too, and whether notes are left
-/// out.
+/// What decides the exit of a reception.
+#[derive(Clone, Copy)]
+pub enum ExitBy {
+    /// Each frame is to be certified.
+    Certainty,
+    /// Each frame is to be delivered, and no symbols are to be skipped.
+    Delivery,
+}
+
+/// What a reception reports besides its lines: what decides the exit, whether losses do so too, and whether notes are
+/// left out.
 #[derive(Clone, Copy)]
 pub struct NoteWords {
+    pub exit_by: ExitBy,
     pub strict: bool,
     pub quiet: bool,
 }
