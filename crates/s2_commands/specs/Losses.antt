@@ -104,13 +104,25 @@ amplitude_notes (Some amplitude) = amplitude_note amplitude
 abbrev pub frame_notes : Totals → List ℕ
 frame_notes t = note_if (not (nat_eq t.refused 0)) (refused_note t) ++ amplitude_notes (odd_amplitude t)
 
+-- L of F frames lost, and advice
+unfoldable pub tuned_note : Totals → List ℕ
+tuned_note t = (codes "s2: note: " ++ decimal (t.frames - t.delivered)) ++ (codes " of " ++ decimal t.frames) ++ codes " frames lost: try --tuned\n"
+
+-- some frame was lost for which no BCH word was found
+abbrev pub has_lost : Totals → Bool
+has_lost t = not (nat_eq (t.frames - t.delivered) t.refused)
+
+-- what to try after frames were lost
+abbrev pub advice : (tuned : Bool) → Totals → List ℕ
+advice tuned t = note_if (not tuned && has_lost t) (tuned_note t)
+
 -- the notes of a stream that was received to its end
-abbrev pub notes_of : Mode → Received → List ℕ
-notes_of m r = loss_notes m r ++ frame_notes r.totals
+abbrev pub notes_of : (tuned : Bool) → Mode → Received → List ℕ
+notes_of tuned m r = (loss_notes m r ++ frame_notes r.totals) ++ advice tuned r.totals
 
 -- The end of a command that received this, and its notes. If their writer failed, that is its fault
 abbrev pub Answered : NoteWords → Mode → Result Received Fault → Result Exit Fault → List ℕ → Screen → Screen → Type 0
-Answered words m (Ok r) ended notes old new = (notes ≡ (if words.quiet then [] else notes_of m r)) × ((ended ≡ Ok (exit_by words r)) ⊎ NotesLost notes ended old new)
+Answered words m (Ok r) ended notes old new = (notes ≡ (if words.quiet then [] else notes_of words.tuned m r)) × ((ended ≡ Ok (exit_by words r)) ⊎ NotesLost notes ended old new)
 Answered words m (Err f) ended notes old new = (notes ≡ (if words.quiet then [] else fault_note m f)) × (ended ≡ Err f)
 
 -- The end of a command that received this, and its exit: its notes, and the line of a fault, are on the errors

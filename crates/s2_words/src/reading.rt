@@ -123,6 +123,7 @@ fn notes_of(m: &ArgMatches<'_>) -> Option<NoteWords> {
     Some(NoteWords {
         exit_by: exit_by_of(m)?,
         strict: m.get_flag("strict"),
+        tuned: m.get_flag("tuned"),
         quiet: m.get_flag("quiet"),
     })
 }

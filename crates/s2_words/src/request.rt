@@ -151,12 +151,13 @@ pub enum ExitBy {
     Delivery,
 }
 
-/// What a reception reports besides its lines: what decides the exit, whether losses do so too, and whether notes are
-/// left out.
+/// What a reception reports besides its lines: what decides the exit, whether losses do so too, whether it has the best
+/// settings already, so that no note proposes them, and whether notes are left out.
 #[derive(Clone, Copy)]
 pub struct NoteWords {
     pub exit_by: ExitBy,
     pub strict: bool,
+    pub tuned: bool,
     pub quiet: bool,
 }
 
