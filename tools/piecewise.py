@@ -37,7 +37,7 @@ STANDARD = ("-", "/dev/stdout")
 CERTIFIED = ("sole", "most-likely")
 # The options of demod that are passed on, each with the name of its value if it has one.
 OPTIONS = {"modcod": "M", "short": None, "pilots": None, "number": "N", "ro": "R", "rounds": "K", "passes": "P", "uncertified": None}
-OPTIONS |= {"divisor": "D", "factor": "F", "lock": "H", "tuned": None, "figures": None}
+OPTIONS |= {"divisor": "D", "factor": "F", "lock": "H", "tuned": None, "figures": None, "exit-by": "BY"}
 FRAME = re.compile(rb"frame \d+ at (\d+) (([a-z-]+) (fixed \d+|lost).*)\n")
 CUT = re.compile(rb"cut at (\d+) symbols (\d+)\n")
 END = re.compile(rb"end frames (\d+) delivered (\d+) packets (\d+) bad (\d+)")
@@ -47,6 +47,7 @@ GREATEST = (1 << 64) - 1
 PASSED_OVER = re.compile(rb"s2: note: (\d+) symbols? passed over in (\d+) places?, the first at (\d+)\n")
 NO_FRAME = re.compile(rb"(s2: note: no frame of .* in )\d+( symbols.*\n)")
 REFUSED = re.compile(rb"s2: note: of \d+ lost frames? (\d+) had a BCH word whose header is refused\n")
+UNDECODED = b"s2: note: headers are right but no frame is decoded: another scrambling number or other rows? try s2 scan\n"
 # The amplitude of a sent symbol, the range that is not noted, and the greatest.
 AMPLITUDE, USUAL_AMPLITUDES, GREATEST_AMPLITUDE = 990, range(833, 1178), 46341
 
@@ -200,7 +201,7 @@ def program_of(chosen):
 
 def link_words(chosen, names):
     """The options with these names, as they are given."""
-    given = [(name, value) for name in names if (value := getattr(chosen, name)) not in (None, False)]
+    given = [(name, value) for name in names if (value := getattr(chosen, name.replace("-", "_"))) not in (None, False)]
     return [word for name, value in given for word in ([f"--{name}"] if value is True else [f"--{name}", value])]
 
 
@@ -601,7 +602,15 @@ class Whole:
         self.outputs.put("bbframes", frame)
         self.joiner.step(frame[:BBHEADER])
 
-    def finish(self, total, strict, quiet):
+    def advice(self, lost, is_tuned):
+        """The last notes after the report: on another amplitude, and what to try after frames were lost."""
+        amplitude, frames = self.amplitude_note(), self.count["frames"]
+        if frames and not self.count["delivered"] and not self.refused and not amplitude:
+            return [UNDECODED]
+        proposed = not is_tuned and lost != self.refused
+        return amplitude + [f"s2: note: {lost} of {frames} frames lost: try --tuned\n".encode()] * proposed
+
+    def finish(self, total, chosen):
         """The stream ends here: what is left of it, the end line, the notes, and the exit."""
         cut = None
         while self.cursor < total:
@@ -629,13 +638,15 @@ class Whole:
             places = f"{counted(count['symbols'], 'symbol')} passed over in {counted(count['places'], 'place')}, the first at {self.first}"
             lines.insert(0, f"s2: note: {places}\n".encode())
         lines += [f"s2: note: {counted(torn, 'packet')} torn\n".encode()] if torn else []
-        lost = counted(count["frames"] - count["delivered"], "lost frame")
-        lines += [f"s2: note: of {lost} {self.refused} had a BCH word whose header is refused\n".encode()] if self.refused else []
-        lines += self.amplitude_note()
-        if not quiet:
+        lost = count["frames"] - count["delivered"]
+        refused = f"s2: note: of {counted(lost, 'lost frame')} {self.refused} had a BCH word whose header is refused\n"
+        lines += [refused.encode()] if self.refused else []
+        lines += self.advice(lost, chosen.tuned)
+        if not chosen.quiet:
             sys.stderr.buffer.write(b"".join(lines))
             sys.stderr.buffer.flush()
-        return 2 if not self.certified or cut or strict and (lines or bad) else 0
+        has_come = not lost and not count["symbols"] if chosen.exit_by == "delivery" else self.certified
+        return 2 if not has_come or cut or chosen.strict and (lines or bad) else 0
 
 
 class Progress:

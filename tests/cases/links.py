@@ -1,7 +1,9 @@
 """`rows`, `mod`, `noise`, `demod` and `run`."""
 import functools
 
-from cases.common import ANY, DIVISORS, LINK, LONG_ROWS, NO, ONE, PACKET, PAIR, TOY, TWO, WANTED, Case, digest, Rule, ending, fault, noted, refused_headers, size
+from cases.common import (
+    ANY, DIVISORS, LINK, LONG_ROWS, NO, ONE, PACKET, PAIR, TOY, TWO, UNDECODED, WANTED, Case, digest, Rule, ending, fault, noted, refused_headers, size, tuned,
+)  # fmt: skip
 from cases.drawn import gaussian, made_rows, spoilt
 from cases.plain_receiver import broken, checks_of, soft_value, weakened
 
@@ -151,6 +153,10 @@ def demod(two, single):
     ]
 
 
+def is_passed_over(notes):
+    return any("passed over" in note for note in notes)
+
+
 def losing(two):
     """The cases of what is lost of the symbols of the two packets: notes of it, the exits of strict commands, and quiet ones."""
     one, other, gap = two[:32_760], two[32_760:], bytes(400)
@@ -180,6 +186,8 @@ def losing(two):
             received(symbols, code, report, packets, f"{LINK} --quiet made"),
             received(symbols, NO if notes else code, report, packets, f"{LINK} --strict made", noted(*notes)),
             received(symbols, NO if notes else code, report, packets, f"{LINK} --quiet --strict made"),
+            received(symbols, NO if code or is_passed_over(notes) else 0, report, packets, f"{LINK} --exit-by delivery made", noted(*notes)),
+            received(symbols, NO if notes else code, report, packets, f"{LINK} --exit-by delivery --strict --quiet made"),
         )
     ]
 
@@ -193,6 +201,11 @@ def amplitude(root, gain):
     return f"the headers' amplitude, noise included, is {root}, not 990: use --gain {gain} of tools/convert"
 
 
+def undelivered(said, *more):
+    """The notes on frames of which none is delivered: on their amplitude if one is given, and these; else on their headers."""
+    return noted(amplitude(*said), *more) if said else noted(UNDECODED)
+
+
 # Sizes of components, and the amplitude and the gain that are noted, if they are.
 AMPLITUDES = {588: (832, "1.1899"), 589: None, 832: None, 833: (1178, "0.8404"), 7000: (9899, "0.1000"), 70: (99, "10.0000"), 32767: (46340, "0.0214")}
 
@@ -202,13 +215,20 @@ def strong(two):
     lost = Rule("two lost frames", lambda got: got.endswith(b" delivered 0 packets 0 bad 0\n") and got.count(b" lost\n") == 2)
     one, other, words = two[:32_760], two[32_760:], f"{LINK} --number 7"
     cases = [
-        *(received(loud(two, size), NO, lost, b"", f"{words} made", noted(amplitude(*said)) if said else "") for size, said in AMPLITUDES.items()),
+        *(received(loud(two, size), NO, lost, b"", f"{words} made", undelivered(said, tuned(2, 2))) for size, said in AMPLITUDES.items()),
+        *(received(loud(two, size), NO, lost, b"", f"{words} --tuned made", undelivered(said)) for size, said in AMPLITUDES.items()),
         *(received(loud(two, size), NO, lost, b"", f"{words} --quiet made") for size in AMPLITUDES),
         # the energy is that of all headers
-        received(one + loud(other, 7000), NO, lost, b"", f"{words} made", noted(amplitude(7035, "0.1407"))),
+        received(one + loud(other, 7000), NO, lost, b"", f"{words} made", undelivered((7035, "0.1407"), tuned(2, 2))),
         # one frame is delivered, or all are
         received(one + loud(other[:360], 7000) + bytes(32_400), NO, ANY, PACKET, errors=noted("1 packet torn", refused_headers(1, 1))),
         received(loud(two, 7000), 0, TWO, 2 * PACKET),
+    ]
+    # the second frame's payload is backwards
+    mixed, torn = one + other[:360] + b"".join(other[at : at + 4] for at in range(len(other) - 4, 356, -4)), "1 packet torn"
+    cases += [
+        received(mixed, NO, ANY, PACKET, f"{LINK} {words} made", noted(torn, *notes))
+        for words, notes in [("", [tuned(1, 2)]), ("--exit-by delivery", [tuned(1, 2)]), ("--tuned", []), ("--tuned --exit-by delivery", [])]
     ]
     no_bbframes = loud(one[:360], 7000) + bytes(32_400) + loud(other[:360], 7000) + bytes(32_400)
     return [*cases, received(no_bbframes, NO, lost, b"", errors=noted(refused_headers(2, 2), amplitude(9899, "0.1000")))]

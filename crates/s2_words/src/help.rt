@@ -178,6 +178,7 @@ Notes, on standard error:
   N packets torn                                       begun, and lost with a frame that is missing or not delivered
   of N lost frames M had a BCH word whose header is refused    received well, and no BBFRAMEs of a transport stream
   the headers' amplitude, noise included, is A, not 990: use --gain G of tools/convert    no frame is delivered, and it is off by 1.5 dB or more
+  headers are right but no frame is decoded: another scrambling number or other rows? try s2 scan    the headers have the usual amplitude
   L of F frames lost: try --tuned                      the settings of --tuned deliver frames with more noise
 ",
             $notes,
