@@ -58,7 +58,7 @@ pub(crate) fn screen_beside<'t, 'r, R: Disk>(
     } else {
         Left(terminal.host().output())
     };
-    let output = Clearing::new(Counting::new(report), terminal);
+    let output = Clearing::reporting(Counting::new(report), terminal);
     Console::new(output, errors_of(terminal))
 }
 
