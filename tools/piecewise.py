@@ -423,10 +423,10 @@ class Joiner:
 class Whole:
     """The frames so far, as one receiver reports them. `symbols` gives the bytes of a stretch."""
 
-    def __init__(self, receiver, symbols, room, outputs):
-        self.receiver, self.symbols, self.room, self.outputs = receiver, symbols, room, outputs
-        # The position after the last frame, whether there is a frame, and the positions of the last frames.
-        self.cursor, self.follows, self.known = 0, False, []
+    def __init__(self, receiver, symbols, room, outputs, quiet):
+        self.receiver, self.symbols, self.room, self.outputs, self.quiet = receiver, symbols, room, outputs, quiet
+        # The position after the last frame; the same, or that of the last symbol that is known to be in no frame; whether there is a frame, and the positions of the last frames.
+        self.end, self.cursor, self.follows, self.known = 0, 0, False, []
         self.count, self.first, self.certified, self.joiner = collections.Counter(), 0, True, Joiner()
         # the sums of figures; the lost frames with a refused header; until a frame is delivered, the energy of all headers
         self.figures, self.refused, self.energy = [], 0, 0
@@ -487,6 +487,12 @@ class Whole:
             self.cursor, self.follows = stop - within, True
             return
         self.least = 2 * (stop - self.cursor)
+
+    def note_gap(self, symbols, *notes):
+        """The notes at once on symbols without a frame, if they are as many as a frame has."""
+        if symbols >= self.receiver.size and not self.quiet:
+            sys.stderr.buffer.write(b"".join(b"s2: note: %b\n" % it for it in notes))
+            sys.stderr.buffer.flush()
 
     def count_gap(self, symbols, first):
         if self.passed[0]:
@@ -566,8 +572,10 @@ class Whole:
             self.count["delivered"] += frame.delivered
             self.certified &= frame.certified and frame.delivered
             self.count_figures(frame)
+            self.note_gap(frame.at - self.end, b"no frame since symbol %d" % self.end, b"frames again from symbol %d" % frame.at)
             self.outputs.tell(b"frame %d at %d %b\n" % (self.count["frames"], frame.at, frame.words))
             self.known.append(frame.at)
+            self.end = frame.at + size
         if frames:
             self.refused += self.refused_from(reception, number)
             self.energy = 0 if self.count["delivered"] else self.energy + sum(map(self.energy_of, frames))
@@ -625,6 +633,8 @@ class Whole:
                 symbols *= bool(found)
             self.count_gap(symbols, first)
             break
+        # a receiver knows it when it has read one frame's length more
+        self.note_gap(total - self.end - self.receiver.size, b"no frame since symbol %d" % self.end)
         if cut:
             self.outputs.tell(b"cut at %d symbols %d\n" % cut)
             self.joiner.drop()

@@ -2,7 +2,7 @@
 import functools
 
 from cases.common import (
-    ANY, DIVISORS, LINK, LONG_ROWS, NO, ONE, PACKET, PAIR, TOY, TWO, UNDECODED, WANTED, Case, digest, Rule, ending, fault, noted, refused_headers, size, tuned,
+    ANY, DIVISORS, LINK, LONG_ROWS, NO, ONE, PACKET, PAIR, TOY, TWO, UNDECODED, WANTED, Case, digest, Rule, ending, fault, missing, noted, refused_headers, size, tuned,
 )  # fmt: skip
 from cases.drawn import gaussian, made_rows, spoilt
 from cases.plain_receiver import broken, checks_of, soft_value, weakened
@@ -192,6 +192,33 @@ def losing(two):
     ]
 
 
+def silent(two):
+    """Symbols without frames, for a frame's length or less: notes at once, one pair for each place."""
+    one, other, size = two[:32_760], two[32_760:], 8190
+    torn, cases = "1 packet torn", []
+    for count in (size - 1, size, 5 * size):
+        at, said = size + count, missing((size, size + count)) if count >= size else []
+        report = ONE + f"frame 2 at {at} sole fixed 0\nend frames 2 delivered 2 packets 1 bad 0\n"
+        cases.append((one + bytes(4 * count) + other, report, PACKET, [*said, f"{count} symbols passed over in 1 place, the first at {size}", torn]))
+    for count in (2 * size - 1, 2 * size, 5 * size):
+        said = missing((2 * size,)) if count >= 2 * size else []
+        cases.append((two + bytes(4 * count), TWO, 2 * PACKET, [*said, f"{count} symbols passed over in 1 place, the first at {2 * size}"]))
+    # before the first frame, and between both
+    far = bytes(8 * size)
+    report = f"frame 1 at {2 * size} sole fixed 0\nframe 2 at {5 * size} sole fixed 0\nend frames 2 delivered 2 packets 1 bad 0\n"
+    twice = f"{4 * size} symbols passed over in 2 places, the first at 0"
+    cases.append((far + one + far + other, report, PACKET, [*missing((0, 2 * size), (3 * size, 5 * size)), twice, torn]))
+    return [
+        case
+        for symbols, report, packets, notes in cases
+        for case in (
+            received(symbols, 0, report, packets, errors=noted(*notes)),
+            received(symbols, 0, report, packets, f"{LINK} --quiet made"),
+            received(symbols, NO, report, packets, f"{LINK} --strict --exit-by delivery made", noted(*notes)),
+        )
+    ]
+
+
 def loud(symbols, component):
     """Symbols whose components have this size."""
     return b"".join((component if symbols[at] < 128 else -component).to_bytes(2, "big", signed=True) for at in range(0, len(symbols), 2))
@@ -230,6 +257,10 @@ def strong(two):
         received(mixed, NO, ANY, PACKET, f"{LINK} {words} made", noted(torn, *notes))
         for words, notes in [("", [tuned(1, 2)]), ("--exit-by delivery", [tuned(1, 2)]), ("--tuned", []), ("--tuned --exit-by delivery", [])]
     ]
+    # the line of a lost frame is there also without its turn
+    for every, line, sums in ((5, "", ""), (1, ONE, "sum frames 1 delivered 1 certified 1\n{}sum frames 2 delivered 1 certified 1\n"), (2, "", "{}sum frames 2 delivered 1 certified 1\n")):
+        report = f"every {every}\n{line}{sums or '{}'}".format("frame 2 at 8190 broken lost\n") + "end frames 2 delivered 1 packets 1 bad 0\n"
+        cases.append(received(mixed, NO, report, PACKET, f"{LINK} --quiet --every {every} made"))
     no_bbframes = loud(one[:360], 7000) + bytes(32_400) + loud(other[:360], 7000) + bytes(32_400)
     return [*cases, received(no_bbframes, NO, lost, b"", errors=noted(refused_headers(2, 2), amplitude(9899, "0.1000")))]
 
@@ -345,14 +376,14 @@ def among(two, dummies):
         *(received(one + each + other + each, 0, later, 2 * PACKET) for each in dummies),
         # the last one lacks symbols
         *(received(one + each + other + each[:400], 0, later, 2 * PACKET) for each in dummies),
-        received(b"".join(dummies) + one + b"".join(dummies) + other, 0, behind_all, 2 * PACKET),
+        received(b"".join(dummies) + one + b"".join(dummies) + other, 0, behind_all, 2 * PACKET, errors=noted(*missing((0, 13_320), (21_510, 34_830)))),
         # a false header of a dummy frame hides the frame that begins before its end
         received(
             bytes(80) + dummy[:4000] + one + bytes(280) + two,
             0,
             TWO.replace("at 0 ", "at 9280 ").replace("8190", "17470"),
             2 * PACKET,
-            errors=noted("5950 symbols passed over in 1 place, the first at 0"),
+            errors=noted(*missing((0, 9280)), "5950 symbols passed over in 1 place, the first at 0"),
         ),
         # a symbol before a dummy frame is passed over, so that the packet that the next frame ends is lost
         received(
@@ -363,8 +394,8 @@ def among(two, dummies):
             errors=noted("1 symbol passed over in 1 place, the first at 8190", "1 packet torn"),
         ),
         *(
-            received(symbols, 0, NONE, b"", errors=noted(f"no frame of QPSK 1/4, short in {len(symbols) // 4} symbols: try s2 scan"))
-            for symbols in (dummy, 100 * dummy, dummy[:400], b"".join(dummies))
+            received(symbols, 0, NONE, b"", errors=noted(*said, f"no frame of QPSK 1/4, short in {len(symbols) // 4} symbols: try s2 scan"))
+            for symbols, said in ((dummy, []), (100 * dummy, missing((0,))), (dummy[:400], []), (b"".join(dummies), []))
         ),
         run(f"{LINK} --dummy 1 --seed 1 --level 0 made", 0, later, 2 * PACKET),
         run(f"{LINK} --dummy 2 --seed 1 --level 0 made", 0, TWO, 2 * PACKET),

@@ -172,6 +172,11 @@ WELL = received(TWO)
 # Noisy frames without certificates, and with a certificate for each frame.
 UNCERTIFIED, DELIVERED = received(PARITY, NO), received(PARITY)
 CERTIFIED = received(Rule("two frames, each certified", lambda got: re.fullmatch(rb"(frame .* (sole|most-likely) fixed 0\n){2}end .*\n", got)))
+# The report with some of its lines.
+FIRST, SECOND, LAST = TWO.splitlines(True)
+SUMS = ["sum frames {0} delivered {0} certified {0}\n".format(count) for count in (1, 2)]
+EVERY = {"": WELL, "--every 1": received(f"every 1\n{FIRST}{SUMS[0]}{SECOND}{SUMS[1]}{LAST}")}
+EVERY |= {"--every 2": received(f"every 2\n{SECOND}{SUMS[1]}{LAST}")} | {f"--every {count}": received(f"every {count}\n{LAST}") for count in (3, 2**32 - 1)}
 # If the second of two frames is not found.
 PASSED = ["8190 symbols passed over in 1 place, the first at 8190"]
 UNFOUND = received("frame 1 at 0 sole fixed 0\nend frames 1 delivered 1 packets 1 bad 0\n", FINE, PACKET, PASSED)
@@ -233,7 +238,7 @@ def record_effects(two):
 
 def demod_effects(two, pilots):
     words, end = f"{LINK} --pilots", "end frames 2 delivered {0} packets {0} bad 0\n"
-    no_sync = received(NONE, FINE, b"", ["16740 symbols passed over in 1 place, the first at 0", "no frame of QPSK 1/4, short in 16740 symbols: try s2 scan"])
+    no_sync = received(NONE, FINE, b"", ["no frame since symbol 0", "16740 symbols passed over in 1 place, the first at 0", "no frame of QPSK 1/4, short in 16740 symbols: try s2 scan"])
     heard = received(TWO.replace("8190", "8370"))
     lost = received(Rule("lost frames", lambda got: got.decode().endswith(end.format(0))), NO, b"", [UNDECODED])
     yield Effect("--pilots", f"demod {LINK} --number 7 {{}} made in out", {"": no_sync, "--pilots": heard}, {"reads": {"in": pilots}})
@@ -250,6 +255,7 @@ def demod_effects(two, pilots):
     gap = ["100 symbols passed over in 1 place, the first at 16380"]
     ends = {"": received(TWO, notes=gap), "--strict": received(TWO, NO, notes=gap)}
     yield Effect("--strict", f"demod {LINK} {{}} made in out", ends, {"reads": {"in": two + bytes(400)}})
+    yield Effect("--every", f"demod {LINK} {{}} made in out", EVERY, {"reads": {"in": two}})
     # the frames are certified, and symbols were passed over
     ends = by_default("--exit-by", "certainty", "delivery", ends[""], ends["--strict"])
     yield Effect("--exit-by", f"demod {LINK} {{}} made in out", ends, {"reads": {"in": two + bytes(400)}})
@@ -269,6 +275,7 @@ def run_effects(report, others):
     one, three = (received(count * TWO + f"seeds {count} frames {2 * count} delivered {2 * count} packets {2 * count} bad 0\n", FINE, 2 * count * PACKET) for count in (1, 3))
     ends = {"--seeds 1..1": one, "--seeds 5..5": one, "--seeds 0..2": three, f"--seeds {2**64 - 3}..{2**64 - 1}": three}
     yield Effect("--seeds", f"run {LINK} --level 0 {{}} made packets out", ends)
+    yield Effect("--every", f"run {LINK} --seed 1 --level 0 {{}} made packets out", EVERY)
     yield Effect("--seed", f"{words} --level {NOISY[1]} {{}} made packets out", each("--seed", (NOISY[0], 15), (usual, other)))
     yield Effect("--pilots", f"run {LINK} --seed 1 --level 0 {{}} made packets out", {"": WELL, "--pilots": received(TWO.replace("8190", "8370"))})
     apart = received(TWO.replace("8190", "11520"))

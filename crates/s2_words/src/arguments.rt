@@ -361,6 +361,16 @@ pub(crate) const FIGURES: Argument = Argument {
     help: "Figures of the link at the end of each frame's line, and their sums at the end of the last line",
 };
 
+pub(crate) const EVERY: Argument = Argument {
+    name: "every",
+    form: Form::Valued(Value {
+        name: "N",
+        allowed: ValueParser::Signed(1, u32::MAX as i64),
+        ..FILE
+    }),
+    help: "A line only for every N-th frame and for those that are not delivered, and a line of sums after each N: no report for `audit`",
+};
+
 pub(crate) const EXIT_BY: Argument = Argument {
     name: "exit-by",
     form: Form::Valued(Value {

@@ -128,6 +128,11 @@ fn notes_of(m: &ArgMatches<'_>) -> Option<NoteWords> {
     })
 }
 
+/// Of how many frames one has its line, 0 if each has it.
+fn every_of(m: &ArgMatches<'_>) -> u32 {
+    m.get_one::<u32>("every").unwrap_or(0)
+}
+
 fn records_of<'a>(m: &ArgMatches<'a>) -> RecordWords<'a> {
     RecordWords {
         certificates: m.get_str("certificates"),
@@ -239,6 +244,7 @@ fn demod_of<'a>(m: &ArgMatches<'a>) -> Option<Request<'a>> {
         link: link_of(m)?,
         tuning: tuning_of(m)?,
         notes: notes_of(m)?,
+        every: every_of(m),
         progress: progress_of(m),
         records: records_of(m),
         rows: m.get_str("ROWS")?,
@@ -256,6 +262,7 @@ fn run_of<'a>(m: &ArgMatches<'a>) -> Option<Request<'a>> {
         channel: first_channel_of(m, seeds)?,
         seeds,
         notes: notes_of(m)?,
+        every: every_of(m),
         progress: progress_of(m),
         records: records_of(m),
         rows: m.get_str("ROWS")?,

@@ -184,12 +184,14 @@ impl<'a> RecordWords<'a> {
     }
 }
 
-/// `demod`: a link, the tuning, the notes, whether progress is shown, the records, and the files.
+/// `demod`: a link, the tuning, the notes, of how many frames one has its line (0 if each has it), whether progress is
+/// shown, the records, and the files.
 #[derive(Clone, Copy)]
 pub struct DemodWords<'a> {
     pub link: LinkWords,
     pub tuning: TuningWords,
     pub notes: NoteWords,
+    pub every: u32,
     pub progress: Progress,
     pub records: RecordWords<'a>,
     pub rows: &'a str,
@@ -198,8 +200,8 @@ pub struct DemodWords<'a> {
 }
 
 /// `run`: a link, the number of frames between dummy frames (0 for none), the tuning, a channel, the seeds of its runs
-/// if there are many (the channel's seed is then the first of them), the notes, whether progress is shown, the records,
-/// and the files.
+/// if there are many (the channel's seed is then the first of them), the notes, of how many frames one has its line (0 if
+/// each has it), whether progress is shown, the records, and the files.
 #[derive(Clone, Copy)]
 pub struct RunWords<'a> {
     pub link: LinkWords,
@@ -208,6 +210,7 @@ pub struct RunWords<'a> {
     pub channel: ChannelWords,
     pub seeds: Option<Seeds>,
     pub notes: NoteWords,
+    pub every: u32,
     pub progress: Progress,
     pub records: RecordWords<'a>,
     pub rows: &'a str,
