@@ -8,7 +8,7 @@ use Rattle.s2_receive.specs.declared.report.Totals.{Totals}
 use Rattle.s2_scan.specs.Lines.{gain_of, is_usual}
 use Rattle.s2_scan.specs.Sightings.{amplitude_by}
 use Rattle.s2_words.specs.declared.request.ExitBy.{ExitBy}
-use Rattle.s2_words.specs.declared.request.ExitBy.TheVariants as by
+use Rattle.s2_words.specs.declared.request.ExitBy.TheVariants as deciders
 use Rattle.s2_words.specs.declared.request.NoteWords.{NoteWords}
 use Rattle.s2_table.specs.Wanted.{fault_note}
 use Rattle.s2_console.specs.declared.exit.Exit.{Exit}
@@ -32,8 +32,8 @@ all_delivered t = nat_eq t.delivered t.frames && not t.cut && nat_eq t.skipped 0
 
 -- what decides the exit has come: all frames were certified, or all is delivered
 abbrev pub has_come : ExitBy → Received → Bool
-has_come by.Certainty r = r.all_certified
-has_come by.Delivery r = all_delivered r.totals
+has_come deciders.Certainty r = r.all_certified
+has_come deciders.Delivery r = all_delivered r.totals
 
 -- the exit of a stream that was received to its end: 0 if what decides it has come and, for a strict command, nothing
 -- was lost
@@ -126,7 +126,7 @@ advice tuned t = if is_undecoded t then headers_note else note_if (not tuned && 
 
 -- the notes of a stream that was received to its end
 abbrev pub notes_of : (tuned : Bool) → Mode → Received → List ℕ
-notes_of tuned m r = (loss_notes m r ++ frame_notes r.totals) ++ advice tuned r.totals
+notes_of tuned m r = loss_notes m r ++ frame_notes r.totals ++ advice tuned r.totals
 
 -- The end of a command that received this, and its notes. If their writer failed, that is its fault
 abbrev pub Answered : NoteWords → Mode → Result Received Fault → Result Exit Fault → List ℕ → Screen → Screen → Type 0

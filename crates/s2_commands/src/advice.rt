@@ -25,7 +25,8 @@ fn has_lost(totals: Totals) -> bool
 }
 
 /// The note of headers without a decoded frame.
-const HEADERS_NOTE: &str = "s2: note: headers are right but no frame is decoded: another scrambling number or other rows? try s2 scan\n";
+const HEADERS_NOTE: &str =
+    "s2: note: headers are right but no frame is decoded: another scrambling number or other rows? try s2 scan\n";
 
 /// Whether headers of the usual amplitude came, and no BCH word was found.
 fn is_undecoded(totals: Totals) -> bool

@@ -35,7 +35,8 @@ impl Gaps {
     /// Counts bytes that were read. Returns the symbol since which no frame came, once for each gap, if the next frame begins
     /// a frame's length after it or later: then another frame's length has been read.
     pub(crate) fn took(&self, bytes: usize) -> Option<u64> {
-        self.taken.set(self.taken.get().saturating_add(bytes as u64));
+        self.taken
+            .set(self.taken.get().saturating_add(bytes as u64));
         let (frame, end) = (self.frame.get(), self.end.get());
         let since = (self.taken.get() / SYMBOL_BYTES).saturating_sub(end);
         if frame == 0 || self.is_noted.get() || since < frame.saturating_mul(2) {

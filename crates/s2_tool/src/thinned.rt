@@ -1,5 +1,5 @@
 //! `--every N`: a report with some of its lines only, and sums in place of the others. This is plain code.
-ghost use Rattle.std.specs.Prelude.{◌≡◌, ℕ, List, Option, None, Ok, refl};
+ghost use Rattle.std.specs.Prelude.{◌≡◌, None};
 ghost use Rattle.s2_mode.specs.Counts.{CanCount, CountsFault};
 
 use s2_console::Line;

@@ -6,9 +6,10 @@ use crate::options::{progress_by, read_modcod};
 use crate::parser::program;
 use crate::refusal::{misused, not_understood, values_in};
 use crate::request::{
-    AuditWords, ChannelWords, CheckWords, CodeWords, DemodWords, ExitBy, JoinWords, JudgeWords, LinkWords,
-    ModWords, ModesWords, NoiseWords, NoteWords, NumberWords, Progress, RecordWords, Request,
-    RowsWords, RunWords, ScanWords, Seeds, ShapeWords, StrengthWords, TableWords, TuningWords,
+    AuditWords, ChannelWords, CheckWords, CodeWords, DemodWords, ExitBy, JoinWords, JudgeWords,
+    LinkWords, ModWords, ModesWords, NoiseWords, NoteWords, NumberWords, Progress, RecordWords,
+    Request, RowsWords, RunWords, ScanWords, Seeds, ShapeWords, StrengthWords, TableWords,
+    TuningWords,
 };
 use crate::seed_range::read_seeds;
 use clap::parser::ValueSource;
