@@ -37,7 +37,7 @@ STANDARD = ("-", "/dev/stdout")
 CERTIFIED = ("sole", "most-likely")
 # The options of demod that are passed on, each with the name of its value if it has one.
 OPTIONS = {"modcod": "M", "short": None, "pilots": None, "number": "N", "ro": "R", "rounds": "K", "passes": "P", "uncertified": None}
-OPTIONS |= {"divisor": "D", "factor": "F", "lock": "H", "tuned": None, "figures": None}
+OPTIONS |= {"divisor": "D", "factor": "F", "lock": "H", "tuned": None, "figures": None, "exit-by": "BY"}
 FRAME = re.compile(rb"frame \d+ at (\d+) (([a-z-]+) (fixed \d+|lost).*)\n")
 CUT = re.compile(rb"cut at (\d+) symbols (\d+)\n")
 END = re.compile(rb"end frames (\d+) delivered (\d+) packets (\d+) bad (\d+)")
@@ -47,6 +47,7 @@ GREATEST = (1 << 64) - 1
 PASSED_OVER = re.compile(rb"s2: note: (\d+) symbols? passed over in (\d+) places?, the first at (\d+)\n")
 NO_FRAME = re.compile(rb"(s2: note: no frame of .* in )\d+( symbols.*\n)")
 REFUSED = re.compile(rb"s2: note: of \d+ lost frames? (\d+) had a BCH word whose header is refused\n")
+UNDECODED = b"s2: note: headers are right but no frame is decoded: another scrambling number or other rows? try s2 scan\n"
 # The amplitude of a sent symbol, the range that is not noted, and the greatest.
 AMPLITUDE, USUAL_AMPLITUDES, GREATEST_AMPLITUDE = 990, range(833, 1178), 46341
 
@@ -201,7 +202,7 @@ def program_of(chosen):
 
 def link_words(chosen, names):
     """The options with these names, as they are given."""
-    given = [(name, value) for name in names if (value := getattr(chosen, name)) not in (None, False)]
+    given = [(name, value) for name in names if (value := getattr(chosen, name.replace("-", "_"))) not in (None, False)]
     return [word for name, value in given for word in ([f"--{name}"] if value is True else [f"--{name}", value])]
 
 
@@ -423,10 +424,10 @@ class Joiner:
 class Whole:
     """The frames so far, as one receiver reports them. `symbols` gives the bytes of a stretch."""
 
-    def __init__(self, receiver, symbols, room, outputs):
-        self.receiver, self.symbols, self.room, self.outputs = receiver, symbols, room, outputs
-        # The position after the last frame, whether there is a frame, and the positions of the last frames.
-        self.cursor, self.follows, self.known = 0, False, []
+    def __init__(self, receiver, symbols, room, outputs, quiet):
+        self.receiver, self.symbols, self.room, self.outputs, self.quiet = receiver, symbols, room, outputs, quiet
+        # The position after the last frame; the same, or that of the last symbol that is known to be in no frame; whether there is a frame, and the positions of the last frames.
+        self.end, self.cursor, self.follows, self.known = 0, 0, False, []
         self.count, self.first, self.certified, self.joiner = collections.Counter(), 0, True, Joiner()
         # the sums of figures; the lost frames with a refused header; until a frame is delivered, the energy of all headers
         self.figures, self.refused, self.energy = [], 0, 0
@@ -487,6 +488,12 @@ class Whole:
             self.cursor, self.follows = stop - within, True
             return
         self.least = 2 * (stop - self.cursor)
+
+    def note_gap(self, symbols, *notes):
+        """The notes at once on symbols without a frame, if they are as many as a frame has."""
+        if symbols >= self.receiver.size and not self.quiet:
+            sys.stderr.buffer.write(b"".join(b"s2: note: %b\n" % it for it in notes))
+            sys.stderr.buffer.flush()
 
     def count_gap(self, symbols, first):
         if self.passed[0]:
@@ -566,8 +573,10 @@ class Whole:
             self.count["delivered"] += frame.delivered
             self.certified &= frame.certified and frame.delivered
             self.count_figures(frame)
+            self.note_gap(frame.at - self.end, b"no frame since symbol %d" % self.end, b"frames again from symbol %d" % frame.at)
             self.outputs.tell(b"frame %d at %d %b\n" % (self.count["frames"], frame.at, frame.words))
             self.known.append(frame.at)
+            self.end = frame.at + size
         if frames:
             self.refused += self.refused_from(reception, number)
             self.energy = 0 if self.count["delivered"] else self.energy + sum(map(self.energy_of, frames))
@@ -602,7 +611,15 @@ class Whole:
         self.outputs.put("bbframes", frame)
         self.joiner.step(frame[:BBHEADER])
 
-    def finish(self, total, strict, quiet):
+    def advice(self, lost, is_tuned):
+        """The last notes after the report: on another amplitude, and what to try after frames were lost."""
+        amplitude, frames = self.amplitude_note(), self.count["frames"]
+        if frames and not self.count["delivered"] and not self.refused and not amplitude:
+            return [UNDECODED]
+        proposed = not is_tuned and lost != self.refused
+        return amplitude + [f"s2: note: {lost} of {frames} frames lost: try --tuned\n".encode()] * proposed
+
+    def finish(self, total, chosen):
         """The stream ends here: what is left of it, the end line, the notes, and the exit."""
         cut = None
         while self.cursor < total:
@@ -617,6 +634,8 @@ class Whole:
                 symbols *= bool(found)
             self.count_gap(symbols, first)
             break
+        # a receiver knows it when it has read one frame's length more
+        self.note_gap(total - self.end - self.receiver.size, b"no frame since symbol %d" % self.end)
         if cut:
             self.outputs.tell(b"cut at %d symbols %d\n" % cut)
             self.joiner.drop()
@@ -630,13 +649,15 @@ class Whole:
             places = f"{counted(count['symbols'], 'symbol')} passed over in {counted(count['places'], 'place')}, the first at {self.first}"
             lines.insert(0, f"s2: note: {places}\n".encode())
         lines += [f"s2: note: {counted(torn, 'packet')} torn\n".encode()] if torn else []
-        lost = counted(count["frames"] - count["delivered"], "lost frame")
-        lines += [f"s2: note: of {lost} {self.refused} had a BCH word whose header is refused\n".encode()] if self.refused else []
-        lines += self.amplitude_note()
-        if not quiet:
+        lost = count["frames"] - count["delivered"]
+        refused = f"s2: note: of {counted(lost, 'lost frame')} {self.refused} had a BCH word whose header is refused\n"
+        lines += [refused.encode()] if self.refused else []
+        lines += self.advice(lost, chosen.tuned)
+        if not chosen.quiet:
             sys.stderr.buffer.write(b"".join(lines))
             sys.stderr.buffer.flush()
-        return 2 if not self.certified or cut or strict and (lines or bad) else 0
+        has_come = not lost and not count["symbols"] if chosen.exit_by == "delivery" else self.certified
+        return 2 if not has_come or cut or chosen.strict and (lines or bad) else 0
 
 
 class Progress:

@@ -120,6 +120,21 @@ def refused_headers(lost, refused):
     return f"of {lost} lost frame{'s' * (lost != 1)} {refused} had a BCH word whose header is refused"
 
 
+# The note on headers of the usual amplitude without a decoded frame.
+UNDECODED = "headers are right but no frame is decoded: another scrambling number or other rows? try s2 scan"
+
+
+def missing(*gaps):
+    """The notes at once on gaps, each by the symbol after which no frame came, and the first symbol of the frame after it, if one came."""
+    again = "frames again from symbol {}"
+    return [note for end, *at in gaps for note in (f"no frame since symbol {end}", *map(again.format, at))]
+
+
+def tuned(lost, frames):
+    """The note on lost frames of a reception without --tuned."""
+    return f"{lost} of {frames} frames lost: try --tuned"
+
+
 def fault(words, text, *notes, **more):
     """A case that ends with the line of a fault, behind these notes, and prints nothing else."""
     return Case(words, FAULT, errors=noted(*notes) + f"s2: {text}\n", **more)

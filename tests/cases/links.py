@@ -1,7 +1,9 @@
 """`rows`, `mod`, `noise`, `demod` and `run`."""
 import functools
 
-from cases.common import ANY, DIVISORS, LINK, LONG_ROWS, NO, ONE, PACKET, PAIR, TOY, TWO, WANTED, Case, digest, Rule, ending, fault, noted, refused_headers, size
+from cases.common import (
+    ANY, DIVISORS, LINK, LONG_ROWS, NO, ONE, PACKET, PAIR, TOY, TWO, UNDECODED, WANTED, Case, digest, Rule, ending, fault, missing, noted, refused_headers, size, tuned,
+)  # fmt: skip
 from cases.drawn import gaussian, made_rows, spoilt
 from cases.plain_receiver import broken, checks_of, soft_value, weakened
 
@@ -151,6 +153,10 @@ def demod(two, single):
     ]
 
 
+def is_passed_over(notes):
+    return any("passed over" in note for note in notes)
+
+
 def losing(two):
     """The cases of what is lost of the symbols of the two packets: notes of it, the exits of strict commands, and quiet ones."""
     one, other, gap = two[:32_760], two[32_760:], bytes(400)
@@ -180,6 +186,35 @@ def losing(two):
             received(symbols, code, report, packets, f"{LINK} --quiet made"),
             received(symbols, NO if notes else code, report, packets, f"{LINK} --strict made", noted(*notes)),
             received(symbols, NO if notes else code, report, packets, f"{LINK} --quiet --strict made"),
+            received(symbols, NO if code or is_passed_over(notes) else 0, report, packets, f"{LINK} --exit-by delivery made", noted(*notes)),
+            received(symbols, NO if notes else code, report, packets, f"{LINK} --exit-by delivery --strict --quiet made"),
+        )
+    ]
+
+
+def silent(two):
+    """Symbols without frames, for a frame's length or less: notes at once, one pair for each place."""
+    one, other, size = two[:32_760], two[32_760:], 8190
+    torn, cases = "1 packet torn", []
+    for count in (size - 1, size, 5 * size):
+        at, said = size + count, missing((size, size + count)) if count >= size else []
+        report = ONE + f"frame 2 at {at} sole fixed 0\nend frames 2 delivered 2 packets 1 bad 0\n"
+        cases.append((one + bytes(4 * count) + other, report, PACKET, [*said, f"{count} symbols passed over in 1 place, the first at {size}", torn]))
+    for count in (2 * size - 1, 2 * size, 5 * size):
+        said = missing((2 * size,)) if count >= 2 * size else []
+        cases.append((two + bytes(4 * count), TWO, 2 * PACKET, [*said, f"{count} symbols passed over in 1 place, the first at {2 * size}"]))
+    # before the first frame, and between both
+    far = bytes(8 * size)
+    report = f"frame 1 at {2 * size} sole fixed 0\nframe 2 at {5 * size} sole fixed 0\nend frames 2 delivered 2 packets 1 bad 0\n"
+    twice = f"{4 * size} symbols passed over in 2 places, the first at 0"
+    cases.append((far + one + far + other, report, PACKET, [*missing((0, 2 * size), (3 * size, 5 * size)), twice, torn]))
+    return [
+        case
+        for symbols, report, packets, notes in cases
+        for case in (
+            received(symbols, 0, report, packets, errors=noted(*notes)),
+            received(symbols, 0, report, packets, f"{LINK} --quiet made"),
+            received(symbols, NO, report, packets, f"{LINK} --strict --exit-by delivery made", noted(*notes)),
         )
     ]
 
@@ -193,6 +228,11 @@ def amplitude(root, gain):
     return f"the headers' amplitude, noise included, is {root}, not 990: use --gain {gain} of tools/convert"
 
 
+def undelivered(said, *more):
+    """The notes on frames of which none is delivered: on their amplitude if one is given, and these; else on their headers."""
+    return noted(amplitude(*said), *more) if said else noted(UNDECODED)
+
+
 # Sizes of components, and the amplitude and the gain that are noted, if they are.
 AMPLITUDES = {588: (832, "1.1899"), 589: None, 832: None, 833: (1178, "0.8404"), 7000: (9899, "0.1000"), 70: (99, "10.0000"), 32767: (46340, "0.0214")}
 
@@ -202,14 +242,25 @@ def strong(two):
     lost = Rule("two lost frames", lambda got: got.endswith(b" delivered 0 packets 0 bad 0\n") and got.count(b" lost\n") == 2)
     one, other, words = two[:32_760], two[32_760:], f"{LINK} --number 7"
     cases = [
-        *(received(loud(two, size), NO, lost, b"", f"{words} made", noted(amplitude(*said)) if said else "") for size, said in AMPLITUDES.items()),
+        *(received(loud(two, size), NO, lost, b"", f"{words} made", undelivered(said, tuned(2, 2))) for size, said in AMPLITUDES.items()),
+        *(received(loud(two, size), NO, lost, b"", f"{words} --tuned made", undelivered(said)) for size, said in AMPLITUDES.items()),
         *(received(loud(two, size), NO, lost, b"", f"{words} --quiet made") for size in AMPLITUDES),
         # the energy is that of all headers
-        received(one + loud(other, 7000), NO, lost, b"", f"{words} made", noted(amplitude(7035, "0.1407"))),
+        received(one + loud(other, 7000), NO, lost, b"", f"{words} made", undelivered((7035, "0.1407"), tuned(2, 2))),
         # one frame is delivered, or all are
         received(one + loud(other[:360], 7000) + bytes(32_400), NO, ANY, PACKET, errors=noted("1 packet torn", refused_headers(1, 1))),
         received(loud(two, 7000), 0, TWO, 2 * PACKET),
     ]
+    # the second frame's payload is backwards
+    mixed, torn = one + other[:360] + b"".join(other[at : at + 4] for at in range(len(other) - 4, 356, -4)), "1 packet torn"
+    cases += [
+        received(mixed, NO, ANY, PACKET, f"{LINK} {words} made", noted(torn, *notes))
+        for words, notes in [("", [tuned(1, 2)]), ("--exit-by delivery", [tuned(1, 2)]), ("--tuned", []), ("--tuned --exit-by delivery", [])]
+    ]
+    # the line of a lost frame is there also without its turn
+    for every, line, sums in ((5, "", ""), (1, ONE, "sum frames 1 delivered 1 certified 1\n{}sum frames 2 delivered 1 certified 1\n"), (2, "", "{}sum frames 2 delivered 1 certified 1\n")):
+        report = f"every {every}\n{line}{sums or '{}'}".format("frame 2 at 8190 broken lost\n") + "end frames 2 delivered 1 packets 1 bad 0\n"
+        cases.append(received(mixed, NO, report, PACKET, f"{LINK} --quiet --every {every} made"))
     no_bbframes = loud(one[:360], 7000) + bytes(32_400) + loud(other[:360], 7000) + bytes(32_400)
     return [*cases, received(no_bbframes, NO, lost, b"", errors=noted(refused_headers(2, 2), amplitude(9899, "0.1000")))]
 
@@ -325,14 +376,14 @@ def among(two, dummies):
         *(received(one + each + other + each, 0, later, 2 * PACKET) for each in dummies),
         # the last one lacks symbols
         *(received(one + each + other + each[:400], 0, later, 2 * PACKET) for each in dummies),
-        received(b"".join(dummies) + one + b"".join(dummies) + other, 0, behind_all, 2 * PACKET),
+        received(b"".join(dummies) + one + b"".join(dummies) + other, 0, behind_all, 2 * PACKET, errors=noted(*missing((0, 13_320), (21_510, 34_830)))),
         # a false header of a dummy frame hides the frame that begins before its end
         received(
             bytes(80) + dummy[:4000] + one + bytes(280) + two,
             0,
             TWO.replace("at 0 ", "at 9280 ").replace("8190", "17470"),
             2 * PACKET,
-            errors=noted("5950 symbols passed over in 1 place, the first at 0"),
+            errors=noted(*missing((0, 9280)), "5950 symbols passed over in 1 place, the first at 0"),
         ),
         # a symbol before a dummy frame is passed over, so that the packet that the next frame ends is lost
         received(
@@ -343,8 +394,8 @@ def among(two, dummies):
             errors=noted("1 symbol passed over in 1 place, the first at 8190", "1 packet torn"),
         ),
         *(
-            received(symbols, 0, NONE, b"", errors=noted(f"no frame of QPSK 1/4, short in {len(symbols) // 4} symbols: try s2 scan"))
-            for symbols in (dummy, 100 * dummy, dummy[:400], b"".join(dummies))
+            received(symbols, 0, NONE, b"", errors=noted(*said, f"no frame of QPSK 1/4, short in {len(symbols) // 4} symbols: try s2 scan"))
+            for symbols, said in ((dummy, []), (100 * dummy, missing((0,))), (dummy[:400], []), (b"".join(dummies), []))
         ),
         run(f"{LINK} --dummy 1 --seed 1 --level 0 made", 0, later, 2 * PACKET),
         run(f"{LINK} --dummy 2 --seed 1 --level 0 made", 0, TWO, 2 * PACKET),

@@ -5,7 +5,7 @@ from dataclasses import dataclass, field
 
 from cases import figured, links, listing, progress, records
 from cases.common import (
-    ANY, FINE, LINK, NO, PACKET, PAIR, STORED, STORED_CERTIFICATE, STORED_MOVED, TOY, TWO, WANTED, Case, Rule, digest, ending, first_line, noted,
+    ANY, FINE, LINK, NO, PACKET, PAIR, STORED, STORED_CERTIFICATE, STORED_MOVED, TOY, TWO, UNDECODED, WANTED, Case, Rule, digest, ending, first_line, noted,
 )  # fmt: skip
 from cases.drawn import gaussian, made_rows, spoilt
 from cases.judging import HARD_NOTE, LEFT
@@ -170,8 +170,13 @@ def received(report, code=FINE, packets=2 * PACKET, notes=()):
 
 WELL = received(TWO)
 # Noisy frames without certificates, and with a certificate for each frame.
-UNCERTIFIED = received(PARITY, NO)
+UNCERTIFIED, DELIVERED = received(PARITY, NO), received(PARITY)
 CERTIFIED = received(Rule("two frames, each certified", lambda got: re.fullmatch(rb"(frame .* (sole|most-likely) fixed 0\n){2}end .*\n", got)))
+# The report with some of its lines.
+FIRST, SECOND, LAST = TWO.splitlines(True)
+SUMS = ["sum frames {0} delivered {0} certified {0}\n".format(count) for count in (1, 2)]
+EVERY = {"": WELL, "--every 1": received(f"every 1\n{FIRST}{SUMS[0]}{SECOND}{SUMS[1]}{LAST}")}
+EVERY |= {"--every 2": received(f"every 2\n{SECOND}{SUMS[1]}{LAST}")} | {f"--every {count}": received(f"every {count}\n{LAST}") for count in (3, 2**32 - 1)}
 # If the second of two frames is not found.
 PASSED = ["8190 symbols passed over in 1 place, the first at 8190"]
 UNFOUND = received("frame 1 at 0 sole fixed 0\nend frames 1 delivered 1 packets 1 bad 0\n", FINE, PACKET, PASSED)
@@ -207,6 +212,8 @@ def tuning_effects(two, report):
     yield from both("--passes", f"{LINK} {{}}", by_default("--passes", 0, 96, UNCERTIFIED, WELL), (1, 500), hard)
     yield from both("--passes", f"{LINK} --tuned {{}}", by_default("--passes", 96, 0, WELL, UNCERTIFIED), (1, 500), hard)
     yield from both("--uncertified", f"{LINK} {{}}", {"": CERTIFIED, "--uncertified": UNCERTIFIED}, (1, 400), soft)
+    # all is delivered, and no frame is certified
+    yield from both("--exit-by", f"{LINK} {{}}", by_default("--exit-by", "certainty", "delivery", UNCERTIFIED, DELIVERED), (1, 500), hard)
 
 
 def link_effects(two):
@@ -235,8 +242,9 @@ def record_effects(two):
 
 def demod_effects(two, pilots):
     words, end = f"{LINK} --pilots", "end frames 2 delivered {0} packets {0} bad 0\n"
-    no_sync = received(NONE, FINE, b"", ["16740 symbols passed over in 1 place, the first at 0", "no frame of QPSK 1/4, short in 16740 symbols: try s2 scan"])
-    heard, lost = received(TWO.replace("8190", "8370")), received(Rule("lost frames", lambda got: got.decode().endswith(end.format(0))), NO, b"")
+    no_sync = received(NONE, FINE, b"", ["no frame since symbol 0", "16740 symbols passed over in 1 place, the first at 0", "no frame of QPSK 1/4, short in 16740 symbols: try s2 scan"])
+    heard = received(TWO.replace("8190", "8370"))
+    lost = received(Rule("lost frames", lambda got: got.decode().endswith(end.format(0))), NO, b"", [UNDECODED])
     yield Effect("--pilots", f"demod {LINK} --number 7 {{}} made in out", {"": no_sync, "--pilots": heard}, {"reads": {"in": pilots}})
     yield Effect("--number", f"demod {words} {{}} made in out", by_default("--number", 0, 7, lost, heard), {"reads": {"in": pilots}})
     # a receiver accepts any roll-off
@@ -251,6 +259,10 @@ def demod_effects(two, pilots):
     gap = ["100 symbols passed over in 1 place, the first at 16380"]
     ends = {"": received(TWO, notes=gap), "--strict": received(TWO, NO, notes=gap)}
     yield Effect("--strict", f"demod {LINK} {{}} made in out", ends, {"reads": {"in": two + bytes(400)}})
+    yield Effect("--every", f"demod {LINK} {{}} made in out", EVERY, {"reads": {"in": two}})
+    # the frames are certified, and symbols were passed over
+    ends = by_default("--exit-by", "certainty", "delivery", ends[""], ends["--strict"])
+    yield Effect("--exit-by", f"demod {LINK} {{}} made in out", ends, {"reads": {"in": two + bytes(400)}})
 
 
 def run_effects(report, others):
@@ -267,6 +279,7 @@ def run_effects(report, others):
     one, three = (received(count * TWO + f"seeds {count} frames {2 * count} delivered {2 * count} packets {2 * count} bad 0\n", FINE, 2 * count * PACKET) for count in (1, 3))
     ends = {"--seeds 1..1": one, "--seeds 5..5": one, "--seeds 0..2": three, f"--seeds {2**64 - 3}..{2**64 - 1}": three}
     yield Effect("--seeds", f"run {LINK} --level 0 {{}} made packets out", ends)
+    yield Effect("--every", f"run {LINK} --seed 1 --level 0 {{}} made packets out", EVERY)
     yield Effect("--seed", f"{words} --level {NOISY[1]} {{}} made packets out", each("--seed", (NOISY[0], 15), (usual, other)))
     yield Effect("--pilots", f"run {LINK} --seed 1 --level 0 {{}} made packets out", {"": WELL, "--pilots": received(TWO.replace("8190", "8370"))})
     apart = received(TWO.replace("8190", "11520"))
@@ -295,7 +308,7 @@ SHOWN = {(name, option) for name in progress.WORDS for option in ("--quiet", "--
 def told(text):
     """The options in the help of a command, each with its default and whether it is required."""
     usage = re.search(r"^Usage: (.*)$", text, re.M)[1]
-    found = re.findall(r"^ +(?:-\w, )?(--\w+)\b(.*)$", text.partition("\nOptions:\n")[2].partition("\n\n")[0], re.M)
+    found = re.findall(r"^ +(?:-\w, )?(--[\w-]+)(.*)$", text.partition("\nOptions:\n")[2].partition("\n\n")[0], re.M)
     defaults = {option: re.search(r"\[default: (\S+?)\]", rest) for option, rest in found if option != "--help"}
     return {option: (default and default[1], f"{option} " in usage) for option, default in defaults.items()}
 

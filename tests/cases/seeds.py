@@ -1,7 +1,8 @@
 """`run --seeds`: its last line and its notes, computed from the reports and notes of `run --seed`."""
 import re
 
-from cases.common import Rule
+from cases import common
+from cases.common import UNDECODED, Rule, tuned
 
 # Words of `run`, and a range of seeds: without a delivered frame; with missing headers; with figures; without any frame; with all options that matter.
 RANGES = [
@@ -12,6 +13,7 @@ RANGES = [
     ("--esn0 1.5 --tuned --dummy 1 --figures --strict", 18, 21),
     ("--level 500 --passes 96 --pilots --number 7", 2**64 - 2, 2**64 - 1),
     ("--level 300", 9, 9),
+    ("--level 500 --exit-by delivery", 3, 4),
 ]
 END = re.compile(rb"^end frames (\d+) delivered (\d+) packets (\d+) bad (\d+)", re.M)
 NOTES = {
@@ -40,7 +42,7 @@ def counted(number, noun):
     return f"{number} {noun}{'s' * (number != 1)}"
 
 
-def noted(reports, notes):
+def noted(reports, notes, is_tuned):
     """The notes of all. The symbol that is named is the first of the first run that passed over some."""
     frames, delivered, _, _ = totals(reports)
     lines, passed, torn, refused = [], found(notes, "passed"), found(notes, "torn"), found(notes, "refused")
@@ -54,16 +56,21 @@ def noted(reports, notes):
         lines.append(f"s2: note: {counted(sum(it for it, in torn), 'packet')} torn\n")
     if refused:
         lines.append(f"s2: note: of {counted(frames - delivered, 'lost frame')} {sum(it for _, it in refused)} had a BCH word whose header is refused\n")
-    return with_amplitude("".join(lines).encode(), [it for it, in found(notes, "amplitude")] if frames and not delivered else [])
+    amplitudes = [it for it, in found(notes, "amplitude")] if frames and not delivered else []
+    lost, with_words = frames - delivered, sum(it for _, it in refused)
+    advice = [] if is_tuned or lost == with_words else [tuned(lost, frames)]
+    if lost and not delivered and not with_words and not amplitudes:
+        advice = [UNDECODED]
+    return with_amplitude("".join(lines).encode(), amplitudes, common.noted(*advice).encode())
 
 
-def with_amplitude(text, amplitudes):
-    """The notes, and after them that on an amplitude: it is between those of the single runs, if each of them has one."""
+def with_amplitude(text, amplitudes, advice):
+    """The notes, after them that on an amplitude, and the last: the amplitude is between those of the single runs, if each of them has one."""
     if not amplitudes:
-        return text
+        return text + advice
 
     def holds(got):
         said = NOTES["amplitude"].search(got)
-        return said and got == text + said[0] and min(amplitudes) <= int(said[1]) <= max(amplitudes)
+        return said and got == text + said[0] + advice and min(amplitudes) <= int(said[1]) <= max(amplitudes)
 
-    return Rule(f"{text!r}, and an amplitude from {min(amplitudes)} to {max(amplitudes)}", holds)
+    return Rule(f"{text!r}, an amplitude from {min(amplitudes)} to {max(amplitudes)}, and {advice!r}", holds)

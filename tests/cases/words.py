@@ -194,6 +194,9 @@ MISUSES = [
     ("demod --modcod 1 --factor 17 made packets out", beyond(17, "factor <F>", 8, 16)),
     ("demod --modcod 1 --lock 11 made packets out", beyond(11, "lock <H>", 12, 40)),
     ("demod --modcod 1 --lock 41 made packets out", beyond(41, "lock <H>", 12, 40)),
+    ("demod --modcod 1 --every 0 made packets out", beyond(0, "every <N>", 1, 2**32 - 1)),
+    (f"{RUN} --every {2**32} made packets out", beyond(2**32, "every <N>", 1, 2**32 - 1)),
+    ("demod --modcod 1 --every made packets out", invalid("made", "every <N>", "invalid digit found in string")),
     ("demod --modcod 1 --lock x made packets out", invalid("x", "lock <H>", "invalid digit found in string")),
     ("demod --modcod 1 --uncertified --passes 96 made packets out", NOT_BOTH),
     *((f"demod --modcod 1 made in out {option}", f"error: a value is required for '{option} <FILE>' but none was supplied") for option in RECORDS),
@@ -257,6 +260,10 @@ NO_TEXTS = [
 POSSIBLE = f"[possible values: {', '.join(map(str, DIVISORS))}]"
 NO_DIVISORS = [("4095", 4096), ("0", 4096), ("04096", 4096), ("x", None), ("131072", None)]
 LACKS_DIVISOR = f"error: a value is required for '--divisor <D>' but none was supplied\n  {POSSIBLE}\n{MORE}"
+# What may decide the exit of a reception, and what may not.
+BYS = "[possible values: certainty, delivery]"
+NO_BYS = ["deliver", "Delivery", "0", "certainty,delivery"]
+LACKS_BY = f"error: a value is required for '--exit-by <BY>' but none was supplied\n  {BYS}\n{MORE}"
 ABOUTS = {
     "modes": "Lists the modes",
     "rows": "Prints a row file that a seed determines",
@@ -316,6 +323,8 @@ WORDS = [
     *((name, "header H", "symbols of the header that were decided wrongly, of 90") for name in ("demod", "run")),
     *((name, "changed B of T known E of N payload P of M", "N symbols of headers and pilots, and M of payloads") for name in ("demod", "run")),
     *((name, "packet I begins at byte B", "and what to strip of packets of 192 or 204 bytes") for name in ("mod", "run")),
+    *((name, "with --exit-by delivery: every frame", "none is cut, and no symbols were passed over") for name in ("demod", "run")),
+    *((name, "with --exit-by delivery: a frame", "is lost or cut, or symbols were passed over") for name in ("demod", "run")),
     ("run", "--seeds <A..B>", "one run for each seed from A to B, both among them, and a last line of sums"),
     ("run", "seeds N frames F delivered D packets P bad B", "behind the lines of all N runs: the sums of their last lines"),
     ("modes", "--rate <R>", "also as 27.5M, 27.5e6 or 27500k: adds the bits a second of the transport stream"),
@@ -464,15 +473,20 @@ CASES = [
     ),
     *(Case(f"{name} --help", out=option("--progress", "a line that is rewritten once a second")) for name in SHOWING),
     *(Case(f"{name} --help", out=option("--strict", "or no frame was found in 90 symbols or more")) for name in STRICT),
+    *(Case(f"{name} --help", out=option("--exit-by <BY>", f" [default: certainty] {BYS}")) for name in STRICT),
     *(taken("--quiet", name) for name in ENDED if name in QUIET),
     *(refused("--quiet", name) for name in LINES if name not in QUIET),
     *(taken(word, name) for name in SHOWING for word in ("--progress", "--quiet --progress")),
+    *(Case(f"{name} --help", out=option("--every <N>", "a line of sums after each N: no report for `audit`")) for name in STRICT),
+    *(Case(f"{name} --help", out=option("sum frames F delivered D certified C", "D were delivered, C of them sole or most-likely")) for name in STRICT),
+    *(taken(word, name) for name in STRICT for word in ("--exit-by certainty", "--exit-by delivery", "--exit-by=delivery --strict")),
     *(taken(word, name) for name in STRICT for word in ("--strict", "--lock 40", "--tuned", "--tuned --uncertified", "--tuned --passes 0 --lock 12")),
     *(taken(word, name) for name in DECIDING for word in ("--uncertified", "--factor 8", "--uncertified --factor 16")),
     *(refused("--progress", name) for name in LINES if name not in SHOWING),
-    *(refused(word, name) for name in LINES if name not in STRICT for word in ("--strict", "--tuned")),
+    *(refused(word, name) for name in LINES if name not in STRICT for word in ("--strict", "--tuned", "--exit-by")),
     *(refused("--uncertified", name) for name in LINES if name not in DECIDING),
     *(refused("--rate", name) for name in LINES if name != "modes"),
+    *(refused("--every", name) for name in LINES if name not in STRICT),
     *(refused("--figures", name) for name in LINES if name not in STRICT),
     *(refused("--each", name) for name in LINES if name not in ("judge", "check")),
     Case("--help", FAULT, to="/dev/full"),
@@ -483,6 +497,8 @@ CASES = [
     *(Case(words, FAULT, errors=f"error: invalid UTF-8 in the argument '{shown}'\n\nUsage: s2 [COMMAND]\n{MORE}") for words, shown in NO_TEXTS),
     Case(f"mod {LINK} made caf\u00e9 out", out="packets 2 frames 2\n", reads={"caf\u00e9": 2 * PACKET}, writes={"out": size(65_520)}),
     *(no_divisor(command, *pair) for command in RECEIVING for pair in NO_DIVISORS),
+    *(Case(f"{command} made packets old --exit-by", FAULT, errors=LACKS_BY) for command in RECEIVING),
+    *(Case(f"{command} --exit-by {value} made packets old", FAULT, errors=first_line(invalid(value, "exit-by <BY>", "").rstrip(": "))) for command in RECEIVING for value in NO_BYS),
     *(Case(f"{command} made packets old --divisor", FAULT, errors=LACKS_DIVISOR) for command in (*RECEIVING, "audit --modcod 1")),
     *(Case(f"{name} --help", out=option("--divisor <D>", f" [default: 4096] {POSSIBLE}")) for name in ("demod", "run", "audit")),
     *(Case(f"{name} --help", out=option("--factor <F>", " [default: 12]")) for name in DECIDING),

@@ -1,4 +1,4 @@
--- Losses of a received stream: the exit of a strict command, and the notes (own).
+-- Losses of a received stream: the exit of its command, and the notes (own).
 use Rattle.std.specs.Prelude.{◌≡◌, ◌⊎◌, ℕ, ◌+◌, ◌-◌, ◌*◌, ◌/◌, ◌%◌, Bool, ◌&&◌, ◌||◌, not, nat_eq, nat_le, if◌then◌else◌, List, [], ◌++◌, drop, codes, decimal, Option, Some, None, Result, Ok, Err}
 use Rattle.s2_mode.specs.Limits.{header_symbols}
 use Rattle.s2_mode.specs.Mode.{Mode}
@@ -7,6 +7,8 @@ use Rattle.s2_receive.specs.declared.report.Received.{Received}
 use Rattle.s2_receive.specs.declared.report.Totals.{Totals}
 use Rattle.s2_scan.specs.Lines.{gain_of, is_usual}
 use Rattle.s2_scan.specs.Sightings.{amplitude_by}
+use Rattle.s2_words.specs.declared.request.ExitBy.{ExitBy}
+use Rattle.s2_words.specs.declared.request.ExitBy.TheVariants as deciders
 use Rattle.s2_words.specs.declared.request.NoteWords.{NoteWords}
 use Rattle.s2_table.specs.Wanted.{fault_note}
 use Rattle.s2_console.specs.declared.exit.Exit.{Exit}
@@ -24,10 +26,19 @@ no_sync r = nat_eq r.totals.frames 0 && not r.totals.cut && nat_le header_symbol
 abbrev pub is_clean : Totals → Bool
 is_clean t = nat_eq t.skipped 0 && nat_eq t.bad 0 && nat_eq t.incomplete 0
 
--- the exit of a stream that was received to its end: 0 if all frames were certified and, for a strict command, nothing
+-- each frame was delivered, none was cut, and no symbol was skipped
+abbrev pub all_delivered : Totals → Bool
+all_delivered t = nat_eq t.delivered t.frames && not t.cut && nat_eq t.skipped 0
+
+-- what decides the exit has come: all frames were certified, or all is delivered
+abbrev pub has_come : ExitBy → Received → Bool
+has_come deciders.Certainty r = r.all_certified
+has_come deciders.Delivery r = all_delivered r.totals
+
+-- the exit of a stream that was received to its end: 0 if what decides it has come and, for a strict command, nothing
 -- was lost
-abbrev pub exit_by : Bool → Received → Exit
-exit_by strict r = if r.all_certified && (not strict || (is_clean r.totals && not (no_sync r))) then exits.Fine else exits.No
+abbrev pub exit_by : NoteWords → Received → Exit
+exit_by words r = if has_come words.exit_by r && (not words.strict || (is_clean r.totals && not (no_sync r))) then exits.Fine else exits.No
 
 -- a number and a noun, which is plural unless the number is 1
 unfoldable pub counted : ℕ → List ℕ → List ℕ
@@ -93,13 +104,33 @@ amplitude_notes (Some amplitude) = amplitude_note amplitude
 abbrev pub frame_notes : Totals → List ℕ
 frame_notes t = note_if (not (nat_eq t.refused 0)) (refused_note t) ++ amplitude_notes (odd_amplitude t)
 
+-- L of F frames lost, and advice
+unfoldable pub tuned_note : Totals → List ℕ
+tuned_note t = (codes "s2: note: " ++ decimal (t.frames - t.delivered)) ++ (codes " of " ++ decimal t.frames) ++ codes " frames lost: try --tuned\n"
+
+-- some frame was lost for which no BCH word was found
+abbrev pub has_lost : Totals → Bool
+has_lost t = not (nat_eq (t.frames - t.delivered) t.refused)
+
+-- headers of the usual amplitude came, and no BCH word was found
+abbrev pub is_undecoded : Totals → Bool
+is_undecoded t = not (nat_eq t.frames 0) && nat_eq t.delivered 0 && nat_eq t.refused 0 && is_usual (header_amplitude t)
+
+-- the note of headers without a decoded frame
+unfoldable pub headers_note : List ℕ
+headers_note = codes "s2: note: headers are right but no frame is decoded: another scrambling number or other rows? try s2 scan\n"
+
+-- what to try after frames were lost
+abbrev pub advice : (tuned : Bool) → Totals → List ℕ
+advice tuned t = if is_undecoded t then headers_note else note_if (not tuned && has_lost t) (tuned_note t)
+
 -- the notes of a stream that was received to its end
-abbrev pub notes_of : Mode → Received → List ℕ
-notes_of m r = loss_notes m r ++ frame_notes r.totals
+abbrev pub notes_of : (tuned : Bool) → Mode → Received → List ℕ
+notes_of tuned m r = loss_notes m r ++ frame_notes r.totals ++ advice tuned r.totals
 
 -- The end of a command that received this, and its notes. If their writer failed, that is its fault
 abbrev pub Answered : NoteWords → Mode → Result Received Fault → Result Exit Fault → List ℕ → Screen → Screen → Type 0
-Answered words m (Ok r) ended notes old new = (notes ≡ (if words.quiet then [] else notes_of m r)) × ((ended ≡ Ok (exit_by words.strict r)) ⊎ NotesLost notes ended old new)
+Answered words m (Ok r) ended notes old new = (notes ≡ (if words.quiet then [] else notes_of words.tuned m r)) × ((ended ≡ Ok (exit_by words r)) ⊎ NotesLost notes ended old new)
 Answered words m (Err f) ended notes old new = (notes ≡ (if words.quiet then [] else fault_note m f)) × (ended ≡ Err f)
 
 -- The end of a command that received this, and its exit: its notes, and the line of a fault, are on the errors

@@ -39,7 +39,7 @@ fn write_refused<W: CountedWrite>(totals: Totals, out: &mut W) -> Result<(), Wri
 }
 
 /// The amplitude of all headers.
-fn header_amplitude(totals: Totals) -> u64
+pub(crate) fn header_amplitude(totals: Totals) -> u64
     requires { 0 < totals.frames }
     ensures { result ≡ header_amplitude totals }
 {

@@ -11,6 +11,7 @@
 //! ```
 #![tactic(auto)]
 
+mod advice;
 mod choices;
 mod demod;
 mod frame_notes;

@@ -1,16 +1,17 @@
-//! Losses of a received stream: notes after the report, and the exit of a strict command.
+//! Losses of a received stream: notes after the report, and the exit.
 ghost use Rattle.std.specs.Prelude.{◌≡◌, ◌≢◌, ◌+◌, ◌≤◌, ◌++◌, [], length, IsOk, OnOk, not, nat_eq};
 ghost use Rattle.std.specs.Io.KnownBytes.{Appends};
 ghost use Rattle.s2_mode.specs.Counts.{CanCount, CountsFault};
 ghost use Rattle.s2_console.specs.Lines.{line_room};
-ghost use Rattle.s2_commands.specs.Losses.{counted, no_sync, is_clean, exit_by, skipped_note, no_sync_end, no_sync_note, incomplete_note, note_if, loss_notes, notes_of, Finishes};
+ghost use Rattle.s2_commands.specs.Losses.{all_delivered, counted, no_sync, is_clean, exit_by, has_come, skipped_note, no_sync_end, no_sync_note, incomplete_note, note_if, loss_notes, notes_of, Finishes};
 
+use crate::advice::write_advice;
 use crate::frame_notes::write_frame_notes;
 use s2_console::{Console, Exit, Fault, Line};
 use s2_mode::{CountedWrite, HEADER_SYMBOLS, Mode, WriteFault, write_full};
 use s2_receive::{Received, Totals};
 use s2_table::{report_noted, write_note};
-use s2_words::NoteWords;
+use s2_words::{ExitBy, NoteWords};
 
 /// Whether no frame was found, nor a cut one, in enough symbols for a header.
 fn no_sync(received: Received) -> bool
@@ -26,11 +27,30 @@ fn is_clean(totals: Totals) -> bool
     totals.skipped == 0 && totals.bad == 0 && totals.incomplete == 0
 }
 
-/// The exit of a stream that was received to its end.
-fn exit_by(strict: bool, received: Received) -> Exit
-    ensures { result ≡ exit_by strict received }
+/// Whether each frame was delivered, none was cut, and no symbol was skipped.
+fn all_delivered(totals: Totals) -> bool
+    ensures { result ≡ all_delivered totals }
 {
-    if received.all_certified && (!strict || (is_clean(received.totals) && !no_sync(received))) {
+    totals.delivered == totals.frames && !totals.cut && totals.skipped == 0
+}
+
+/// Whether what decides the exit has come.
+fn has_come(by: ExitBy, received: Received) -> bool
+    ensures { result ≡ has_come by received }
+{
+    match by {
+        ExitBy::Certainty => received.all_certified,
+        ExitBy::Delivery => all_delivered(received.totals),
+    }
+}
+
+/// The exit of a stream that was received to its end.
+fn exit_by(words: NoteWords, received: Received) -> Exit
+    ensures { result ≡ exit_by words received }
+{
+    if has_come(words.exit_by, received)
+        && (!words.strict || (is_clean(received.totals) && !no_sync(received)))
+    {
         Exit::Fine
     } else {
         Exit::No
@@ -161,17 +181,19 @@ fn write_loss_notes<W: CountedWrite>(
 /// Writes the notes of a stream that was received to its end.
 #[tactic(auto, using(crate::proofs::NoteLemmas::both_empty))]
 fn write_notes<W: CountedWrite>(
+    tuned: bool,
     mode: &Mode,
     received: Received,
     out: &mut W,
 ) -> Result<(), WriteFault>
     requires { CanCount (W.count out.old) }
-    ensures bytes { OnOk result (Appends (W.contents out.old) (W.contents out.new) (notes_of mode.now received)) }
-    ensures none { notes_of mode.now received ≡ [] → out.new ≡ out.old }
+    ensures bytes { OnOk result (Appends (W.contents out.old) (W.contents out.new) (notes_of tuned mode.now received)) }
+    ensures none { notes_of tuned mode.now received ≡ [] → out.new ≡ out.old }
     ensures cause { CountsFault (W.count out.old) (W.count out.new) result }
 {
     write_loss_notes(mode, received, out)?;
-    write_frame_notes(received.totals, out)
+    write_frame_notes(received.totals, out)?;
+    write_advice(tuned, received.totals, out)
 }
 
 /// The exit of a command after its reception. Its notes are written, unless they are left out. A fault is reported. If
@@ -189,9 +211,9 @@ pub(crate) fn conclude_reception<O: CountedWrite, E: CountedWrite>(
     ensures finishes { Finishes words mode.now reception.entry result console.old console.new }
 {
     match reception {
-        Ok(received) if words.quiet => exit_by(words.strict, received),
-        Ok(received) => match write_notes(mode, received, &mut console.errors) {
-            Ok(()) => exit_by(words.strict, received),
+        Ok(received) if words.quiet => exit_by(words, received),
+        Ok(received) => match write_notes(words.tuned, mode, received, &mut console.errors) {
+            Ok(()) => exit_by(words, received),
             Err(_) => console.complain(Fault::Write),
         },
         Err(fault) => report_noted(words.quiet, mode, fault, console),

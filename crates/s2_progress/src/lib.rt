@@ -3,7 +3,8 @@
 //! A [`Watched`] reader or writer is to contracts the one that it holds. It reports to a [`Meter`] how many bytes have passed.
 //! The meter of the program is a [`Show`], whose line is shown on a [`Terminal`]: it is the last line of standard error. The
 //! line is cleared when the command ends, and before each write of a [`Clearing`] writer. So it never gets between the lines
-//! of a report. The line depends only on the bytes that have passed and on the time: [`numbers_at`] returns its numbers,
+//! of a report. So are notes that are written at once: that no frame came for a frame's length, and that frames come again
+//! ([`Show::note_gaps`]). The line depends only on the bytes that have passed and on the time: [`numbers_at`] returns its numbers,
 //! [`line_of`] its words.
 //!
 //! ```text
@@ -16,6 +17,7 @@
 #![tactic(auto)]
 
 mod clearing;
+mod gaps;
 mod line;
 mod meter;
 mod numbers;

@@ -15,8 +15,8 @@ const LOOPED_PIECE: u64 = 1 << 11;
 /// The shortest time between two lines, and before the first one, in milliseconds.
 const MIN_MILLIS: u64 = 1000;
 
-/// How far a command is, shown on a terminal: at most one line per second, and none in the first. If nothing is to be shown, it
-/// does nothing.
+/// How far a command is, shown on a terminal: at most one line per second, and none in the first. If nothing is to be shown or
+/// noted, it does nothing.
 #[derive(Drop)]
 pub struct Show<'t, 'r, R> {
     terminal: &'t Terminal<'r, R>,
@@ -27,6 +27,7 @@ pub struct Show<'t, 'r, R> {
     given: Cell<u64>,
     unseen: Cell<u64>,
     shown_at: Cell<u64>,
+    notes_gaps: Cell<bool>,
 }
 
 impl<'t, 'r, R: Clock + StandardStreams> Show<'t, 'r, R> {
@@ -46,6 +47,15 @@ impl<'t, 'r, R: Clock + StandardStreams> Show<'t, 'r, R> {
             given: Cell::new(0),
             unseen: Cell::new(0),
             shown_at: Cell::new(0),
+            notes_gaps: Cell::new(false),
+        }
+    }
+
+    /// From now on it is noted at once if no frame is among the symbols that a receiver reads, and when frames come again.
+    pub fn note_gaps(&self) {
+        if let Pace::Receiving { frame } = self.pace {
+            self.terminal.watch(frame);
+            self.notes_gaps.set(true);
         }
     }
 
@@ -104,6 +114,9 @@ impl<R: Clock + StandardStreams> Meter for Show<'_, '_, R> {
     }
 
     fn took(&self, bytes: usize) {
+        if self.notes_gaps.get() {
+            self.terminal.took(bytes);
+        }
         self.pass(&self.taken, bytes);
     }
 

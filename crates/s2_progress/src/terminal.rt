@@ -1,4 +1,7 @@
 //! The last line of standard error.
+ghost use Rattle.std.specs.Prelude.{◌≤◌, length};
+
+use crate::gaps::Gaps;
 use crate::line::{WIDEST, shown, wiped};
 use crate::numbers::Numbers;
 use s2_console::Line;
@@ -12,6 +15,7 @@ use std::io::IsTerminal;
 pub struct Terminal<'r, R> {
     rt: &'r R,
     width: Cell<usize>,
+    gaps: Gaps,
 }
 
 impl<'r, R: StandardStreams> Terminal<'r, R> {
@@ -20,6 +24,7 @@ impl<'r, R: StandardStreams> Terminal<'r, R> {
         Terminal {
             rt,
             width: Cell::new(0),
+            gaps: Gaps::none(),
         }
     }
 
@@ -46,6 +51,38 @@ impl<'r, R: StandardStreams> Terminal<'r, R> {
         if width > 0 {
             self.write(&wiped(width));
         }
+    }
+
+    /// From now on it is noted at once if no frame comes. A frame has this number of symbols.
+    pub(crate) fn watch(&self, frame: u64) {
+        self.gaps.watch(frame);
+    }
+
+    /// Bytes of a stream of symbols were read.
+    pub(crate) fn took(&self, bytes: usize) {
+        if let Some(symbol) = self.gaps.took(bytes) {
+            self.note("s2: note: no frame since symbol ", symbol);
+        }
+    }
+
+    /// A line of a report is written.
+    pub(crate) fn reported(&self, line: &[u8]) {
+        if line.starts_with(b"frame ") {
+            if let Some(symbol) = self.gaps.heard() {
+                self.note("s2: note: frames again from symbol ", symbol);
+            }
+        }
+    }
+
+    /// Clears the line, and writes a note with a number.
+    fn note(&self, words: &str, number: u64)
+        requires { length words.now ≤ 191 }
+    {
+        self.clear();
+        let mut line = Line::new();
+        line.push_number(words, number);
+        line.push("\n");
+        self.write(&line);
     }
 
     /// Writes a line. A fault of this is not reported.

@@ -72,6 +72,14 @@ impl<'w, 'a> LinkRequest<'w, 'a> {
         }
     }
 
+    /// Whether it is noted at once that no frame comes.
+    fn notes_gaps(self) -> bool {
+        match self {
+            LinkRequest::Demod(words, _) => !words.notes.quiet,
+            LinkRequest::Mod(_) | LinkRequest::Run(_, _) => false,
+        }
+    }
+
     /// Whether the progress line is shown.
     fn progress(self) -> Progress {
         match self {
@@ -80,6 +88,19 @@ impl<'w, 'a> LinkRequest<'w, 'a> {
             LinkRequest::Run(words, _) => words.progress,
         }
     }
+}
+
+/// Shows how far a request is, and notes gaps, each if it is wanted.
+fn show_of<'t, 'r, R: Disk + Clock>(
+    terminal: &'t Terminal<'r, R>,
+    pace: Pace,
+    request: LinkRequest<'_, '_>,
+) -> Show<'t, 'r, R> {
+    let show = show_on(terminal, pace, request.progress());
+    if request.notes_gaps() {
+        show.note_gaps();
+    }
+    show
 }
 
 /// How often symbols are received: once, or once for each seed of a range.
@@ -117,7 +138,7 @@ pub(crate) fn with_link<'a, R: Disk + Clock + AllocGlobal, O: CountedWrite, E: C
 {
     let (alloc, setup) = (rt.alloc(), setup_of(request.link())?);
     let pace = request.pace(&setup.mode);
-    let show = show_on(terminal, pace, request.progress());
+    let show = show_of(terminal, pace, request);
     let unseen = Show::new(terminal, pace, false);
     let (names, buffered) = (request.names(), request.is_buffered());
     let mut opener = Opener::new(rt);

@@ -6,9 +6,10 @@ mod opening;
 mod options;
 mod records;
 mod serve;
+mod thinned;
 
 use crate::opening::{errors_of, screen_beside};
-use crate::serve::{explain, request_of, run_request, takes_output, words_given};
+use crate::serve::{every_of, explain, request_of, run_request, takes_output, words_given};
 use s2_progress::Terminal;
 use std::process::ExitCode;
 
@@ -17,7 +18,8 @@ fn main(rt: HostRuntime) -> ExitCode {
     let words = words_given(&rt);
     let exit = match request_of(rt.alloc(), &words) {
         Ok(request) => {
-            let mut screen = screen_beside(&terminal, takes_output(&request));
+            let every = every_of(&request);
+            let mut screen = screen_beside(&terminal, takes_output(&request), every);
             let mut notes = errors_of(&terminal);
             run_request(&rt, &terminal, &request, &mut screen, &mut notes)
         }

@@ -4,6 +4,7 @@ ghost use Rattle.s2_console.specs.Files.{CanStart};
 ghost use Rattle.s2_console.specs.Screens.{CanNote};
 ghost use Rattle.s2_judging.specs.Files.{CanJudge};
 
+use crate::thinned::Thinned;
 use either::{Either, Left, Right};
 use s2_commands::LinkFiles;
 use s2_console::{Console, Fault};
@@ -29,7 +30,7 @@ type Report<R> = Either<<R as StandardStreams>::Output, <R as StandardStreams>::
 
 /// A command's report and its errors.
 pub(crate) type Screen<'t, 'r, R> = Console<
-    Clearing<'t, 'r, Counting<Report<R>>, R>,
+    Clearing<'t, 'r, Thinned<Counting<Report<R>>>, R>,
     Errors<'t, 'r, R>,
 >;
 
@@ -46,10 +47,12 @@ pub(crate) fn errors_of<'t, 'r, R: Disk>(terminal: &'t Terminal<'r, R>) -> Error
     Clearing::new(Counting::new(terminal.host().errors()), terminal)
 }
 
-/// The output of a command. Its report goes to standard error if one of its files takes standard output.
+/// The output of a command. Its report goes to standard error if one of its files takes standard output. Of `every`
+/// frames only one has its line there; if this is 0, each has it.
 pub(crate) fn screen_beside<'t, 'r, R: Disk>(
     terminal: &'t Terminal<'r, R>,
     taken: bool,
+    every: u32,
 ) -> Screen<'t, 'r, R>
     ensures { CanNote result }
 {
@@ -58,7 +61,7 @@ pub(crate) fn screen_beside<'t, 'r, R: Disk>(
     } else {
         Left(terminal.host().output())
     };
-    let output = Clearing::new(Counting::new(report), terminal);
+    let output = Clearing::reporting(Thinned::new(Counting::new(report), every), terminal);
     Console::new(output, errors_of(terminal))
 }
 

@@ -94,7 +94,7 @@ pub(crate) fn explain<R: Disk + Print + Eprint>(
     error: &Error,
 ) -> Exit {
     if error.kind() == ErrorKind::OutOfMemory {
-        return lacks_memory(&mut screen_beside(terminal, false));
+        return lacks_memory(&mut screen_beside(terminal, false, 0));
     }
     match error.print(rt) {
         Ok(()) if !error.use_stderr() => Exit::Fine,
@@ -131,6 +131,15 @@ pub(crate) fn takes_output(request: &Request<'_>) -> bool {
         Request::Run(words) => is_output(Some(words.to)) || has_output(words.records),
         Request::Join(words) => is_output(Some(words.packets)),
         _ => false,
+    }
+}
+
+/// Of how many frames one has its line in the report of a request, 0 if each has it.
+pub(crate) fn every_of(request: &Request<'_>) -> u32 {
+    match request {
+        Request::Demod(words) => words.every,
+        Request::Run(words) => words.every,
+        _ => 0,
     }
 }
 

@@ -21,6 +21,15 @@ pub(crate) const DEFAULT_FACTOR_TEXT: &str = "12";
 /// The decimal digits of the default lock.
 pub(crate) const DEFAULT_LOCK_TEXT: &str = "12";
 
+/// The exit is 0 if every frame is certified. This is the default.
+pub(crate) const CERTAINTY_TEXT: &str = "certainty";
+
+/// The exit is 0 if every frame is delivered, and nothing is skipped.
+pub(crate) const DELIVERY_TEXT: &str = "delivery";
+
+/// What may decide the exit of a reception.
+pub(crate) const EXIT_BY_TEXTS: [&str; 2] = [CERTAINTY_TEXT, DELIVERY_TEXT];
+
 /// The value of an option.
 #[derive(Clone, Copy)]
 pub(crate) struct Value {
@@ -350,6 +359,27 @@ pub(crate) const FIGURES: Argument = Argument {
     name: "figures",
     form: Form::Flag,
     help: "Figures of the link at the end of each frame's line, and their sums at the end of the last line",
+};
+
+pub(crate) const EVERY: Argument = Argument {
+    name: "every",
+    form: Form::Valued(Value {
+        name: "N",
+        allowed: ValueParser::Signed(1, u32::MAX as i64),
+        ..FILE
+    }),
+    help: "A line only for every N-th frame and for those that are not delivered, and a line of sums after each N: no report for `audit`",
+};
+
+pub(crate) const EXIT_BY: Argument = Argument {
+    name: "exit-by",
+    form: Form::Valued(Value {
+        name: "BY",
+        allowed: ValueParser::Names(&EXIT_BY_TEXTS),
+        default: Some(CERTAINTY_TEXT),
+        ..FILE
+    }),
+    help: "Exit 0 if every frame is certified; by delivery, if every frame is delivered, none is cut and no symbols were passed over",
 };
 
 pub(crate) const STRICT: Argument = Argument {

@@ -146,6 +146,10 @@ The report, a line for each frame as it comes, and one for the end:
             $last,
             "  Frames count from 1, symbols from 0; dummy frames have no line.
 
+With --every N, of the frames' lines only every N-th and those of lost frames, and also:
+  every N                                     the first line
+  sum frames F delivered D certified C        after each N frames: of F frames so far D were delivered, C of them sole or most-likely
+
 With --figures, at the end of a frame's line:
   header H     symbols of the header that were decided wrongly, of 90
   changed B    positions in which the decided word differs from the hard decision
@@ -164,18 +168,24 @@ Verdicts:
 
 Exits:
   0  every frame is delivered, and sole or most-likely
+     with --exit-by delivery: every frame is delivered, none is cut, and no symbols were passed over
   1  a usage fault, or a fault that standard error tells
   2  a frame is lost, cut, parity or broken
+     with --exit-by delivery: a frame is lost or cut, or symbols were passed over
      with --strict also: symbols were passed over, no frame was found, or a packet was torn or bad
 
 Notes, on standard error:
   these rows are not the standard's for MODE           only what was sent by the same rows is received by them
   MODE wants N rows of addresses below M               the row file that is refused is to have these
+  no frame since symbol E                              `demod` says so at once, if none came for a frame's length
+  frames again from symbol S                           and when the next one comes
   N symbols passed over in M places, the first at S    they belong to no frame: symbols were inserted, or headers were lost
   no frame of MODE in N symbols: try s2 scan           another mode, byte order, form of samples or rotation
   N packets torn                                       begun, and lost with a frame that is missing or not delivered
   of N lost frames M had a BCH word whose header is refused    received well, and no BBFRAMEs of a transport stream
   the headers' amplitude, noise included, is A, not 990: use --gain G of tools/convert    no frame is delivered, and it is off by 1.5 dB or more
+  headers are right but no frame is decoded: another scrambling number or other rows? try s2 scan    the headers have the usual amplitude
+  L of F frames lost: try --tuned                      the settings of --tuned deliver frames with more noise
 ",
             $notes,
             "

@@ -26,7 +26,8 @@ mod table;
 pub use reading::read_words;
 pub use refusal::not_text;
 pub use request::{
-    AuditWords, ChannelWords, CheckWords, CodeWords, DemodWords, JoinWords, JudgeWords, LinkWords,
-    ModWords, ModesWords, NoiseWords, NoteWords, NumberWords, Progress, RecordWords, Request,
-    RowsWords, RunWords, ScanWords, Seeds, ShapeWords, StrengthWords, TableWords, TuningWords,
+    AuditWords, ChannelWords, CheckWords, CodeWords, DemodWords, ExitBy, JoinWords, JudgeWords,
+    LinkWords, ModWords, ModesWords, NoiseWords, NoteWords, NumberWords, Progress, RecordWords,
+    Request, RowsWords, RunWords, ScanWords, Seeds, ShapeWords, StrengthWords, TableWords,
+    TuningWords,
 };

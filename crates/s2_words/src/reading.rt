@@ -1,13 +1,15 @@
 //! The request of the command line.
+use crate::arguments::{CERTAINTY_TEXT, DELIVERY_TEXT};
 use crate::decibels::read_esn0;
 use crate::limits::MAX_ROLL_OFF;
 use crate::options::{progress_by, read_modcod};
 use crate::parser::program;
 use crate::refusal::{misused, not_understood, values_in};
 use crate::request::{
-    AuditWords, ChannelWords, CheckWords, CodeWords, DemodWords, JoinWords, JudgeWords, LinkWords,
-    ModWords, ModesWords, NoiseWords, NoteWords, NumberWords, Progress, RecordWords, Request,
-    RowsWords, RunWords, ScanWords, Seeds, ShapeWords, StrengthWords, TableWords, TuningWords,
+    AuditWords, ChannelWords, CheckWords, CodeWords, DemodWords, ExitBy, JoinWords, JudgeWords,
+    LinkWords, ModWords, ModesWords, NoiseWords, NoteWords, NumberWords, Progress, RecordWords,
+    Request, RowsWords, RunWords, ScanWords, Seeds, ShapeWords, StrengthWords, TableWords,
+    TuningWords,
 };
 use crate::seed_range::read_seeds;
 use clap::parser::ValueSource;
@@ -110,11 +112,26 @@ fn first_channel_of(m: &ArgMatches<'_>, seeds: Option<Seeds>) -> Option<ChannelW
     }
 }
 
-fn notes_of(m: &ArgMatches<'_>) -> NoteWords {
-    NoteWords {
-        strict: m.get_flag("strict"),
-        quiet: m.get_flag("quiet"),
+fn exit_by_of(m: &ArgMatches<'_>) -> Option<ExitBy> {
+    match m.get_str("exit-by")? {
+        CERTAINTY_TEXT => Some(ExitBy::Certainty),
+        DELIVERY_TEXT => Some(ExitBy::Delivery),
+        _ => None,
     }
+}
+
+fn notes_of(m: &ArgMatches<'_>) -> Option<NoteWords> {
+    Some(NoteWords {
+        exit_by: exit_by_of(m)?,
+        strict: m.get_flag("strict"),
+        tuned: m.get_flag("tuned"),
+        quiet: m.get_flag("quiet"),
+    })
+}
+
+/// Of how many frames one has its line, 0 if each has it.
+fn every_of(m: &ArgMatches<'_>) -> u32 {
+    m.get_one::<u32>("every").unwrap_or(0)
 }
 
 fn records_of<'a>(m: &ArgMatches<'a>) -> RecordWords<'a> {
@@ -227,7 +244,8 @@ fn demod_of<'a>(m: &ArgMatches<'a>) -> Option<Request<'a>> {
     Some(Request::Demod(DemodWords {
         link: link_of(m)?,
         tuning: tuning_of(m)?,
-        notes: notes_of(m),
+        notes: notes_of(m)?,
+        every: every_of(m),
         progress: progress_of(m),
         records: records_of(m),
         rows: m.get_str("ROWS")?,
@@ -244,7 +262,8 @@ fn run_of<'a>(m: &ArgMatches<'a>) -> Option<Request<'a>> {
         tuning: tuning_of(m)?,
         channel: first_channel_of(m, seeds)?,
         seeds,
-        notes: notes_of(m),
+        notes: notes_of(m)?,
+        every: every_of(m),
         progress: progress_of(m),
         records: records_of(m),
         rows: m.get_str("ROWS")?,

@@ -142,11 +142,22 @@ pub struct NoiseWords<'a> {
     pub to: &'a str,
 }
 
-/// What a reception reports besides its lines: whether losses decide the exit too, and whether notes are left
-/// out.
+/// What decides the exit of a reception.
+#[derive(Clone, Copy)]
+pub enum ExitBy {
+    /// Each frame is to be certified.
+    Certainty,
+    /// Each frame is to be delivered, and no symbols are to be skipped.
+    Delivery,
+}
+
+/// What a reception reports besides its lines: what decides the exit, whether losses do so too, whether it has the best
+/// settings already, so that no note proposes them, and whether notes are left out.
 #[derive(Clone, Copy)]
 pub struct NoteWords {
+    pub exit_by: ExitBy,
     pub strict: bool,
+    pub tuned: bool,
     pub quiet: bool,
 }
 
@@ -173,12 +184,14 @@ impl<'a> RecordWords<'a> {
     }
 }
 
-/// `demod`: a link, the tuning, the notes, whether progress is shown, the records, and the files.
+/// `demod`: a link, the tuning, the notes, of how many frames one has its line (0 if each has it), whether progress is
+/// shown, the records, and the files.
 #[derive(Clone, Copy)]
 pub struct DemodWords<'a> {
     pub link: LinkWords,
     pub tuning: TuningWords,
     pub notes: NoteWords,
+    pub every: u32,
     pub progress: Progress,
     pub records: RecordWords<'a>,
     pub rows: &'a str,
@@ -187,8 +200,8 @@ pub struct DemodWords<'a> {
 }
 
 /// `run`: a link, the number of frames between dummy frames (0 for none), the tuning, a channel, the seeds of its runs
-/// if there are many (the channel's seed is then the first of them), the notes, whether progress is shown, the records,
-/// and the files.
+/// if there are many (the channel's seed is then the first of them), the notes, of how many frames one has its line (0 if
+/// each has it), whether progress is shown, the records, and the files.
 #[derive(Clone, Copy)]
 pub struct RunWords<'a> {
     pub link: LinkWords,
@@ -197,6 +210,7 @@ pub struct RunWords<'a> {
     pub channel: ChannelWords,
     pub seeds: Option<Seeds>,
     pub notes: NoteWords,
+    pub every: u32,
     pub progress: Progress,
     pub records: RecordWords<'a>,
     pub rows: &'a str,

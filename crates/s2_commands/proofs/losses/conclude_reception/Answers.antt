@@ -6,7 +6,7 @@ use Rattle.s2_commands.proofs.losses.conclude_reception.Goals as goal
 pub returns-in-Ok-clause-finishes : goal.returns-in-Ok-clause-finishes
 returns-in-Ok-clause-finishes g c =
     record {
-      ended = Ok (exit_by c.args.words.strict c.in-Ok.received);
+      ended = Ok (exit_by c.args.words c.in-Ok.received);
       notes = [];
       exit_is = c.exit_by.ensures;
       answered = rw (c.in-Ok.is, c.if-words.true) (refl, inl refl);
@@ -15,9 +15,9 @@ returns-in-Ok-clause-finishes g c =
 
 pub returns-in-Ok-write_notes-clause-finishes : goal.returns-in-Ok-write_notes-clause-finishes
 returns-in-Ok-write_notes-clause-finishes g c =
-    let notes = notes_of c.args.mode.now c.in-Ok-2.received in
+    let notes = notes_of c.args.words.tuned c.args.mode.now c.in-Ok-2.received in
     rw (sym c.console.view_is) (record {
-      ended = Ok (exit_by c.args.words.strict c.in-Ok-2.received);
+      ended = Ok (exit_by c.args.words c.in-Ok-2.received);
       notes = notes;
       exit_is = c.exit_by-in-Ok-write_notes.ensures;
       answered = rw (c.in-Ok-2.is, c.if-words.false) (refl, inl refl);
@@ -26,7 +26,7 @@ returns-in-Ok-write_notes-clause-finishes g c =
 
 pub returns-in-Err-write_notes-clause-finishes : goal.returns-in-Err-write_notes-clause-finishes
 returns-in-Err-write_notes-clause-finishes g c =
-    let notes = notes_of c.args.mode.now c.in-Ok-2.received in
+    let notes = notes_of c.args.words.tuned c.args.mode.now c.in-Ok-2.received in
     let some : notes ≢ [] =
     λ e. absurd (omega (arith, c.in-Err-write_notes.ensures.cause, ap (λ w. g.E.Counted.count w) (c.write_notes.ensures.none e))) in
     rw (sym c.console.view_is) (record {

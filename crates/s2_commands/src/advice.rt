@@ -1,0 +1,72 @@
+//! The note on what to try after frames were lost.
+ghost use Rattle.std.specs.Prelude.{◌≡◌, [], OnOk, not};
+ghost use Rattle.std.specs.Io.KnownBytes.{Appends};
+ghost use Rattle.s2_mode.specs.Counts.{CanCount, CountsFault};
+ghost use Rattle.s2_commands.specs.Losses.{advice, has_lost, headers_note, is_undecoded, tuned_note};
+
+use crate::frame_notes::header_amplitude;
+use s2_console::Line;
+use s2_mode::{CountedWrite, WriteFault, write_full};
+use s2_receive::Totals;
+use s2_scan::is_usual;
+
+/// The number of frames that were not delivered.
+fn lost(totals: Totals) -> u64
+    ensures { result ≡ totals.frames - totals.delivered }
+{
+    totals.frames.saturating_sub(totals.delivered)
+}
+
+/// Whether some frame was lost for which no BCH word was found.
+fn has_lost(totals: Totals) -> bool
+    ensures { result ≡ has_lost totals }
+{
+    lost(totals) != totals.refused
+}
+
+/// The note of headers without a decoded frame.
+const HEADERS_NOTE: &str =
+    "s2: note: headers are right but no frame is decoded: another scrambling number or other rows? try s2 scan\n";
+
+/// Whether headers of the usual amplitude came, and no BCH word was found.
+fn is_undecoded(totals: Totals) -> bool
+    ensures { result ≡ is_undecoded totals }
+{
+    totals.frames != 0
+        && totals.delivered == 0
+        && totals.refused == 0
+        && is_usual(header_amplitude(totals))
+}
+
+/// The note of lost frames that proposes the best settings.
+#[tactic(auto, unfolding(crate::specs::Losses::tuned_note))]
+fn tuned_note(totals: Totals) -> Line
+    ensures { result ≡ tuned_note totals }
+{
+    let mut line = Line::new();
+    line.push_number("s2: note: ", lost(totals));
+    line.push_number(" of ", totals.frames);
+    line.push(" frames lost: try --tuned\n");
+    line
+}
+
+/// Writes the note on what to try, if frames were lost. `tuned` says whether the best settings were tried already.
+#[tactic(auto, unfolding(crate::specs::Losses::tuned_note, crate::specs::Losses::headers_note))]
+pub(crate) fn write_advice<W: CountedWrite>(
+    tuned: bool,
+    totals: Totals,
+    out: &mut W,
+) -> Result<(), WriteFault>
+    requires { CanCount (W.count out.old) }
+    ensures bytes { OnOk result (Appends (W.contents out.old) (W.contents out.new) (advice tuned totals)) }
+    ensures none { advice tuned totals ≡ [] → out.new ≡ out.old }
+    ensures cause { CountsFault (W.count out.old) (W.count out.new) result }
+{
+    if is_undecoded(totals) {
+        return write_full(out, HEADERS_NOTE.as_bytes());
+    }
+    if tuned || !has_lost(totals) {
+        return Ok(());
+    }
+    write_full(out, tuned_note(totals).as_bytes())
+}
