@@ -123,3 +123,14 @@ def refused_headers(lost, refused):
 def fault(words, text, *notes, **more):
     """A case that ends with the line of a fault, behind these notes, and prints nothing else."""
     return Case(words, FAULT, errors=noted(*notes) + f"s2: {text}\n", **more)
+
+
+# The commands, which have help of their own.
+COMMANDS = "modes rows table judge check mod noise demod run scan join audit".split()
+
+
+def misuse(words, text, way=None):
+    """A case of words that are refused with one line, whose end names the help of their command, or the list of modes."""
+    name = (words.split() or [""])[0]
+    help_of = f"s2 {name} --help" if name in COMMANDS else "s2 --help"
+    return Case(words, FAULT, errors=f"s2: {text}; see {way or ('s2 modes' if text.startswith('--modcod: ') and ' is not ' in text else help_of)}\n")

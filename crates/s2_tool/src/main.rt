@@ -21,7 +21,7 @@ fn main(rt: HostRuntime) -> ExitCode {
             let mut notes = errors_of(&terminal);
             run_request(&rt, &terminal, &request, &mut screen, &mut notes)
         }
-        Err(error) => explain(&rt, &terminal, &error),
+        Err(unread) => explain(&rt, &terminal, &unread),
     };
     exit.code()
 }

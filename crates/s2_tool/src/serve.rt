@@ -8,8 +8,6 @@ use crate::opening::{
     open_audit, open_input, open_inputs, open_join, open_judge, open_noise, screen_beside, show_on,
 };
 use crate::options::{channel_of, demod_options, divisor_of, judging_of, run_options};
-use clap::Error;
-use clap::error::ErrorKind;
 use s2_audit::audit_command;
 use s2_commands::{noise_command, rows_command};
 use s2_console::{Console, Exit, Fault};
@@ -24,7 +22,7 @@ use s2_scan::scan_command;
 use s2_table::table_command;
 use s2_words::{
     AuditWords, CheckWords, CodeWords, DemodWords, JoinWords, JudgeWords, ModesWords, NoiseWords,
-    RecordWords, Request, RowsWords, RunWords, ScanWords, ShapeWords, TableWords, not_text,
+    RecordWords, Request, RowsWords, RunWords, ScanWords, ShapeWords, TableWords, Unread, not_text,
     read_words,
 };
 use std::alloc::{AllocError, Global};
@@ -78,11 +76,11 @@ pub(crate) fn words_given<R: Env + AllocGlobal>(rt: &R) -> Words {
 }
 
 /// The request of the arguments. Without memory for these it is a fault, as it is while they are read.
-pub(crate) fn request_of<'a>(alloc: Global, words: &'a Words) -> Result<Request<'a>, Error> {
+pub(crate) fn request_of<'a>(alloc: Global, words: &'a Words) -> Result<Request<'a>, Unread> {
     match words {
         Words::Text(words) => read_words(alloc, words),
         Words::NotText(word) => Err(not_text(alloc, word.as_str())?),
-        Words::NoMemory => Err(AllocError.into()),
+        Words::NoMemory => Err(Unread::NoMemory),
     }
 }
 
@@ -91,14 +89,18 @@ pub(crate) fn request_of<'a>(alloc: Global, words: &'a Words) -> Result<Request<
 pub(crate) fn explain<R: Disk + Print + Eprint>(
     rt: &R,
     terminal: &Terminal<'_, R>,
-    error: &Error,
+    unread: &Unread,
 ) -> Exit {
-    if error.kind() == ErrorKind::OutOfMemory {
-        return lacks_memory(&mut screen_beside(terminal, false));
-    }
-    match error.print(rt) {
-        Ok(()) if !error.use_stderr() => Exit::Fine,
-        _ => Exit::Fault,
+    match unread {
+        Unread::NoMemory => lacks_memory(&mut screen_beside(terminal, false)),
+        Unread::Asked(help) => match help.print(rt) {
+            Ok(()) => Exit::Fine,
+            Err(_) => Exit::Fault,
+        },
+        Unread::Fault(line) => {
+            let _ = rt.eprint(line);
+            Exit::Fault
+        }
     }
 }
 
