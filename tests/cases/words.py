@@ -1,7 +1,8 @@
 """The words of the command line, and the files that they name."""
 import itertools
 
-from cases.common import DIVISORS, FAULT, LINK, NO, PACKET, PAIR, STORED, TOY, TWO, Case, fault, first_line, misuse, option, size
+from cases.common import ANY, DIVISORS, FAULT, LINK, NO, PACKET, PAIR, STORED, TOY, TWO, WANTED, Case, fault, first_line, misuse, noted, option, size
+from cases.drawn import made_rows
 
 HELP = """A DVB-S2 modem with maximum-likelihood certificates. \
 Without a command it judges the 20 soft values of standard input under a toy code
@@ -390,6 +391,16 @@ def no_divisor(command, value):
     return misuse(f"{command} --divisor {value} made packets old", f"--divisor: {value} is not {' or '.join(map(str, DIVISORS))}")
 
 
+MARK, LONG_NAME = b"\xef\xbb\xbf", 300 * "n"
+MARKED = {"made": made_rows(360, 9, 36, 3, 1), "toy": b"0 4 8\n0 1 2\n", "stored": STORED}
+
+
+def marked(words, wanted, text, name):
+    """A command that reads a file of numbers behind a byte order mark."""
+    after = "s2: note: marked: begins with a byte order mark: tail -c +4 removes it\n"
+    return Case(words, FAULT, errors=f"{noted(wanted) if wanted else ''}s2: {text}\n{after}", reads={"marked": MARK + MARKED[name]})
+
+
 # Commands that name a file that is not there, and its name.
 MISSING = [
     (f"judge {TOY} none stored", "none"),
@@ -494,6 +505,23 @@ CASES = [
     *(Case(f"{name} --help", out=option("--factor <F>", " [default: 12]")) for name in DECIDING),
     *(Case(f"{name} --help", out=option("--lock <H>", "12 to 40; elsewhere 12 may [default: 12]")) for name in STRICT),
     *(fault(words, f"cannot open {name}") for words, name in MISSING),
+    # the cause stands before it, also with --quiet
+    fault("mod --modcod 1 --quiet none packets old", "cannot open none"),
+    fault("mod --modcod 1 made packets old/out", "cannot open old/out", cause="Not a directory", reads={"old": b"old"}),
+    fault("scan old/out", "cannot open old/out", cause="Not a directory", reads={"old": b"old"}),
+    fault(f"scan {LONG_NAME}", f"cannot open {LONG_NAME}", cause="File name too long"),
+    fault(f"demod --modcod 1 --values {LONG_NAME} made packets out", f"cannot open {LONG_NAME}", cause="File name too long", writes={"out": b""}),
+    fault("mod --modcod 1 none packets none", "cannot open none"),
+    fault("scan .", "cannot read"),
+    fault("join --modcod 1 --short . out", "cannot read", writes={"out": b""}),
+    fault(f"audit {LINK} . empty empty empty", "cannot read", reads={"empty": b""}),
+    marked(f"table {LINK} marked", WANTED, "rows: not a number in line 1", "made"),
+    marked(f"mod {LINK} --quiet marked packets old", None, "rows: not a number in line 1", "made"),
+    marked(f"judge {TOY} marked stored", None, "rows: not a number in line 1", "toy"),
+    marked(f"judge {TOY} toy marked", None, "values: not a number in line 1", "stored"),
+    marked("check marked certificate", None, "rows: not a number in line 1", "toy"),
+    # one that is read as symbols is none
+    Case("scan marked", NO, out=ANY, reads={"marked": MARK + 357 * b"a"}),
     # the certificate's file is made before the others are opened
     fault(f"judge {TOY} --cert out none stored", "cannot open none", writes={"out": b""}),
     *(fault(words, text) for words, text in REFUSED),

@@ -1,14 +1,16 @@
 //! The program.
 #![tactic(auto)]
 
+mod causes;
 mod link_request;
 mod opening;
 mod options;
 mod records;
 mod serve;
 
+use crate::causes::takes_output;
 use crate::opening::{errors_of, screen_beside};
-use crate::serve::{explain, request_of, run_request, takes_output, words_given};
+use crate::serve::{explain, request_of, run_request, words_given};
 use s2_progress::Terminal;
 use std::process::ExitCode;
 

@@ -3,6 +3,7 @@ ghost use Rattle.std.specs.Prelude.{OnErr};
 ghost use Rattle.s2_mode.specs.Counts.{CanCount};
 ghost use Rattle.s2_console.specs.Screens.{CanNote};
 
+use crate::causes::{note_cause, note_folders, note_marks};
 use crate::link_request::{LinkRequest, setup_of, with_link};
 use crate::opening::{
     open_audit, open_input, open_inputs, open_join, open_judge, open_noise, screen_beside, show_on,
@@ -12,7 +13,7 @@ use s2_audit::audit_command;
 use s2_commands::{noise_command, rows_command};
 use s2_console::{Console, Exit, Fault};
 use s2_evidence::{check_command, check_each_command};
-use s2_files::{Disk, Role, is_standard};
+use s2_files::Disk;
 use s2_join::join_command;
 use s2_judging::{judge_command, judge_each_command, self_command};
 use s2_mode::{CountedWrite, Counting, FaultText, Mode, Shape};
@@ -22,8 +23,7 @@ use s2_scan::scan_command;
 use s2_table::table_command;
 use s2_words::{
     AuditWords, CheckWords, CodeWords, DemodWords, JoinWords, JudgeWords, ModesWords, NoiseWords,
-    RecordWords, Request, RowsWords, RunWords, ScanWords, ShapeWords, TableWords, Unread, not_text,
-    read_words,
+    Request, RowsWords, RunWords, ScanWords, ShapeWords, TableWords, Unread, not_text, read_words,
 };
 use std::alloc::{AllocError, Global};
 use std::env::FillError;
@@ -111,31 +111,6 @@ fn lacks_memory<O: CountedWrite, E: CountedWrite>(console: &mut Console<O, E>) -
     console.complain(Fault::NoMemory)
 }
 
-/// Whether a file of this name is standard output, if a name is given.
-fn is_output(name: Option<&str>) -> bool {
-    match name {
-        Some(name) => is_standard(Role::Output, name),
-        None => false,
-    }
-}
-
-/// Whether records are written to standard output.
-fn has_output(records: RecordWords<'_>) -> bool {
-    records.names().into_iter().any(is_output)
-}
-
-/// Whether a request writes a file to standard output.
-pub(crate) fn takes_output(request: &Request<'_>) -> bool {
-    match request {
-        Request::Judge(words) => is_output(words.certificate),
-        Request::Mod(words) => is_output(Some(words.symbols)) || has_output(words.records),
-        Request::Demod(words) => is_output(Some(words.packets)) || has_output(words.records),
-        Request::Run(words) => is_output(Some(words.to)) || has_output(words.records),
-        Request::Join(words) => is_output(Some(words.packets)),
-        _ => false,
-    }
-}
-
 /// The exit of a command. A fault that came before it is reported.
 fn conclude<O: CountedWrite, E: CountedWrite>(
     ended: Result<Exit, Fault<'_>>,
@@ -149,7 +124,8 @@ fn conclude<O: CountedWrite, E: CountedWrite>(
     }
 }
 
-/// Runs the command of a request on its files. A fault before that is reported. `notes` takes the notes before a report.
+/// Runs the command of a request on its files. A fault before that is reported. Notes give the cause of a fault, if the
+/// host knows it. `notes` takes the notes before a report.
 pub(crate) fn run_request<R: Disk + Clock + AllocGlobal, O: CountedWrite, E: CountedWrite>(
     rt: &R,
     terminal: &Terminal<'_, R>,
@@ -160,25 +136,54 @@ pub(crate) fn run_request<R: Disk + Clock + AllocGlobal, O: CountedWrite, E: Cou
     requires console { CanNote console.old }
     requires notes { CanCount (E.count notes.old) }
 {
+    note_folders(rt, terminal, request);
+    let ended = serve_request(rt, terminal, request, console, notes);
+    note_fault(rt, terminal, request, &ended);
+    let exit = conclude(ended, console);
+    if exit == Exit::Fault {
+        note_marks(rt, terminal, request);
+    }
+    exit
+}
+
+/// Notes the cause of a fault that came before a command.
+fn note_fault<R: Disk + AllocGlobal>(
+    rt: &R,
+    terminal: &Terminal<'_, R>,
+    request: &Request<'_>,
+    ended: &Result<Exit, Fault<'_>>,
+) {
+    if let Err(Fault::Open(name)) = ended {
+        note_cause(rt, terminal, request, name);
+    }
+}
+
+/// Runs the command of a request on its files, or returns the fault before that.
+fn serve_request<'a, R: Disk + Clock + AllocGlobal, O: CountedWrite, E: CountedWrite>(
+    rt: &R,
+    terminal: &Terminal<'_, R>,
+    request: &Request<'a>,
+    console: &mut Console<O, E>,
+    notes: &mut E,
+) -> Result<Exit, Fault<'a>>
+    requires console { CanNote console.old }
+    requires notes { CanCount (E.count notes.old) }
+    ensures { OnErr result (CanCount console.new.errors_failed) }
+{
     match request {
-        Request::Own => self_command(rt.alloc(), &mut Counting::new(rt.input()), console),
-        Request::Modes(words) => conclude(serve_modes(rt, words, console), console),
-        Request::Rows(words) => conclude(serve_rows(rt, words, console), console),
-        Request::Table(words) => conclude(serve_table(rt, words, console), console),
-        Request::Judge(words) => conclude(serve_judge(rt, words, console), console),
-        Request::Check(words) => conclude(serve_check(rt, words, console), console),
-        Request::Noise(words) => conclude(serve_noise(rt, terminal, words, console), console),
-        Request::Scan(words) => conclude(serve_scan(rt, words, console), console),
-        Request::Join(words) => conclude(serve_join(rt, words, console), console),
-        Request::Audit(words) => conclude(serve_audit(rt, words, console), console),
-        Request::Mod(words) => {
-            let request = LinkRequest::Mod(words);
-            conclude(with_link(rt, terminal, request, console, notes), console)
-        }
-        Request::Demod(words) => {
-            conclude(serve_demod(rt, terminal, words, console, notes), console)
-        }
-        Request::Run(words) => conclude(serve_run(rt, terminal, words, console, notes), console),
+        Request::Own => Ok(self_command(rt.alloc(), &mut Counting::new(rt.input()), console)),
+        Request::Modes(words) => serve_modes(rt, words, console),
+        Request::Rows(words) => serve_rows(rt, words, console),
+        Request::Table(words) => serve_table(rt, words, console),
+        Request::Judge(words) => serve_judge(rt, words, console),
+        Request::Check(words) => serve_check(rt, words, console),
+        Request::Noise(words) => serve_noise(rt, terminal, words, console),
+        Request::Scan(words) => serve_scan(rt, words, console),
+        Request::Join(words) => serve_join(rt, words, console),
+        Request::Audit(words) => serve_audit(rt, words, console),
+        Request::Mod(words) => with_link(rt, terminal, LinkRequest::Mod(words), console, notes),
+        Request::Demod(words) => serve_demod(rt, terminal, words, console, notes),
+        Request::Run(words) => serve_run(rt, terminal, words, console, notes),
     }
 }
 
