@@ -183,6 +183,12 @@ pub(crate) const ROLL_OFF: Argument = Argument {
     help: "Roll-off that headers tell: 0 for 0.35, 1 for 0.25, 2 for 0.20",
 };
 
+/// The same option, for a command that only receives.
+pub(crate) const ROLL_OFF_READ: Argument = Argument {
+    help: "Roll-off of the sender, 0 to 2, without effect: headers of any roll-off are received",
+    ..ROLL_OFF
+};
+
 pub(crate) const DUMMY: Argument = Argument {
     name: "dummy",
     form: Form::Valued(Value {
