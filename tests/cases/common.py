@@ -124,7 +124,7 @@ def fault(words, text, *notes, cause="No such file or directory", **more):
     """A case that ends with the line of a fault, behind these notes, and prints nothing else. A file that cannot be opened is noted with its
     cause, and so is each folder that is read."""
     name, folder = text.removeprefix("cannot open "), ".: Is a directory"
-    folders = [folder] * (words.split().count(".") if text == "cannot read" else 0)
+    folders = [folder] * words.split().count(".") * (text != "cannot open .")
     causes = [folder if name == "." else f"{name}: {cause}"] * (name != text)
     return Case(words, FAULT, errors=noted(*folders, *notes, *causes) + f"s2: {text}\n", **more)
 
