@@ -135,6 +135,21 @@ def tuned(lost, frames):
     return f"{lost} of {frames} frames lost: try --tuned"
 
 
-def fault(words, text, *notes, **more):
-    """A case that ends with the line of a fault, behind these notes, and prints nothing else."""
-    return Case(words, FAULT, errors=noted(*notes) + f"s2: {text}\n", **more)
+def fault(words, text, *notes, cause="No such file or directory", **more):
+    """A case that ends with the line of a fault, behind these notes, and prints nothing else. A file that cannot be opened is noted with its
+    cause, and so is each folder that is read."""
+    name, folder = text.removeprefix("cannot open "), ".: Is a directory"
+    folders = [folder] * words.split().count(".") * (text != "cannot open .")
+    causes = [folder if name == "." else f"{name}: {cause}"] * (name != text)
+    return Case(words, FAULT, errors=noted(*folders, *notes, *causes) + f"s2: {text}\n", **more)
+
+
+# The commands, which have help of their own.
+COMMANDS = "modes rows table judge check mod noise demod run scan join audit".split()
+
+
+def misuse(words, text, way=None):
+    """A case of words that are refused with one line, whose end names the help of their command, or the list of modes."""
+    name = (words.split() or [""])[0]
+    help_of = f"s2 {name} --help" if name in COMMANDS else "s2 --help"
+    return Case(words, FAULT, errors=f"s2: {text}; see {way or ('s2 modes' if text.startswith('--modcod: ') and ' is not ' in text else help_of)}\n")

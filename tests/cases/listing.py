@@ -1,7 +1,7 @@
 """`modes`, and modes by name: what is wanted is computed here from the tables of the standard."""
 from fractions import Fraction
 
-from cases.common import FAULT, Case, fault, first_line, option
+from cases.common import Case, fault, misuse, option
 from cases.modes import MODES
 
 RATES = ["1/4", "1/3", "2/5", "1/2", "3/5", "2/3", "3/4", "4/5", "5/6", "8/9", "9/10", "3/5", "2/3", "3/4", "5/6", "8/9", "9/10"]
@@ -46,20 +46,9 @@ assert [f"{(kbch(m, False, 360 * g) - 80) / frame(m, False, 0):.6f}" for m, word
 
 # One rate in several ways.
 RATE_TEXTS = "27500000 27.5M 27500k 27500K 27.5e6 27.5E6 275e5 27500000.0 0027.500M 0.0275e9".split()
-QPSK, PSK = ", ".join(NAMES[:11]), ", ".join(NAMES[11:])
-FORMS = "it is 1 to 17, or qpsk or 8psk with a code rate, as qpsk3/4 or 8psk2/3"
-SWITCH = "error: '--pilots' takes no value: frames have pilot blocks where it stands, and none where it does not"
-MORE = "\nFor more information, try '--help'.\n"
-USAGES = {
-    "modes": "s2 modes [OPTIONS]",
-    "table": "s2 table [OPTIONS] --modcod <M> <ROWS>",
-    "judge": "s2 judge [OPTIONS] <--group <G>|--modcod <M>> <ROWS> <SOFT>",
-    "join": "s2 join [OPTIONS] --modcod <M> <BBFRAMES> <PACKETS>",
-    "audit": "s2 audit [OPTIONS] --modcod <M> <ROWS> <SYMBOLS> <REPORT> <CERTIFICATES>",
-    "mod": "s2 mod [OPTIONS] --modcod <M> <ROWS> <PACKETS> <SYMBOLS>",
-    "demod": "s2 demod [OPTIONS] --modcod <M> <ROWS> <SYMBOLS> <PACKETS>",
-    "run": "s2 run [OPTIONS] --modcod <M> <--seed <S>|--seeds <A..B>> <--level <L>|--esn0 <DB>> <ROWS> <PACKETS> <OUT>",
-}
+QPSK, PSK = f"a mode: QPSK has {', '.join(NAMES[:11])}", f"a mode: 8PSK has {', '.join(NAMES[11:])}"
+NOTHING, FORMS = '""', "1 to 17 or a name"
+SWITCH = "--pilots takes no value"
 REST = {
     "modes": "",
     "table": "made",
@@ -72,34 +61,34 @@ REST = {
 }
 
 
-def no_mode(name, text):
-    return f"error: invalid value '{name}' for '--modcod <M>': {text}"
+def no_mode(name, accepted=FORMS):
+    return f"--modcod: {name or NOTHING} is not {accepted}"
 
 
 def no_roll_off(name):
-    return f"error: invalid value '{name}' for '--ro <R>': it is 0 for 0.35, 1 for 0.25, or 2 for 0.20"
+    return f"--ro: {name or NOTHING} is not 0 for 0.35, 1 for 0.25 or 2 for 0.20"
 
 
 def no_rate(text):
-    return f"error: invalid value '{text}' for '--rate <R>': it is a whole number, 1 to 1000000000, also as 27.5M, 27.5e6 or 27500k"
+    return f"--rate: {text} is not a whole number, 1 to 1000000000, also as 27.5M, 27.5e6 or 27500k"
 
 
 # What is no symbol rate: beyond the range, no whole number, and not written so.
 NO_RATES = "0 1000000001 x -1 27.5 0.5 1.5555k 1000.0000001M 1001M 1e10 .5M 5.M 27,5M 1G 1MM M 1e 1e-3 0x10".split()
 
 
-def misused(name, words, line):
-    """A command with words that it refuses with this line and its usage, and nothing else."""
-    return Case(f"{name} {words} {REST[name]}", FAULT, errors=f"{line}\n\nUsage: {USAGES[name]}\n{MORE}")
+def misused(name, words, text):
+    """A command with words that it refuses."""
+    return misuse(f"{name} {words} {REST[name]}", text)
 
 
 # What is no name, and what stands there.
 NO_NAMES = [
-    ("qpsk7/8", f"QPSK has {QPSK}"),
-    ("QPSK", f"QPSK has {QPSK}"),
-    ("qpsk3/4,", f"QPSK has {QPSK}"),
-    ("8psk1/2", f"8PSK has {PSK}"),
-    ("8PSK4/5", f"8PSK has {PSK}"),
+    ("qpsk7/8", QPSK),
+    ("QPSK", QPSK),
+    ("qpsk3/4,", QPSK),
+    ("8psk1/2", PSK),
+    ("8PSK4/5", PSK),
     ("16apsk2/3", FORMS),
     ("bpsk", FORMS),
     ("x", FORMS),
@@ -112,23 +101,23 @@ LINKED = ("audit", "mod", "demod", "run")
 SWITCHES = [f"--pilots {text}" for text in ("on", "off", "yes", "no", "true", "false", "1", "0", "OFF", "True", "FALSE")]
 SWITCHES += ["--pilots=1", "--pilots=0", "--pilots=off", "--pilots=false", "--pilots="]
 MISUSES = [
-    ("mod --modcod -1 made packets out", "error: invalid value '-1' for '--modcod <M>': -1 is not in 1..=17"),
-    ("table --modcod 18 made", "error: invalid value '18' for '--modcod <M>': 18 is not in 1..=17"),
-    ("mod --modcod qpsk3/4 --modcod 7 made packets out", "error: the argument '--modcod <M>' cannot be used multiple times"),
-    ("mod --modcod 1 --ro", "error: a value is required for '--ro <R>' but none was supplied"),
+    ("mod --modcod -1 made packets out", no_mode(-1)),
+    ("table --modcod 18 made", no_mode(18)),
+    ("mod --modcod qpsk3/4 --modcod 7 made packets out", "--modcod <M> is given twice"),
+    ("mod --modcod 1 --ro", "--ro: the value is missing"),
     # the fault is another word's
-    ("mod --modcod 1 --short=1 --pilots made packets out", "error: unexpected value '1' for '--short' found; no more were expected"),
-    ("mod --modcod 1 --pilots made packets out more", "error: unexpected argument 'more' found"),
-    ("mod --modcod 1 --pilot made packets out", "error: unexpected argument '--pilot' found"),
-    ("noise --seed 1 --level 1 --pilots packets out", "error: unexpected argument '--pilots' found"),
-    ("noise --seed 1 --level 1 --ro 0 packets out", "error: unexpected argument '--ro' found"),
-    ("table --modcod 1 --ro 0 made", "error: unexpected argument '--ro' found"),
+    ("mod --modcod 1 --short=1 --pilots made packets out", "--short takes no value"),
+    ("mod --modcod 1 --pilots made packets out more", "more is one argument too many"),
+    ("mod --modcod 1 --pilot made packets out", "--pilot is not an option of mod"),
+    ("noise --seed 1 --level 1 --pilots packets out", "--pilots is not an option of noise"),
+    ("noise --seed 1 --level 1 --ro 0 packets out", "--ro is not an option of noise"),
+    ("table --modcod 1 --ro 0 made", "--ro is not an option of table"),
     *((f"modes --rate {text}", no_rate(text)) for text in NO_RATES),
-    ("modes --short", "error: the following required arguments were not provided:"),
-    ("modes --modcod 18", "error: invalid value '18' for '--modcod <M>': 18 is not in 1..=17"),
-    ("modes --modcod 7 --pilots", "error: unexpected argument '--pilots' found"),
-    ("modes --rate", "error: a value is required for '--rate <R>' but none was supplied"),
-    ("modes all", "error: unexpected argument 'all' found"),
+    ("modes --short", "missing: --modcod <M>"),
+    ("modes --modcod 18", no_mode(18)),
+    ("modes --modcod 7 --pilots", "--pilots is not an option of modes"),
+    ("modes --rate", "--rate: the value is missing"),
+    ("modes all", "all is one argument too many"),
 ]
 
 CASES = [
@@ -142,12 +131,12 @@ CASES = [
     *(Case(f"modes --rate 27.5M --modcod {NAMES[modcod - 1]} {words}", out=listed(27500000, (modcod, words))) for modcod, words, *_ in MODES),
     *(fault(f"modes --modcod {modcod} --short", "no such mode") for modcod in (11, 17)),
     fault("modes", "cannot write", to="/dev/full"),
-    *(misused(name, f"--modcod {text}", no_mode(text, says)) for name in USAGES for text, says in NO_NAMES),
-    *(misused(name, f"--modcod={text}", no_mode(text, says)) for name in USAGES for text, says in [*NO_NAMES, ("", FORMS)]),
+    *(misused(name, f"--modcod {text}", no_mode(text, says)) for name in REST for text, says in NO_NAMES),
+    *(misused(name, f"--modcod={text}", no_mode(text, says)) for name in REST for text, says in [*NO_NAMES, ("", FORMS)]),
     *(misused(name, f"--modcod 1 --ro {text}", no_roll_off(text)) for name in LINKED for text in ("3", "5", "0.35", "35", "x", "-1", "-0.35")),
     *(misused(name, f"--modcod qpsk1/4 --ro={text}", no_roll_off(text)) for name in LINKED for text in ("5", "")),
     *(misused(name, f"--modcod 1 {words}", SWITCH) for name in LINKED for words in SWITCHES),
-    *(Case(words, FAULT, errors=first_line(line)) for words, line in MISUSES),
+    *(misuse(words, text) for words, text in MISUSES),
     Case("demod --help", out=option("parity", "try --passes 96")),
     Case("demod --help", out=option("broken", "the packets are whole all the same; try --rounds 200")),
     Case("judge --help", out=option("broken cost C check J", "this is no codeword")),
@@ -158,7 +147,7 @@ NONE_READ = {name: rest.replace("made", "none") for name, rest in REST.items()} 
 # Commands by a name, and by its number.
 ALIKE = [
     tuple(fault(f"{name} --modcod {mode} {NONE_READ[name]}", "cannot open none") for mode in modes)
-    for name in USAGES
+    for name in REST
     if name != "modes"
     for modes in [(1, "qpsk1/4"), (7, "QPSK3/4"), (11, "QPSK9/10"), (12, "8psk3/5"), (17, "8PSK9/10")]
 ]

@@ -5,13 +5,13 @@ from dataclasses import dataclass, field
 
 from cases import figured, links, listing, progress, records
 from cases.common import (
-    ANY, FINE, LINK, NO, PACKET, PAIR, STORED, STORED_CERTIFICATE, STORED_MOVED, TOY, TWO, UNDECODED, WANTED, Case, Rule, digest, ending, first_line, noted,
+    ANY, FINE, LINK, NO, PACKET, PAIR, STORED, STORED_CERTIFICATE, STORED_MOVED, TOY, TWO, UNDECODED, WANTED, Case, Rule, digest, ending, noted,
 )  # fmt: skip
 from cases.drawn import gaussian, made_rows, spoilt
 from cases.judging import HARD_NOTE, LEFT
 from cases.links import NOISY, NONE, PARITY, SAMPLES, wrong_headers
 from cases.modes import PACKETS, WORDS
-from cases.words import LACKS, WANTED_NORMAL
+from cases.words import WANTED_NORMAL
 
 
 @dataclass
@@ -72,10 +72,12 @@ def rows_effects():
 
 
 def judge_effects():
-    sole, parity, lacks = ended("sole cost -45\n"), ended("parity cost -2\n", NO), ended("", 1, first_line(LACKS))
+    sole, parity = ended("sole cost -45\n"), ended("parity cost -2\n", NO)
+    missing = {"group": "<--group <G>|--modcod <M>>", "groups": "--groups <N>", "q": "--q <Q>"}
     shapes = {"group": (4, 2, "rows: address too large in line 1"), "groups": (2, 1, "rows: too many rows"), "q": (3, 4, "values: too few")}
     for name, (usual, other, text) in shapes.items():
         words = TOY.replace(f"--{name} {usual}", "{}")
+        lacks = ended("", 1, f"s2: missing: {missing[name]}; see s2 judge --help\n")
         yield Effect(f"--{name}", f"judge {words} toy stored", {"": lacks} | each(f"--{name}", (usual, other), (sole, refused(text))))
     zero, long = ended("sole cost 0\n"), {"reads": {"values": 16_200 * b"10 "}}
     yield Effect("--modcod", "judge {} --short made values", each("--modcod", (1, "qpsk1/4", 2), (zero, zero, refused(OTHER_SHORT[0]))), long)

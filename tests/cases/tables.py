@@ -1,10 +1,9 @@
 """`table`, and the note of rows that are not the standard's. Of the standard's rows there are none here: `bench/rows_sums --check`
 tries those that a user has."""
-from cases.common import ANY, FAULT, LINK, NO, WANTED, Case, fault, first_line, option
+from cases.common import ANY, LINK, NO, WANTED, Case, fault, first_line, misuse, option
 from cases.drawn import made_rows
 from cases.words import WANTED_NORMAL
 
-LACKS = "error: the following required arguments were not provided:"
 OTHER = "other: line 1\n"
 RUN = "run --seed 1 --level 0"
 
@@ -38,9 +37,9 @@ CASES = [
     fault(f"table {LINK} /dev/zero", "file too long"),
     fault("table --modcod 11 --short none", "no such mode"),
     fault(f"table {LINK} made", "cannot write", to="/dev/full"),
-    Case("table made", FAULT, errors=first_line(LACKS)),
-    Case(f"table {LINK}", FAULT, errors=first_line(LACKS)),
-    Case(f"table {LINK} --pilots made", FAULT, errors=first_line("error: unexpected argument '--pilots' found")),
+    misuse("table made", "missing: --modcod <M>"),
+    misuse(f"table {LINK}", "missing: <ROWS>"),
+    misuse(f"table {LINK} --pilots made", "--pilots is not an option of table"),
     Case("table --help", out=first_line("Tells whether rows are the standard's")),
     Case("table --help", out=option("2  ", "other")),
     # a note stands where no fault does, and in front of a report that goes to the errors

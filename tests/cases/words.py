@@ -1,7 +1,8 @@
 """The words of the command line, and the files that they name."""
 import itertools
 
-from cases.common import DIVISORS, FAULT, LINK, NO, PACKET, PAIR, STORED, TOY, TWO, Case, fault, first_line, option, size
+from cases.common import ANY, DIVISORS, FAULT, LINK, NO, PACKET, PAIR, STORED, TOY, TWO, WANTED, Case, fault, first_line, misuse, noted, option, size
+from cases.drawn import made_rows
 
 HELP = """A DVB-S2 modem with maximum-likelihood certificates. \
 Without a command it judges the 20 soft values of standard input under a toy code
@@ -96,28 +97,24 @@ Exits:
 Example:
   s2 scan recording
 """
-LACKS = "error: the following required arguments were not provided:"
-MORE = "\nFor more information, try '--help'.\n"
-NO_BBFRAMES = f"{LACKS}\n  --modcod <M>\n  <BBFRAMES>\n  <PACKETS>\n\nUsage: s2 join --modcod <M> <BBFRAMES> <PACKETS>\n{MORE}"
-NO_CERT = f"{LACKS}\n  <CERT>\n\nUsage: s2 check <ROWS> <CERT>\n{MORE}"
 RUN = "run --modcod 1 --seed 1 --level 1"
 WANTED_NORMAL = "QPSK 1/4, normal wants 45 rows of addresses below 48600"
 
 
-def invalid(value, word, why):
-    return f"error: invalid value '{value}' for '--{word}': {why}"
-
-
 def beyond(value, word, least, most):
-    return invalid(value, word, f"{value} is not in {least}..={most}")
+    return f"--{word}: {value} is not {least} to {most}"
+
+
+def no_mode(value):
+    return f"--modcod: {value} is not 1 to 17 or a name"
 
 
 def no_range(text):
-    return invalid(text, "seeds <A..B>", "it is two numbers of 64 bits with two points between them, the first at most the second, as 1..100")
+    return f"--seeds: {text} is not two numbers of 64 bits with two points between them, the first at most the second, as 1..100"
 
 
 def no_ratio(text):
-    return invalid(text, "esn0 <DB>", "it is -10 to 40, with at most two digits after the point")
+    return f"--esn0: {text} is not -10 to 40, with at most two digits after the point"
 
 
 # What is no Es/N0 that there is: beyond the range, by more than two decimals, and not written so.
@@ -129,7 +126,7 @@ RECORDS = {
     "--codewords": "for the decided bits of each frame, eight to a byte, the first one highest",
     "--bbframes": "for the BBFRAMEs, as `join` reads them: zeros for a frame that is lost, and before one that follows a gap",
 }
-NOT_BOTH = "error: the argument '--uncertified' cannot be used with '--passes <P>'"
+NOT_BOTH = "--uncertified cannot be used with --passes <P>"
 # What is no range of seeds.
 RANGES = ["x", "1", "1..", "..2", "..", "2..1", "1.2", "1...2", "1..2..3", "1..=2", "-1..2", "1..-2", "0x1..2", f"1..{2**64}"]
 # The options of mod that name a file for records, and what each file takes.
@@ -137,115 +134,131 @@ SENT = {
     "--codewords": "for the codeword of each frame, eight bits to a byte, the first one highest, as `demod --codewords` writes it",
     "--bbframes": "for the BBFRAME of each frame, not scrambled, as `join` reads it and `demod --bbframes` writes it",
 }
-# Words that no command has, and the first line on standard error.
+# Words that no command has, and what is said of them.
 MISUSES = [
-    ("send", "error: unrecognized subcommand 'send'"),
-    ("judge toy stored", LACKS),
-    ("judge --group 4 toy stored", LACKS),
-    ("judge --group 4 --groups 2 toy stored", LACKS),
-    ("judge --groups 2 --q 3 toy stored", LACKS),
-    ("judge --short toy stored", LACKS),
-    (f"judge {TOY} --modcod 1 toy stored", "error: the argument '--group <G>' cannot be used with '--modcod <M>'"),
-    (f"judge {TOY} --short toy stored", "error: the argument '--group <G>' cannot be used with '--short'"),
-    ("judge --modcod 1 --q 3 toy stored", "error: the argument '--modcod <M>' cannot be used with '--q <Q>'"),
-    ("judge --modcod 1 --groups 2 toy stored", "error: the argument '--modcod <M>' cannot be used with '--groups <N>'"),
-    ("judge --modcod 18 toy stored", beyond(18, "modcod <M>", 1, 17)),
-    ("check --hard toy certificate", "error: unexpected argument '--hard' found"),
-    (f"judge {TOY} toy", LACKS),
-    ("judge --group 361 --groups 2 --q 3 toy stored", beyond(361, "group <G>", 1, 360)),
-    ("judge --group 4 --groups 0 --q 3 toy stored", beyond(0, "groups <N>", 1, 64799)),
-    ("judge --group 4 --groups 2 --q 64800 toy stored", beyond(64800, "q <Q>", 1, 64799)),
-    (f"judge {TOY} --passes 1001 toy stored", beyond(1001, "passes <P>", 0, 1000)),
-    (f"judge {TOY} --divisor 4096 toy stored", "error: unexpected argument '--divisor' found"),
-    (f"judge {TOY} --factor 7 toy stored", beyond(7, "factor <F>", 8, 16)),
-    (f"judge {TOY} --factor 17 toy stored", beyond(17, "factor <F>", 8, 16)),
-    (f"judge {TOY} --factor x toy stored", invalid("x", "factor <F>", "invalid digit found in string")),
-    (f"judge {TOY} --lock 12 toy stored", "error: unexpected argument '--lock' found"),
+    ("send", "send is not a command"),
+    ("help send", "send is not a command"),
+    ("--esn0 1", "--esn0 is not an option of s2"),
+    ("-x", "-x is not an option of s2"),
+    ("-- check toy certificate", "check is one argument too many"),
+    ("demod -x", "-x is not an option of demod"),
+    ("demod --esn0 1 --modcod 1 made packets out", "--esn0 is not an option of demod"),
+    ("demod --esn0=1 --modcod 1 made packets out", "--esn0 is not an option of demod"),
+    ("check toy certificate --each --each", "--each is given twice"),
+    (f"judge {TOY} --modcod 1 --short toy stored", "--group <G> cannot be used with --modcod <M>, --short"),
+    ("noise --level= --seed 1 packets out", '--level: "" is not 0 to 65535'),
+    ("mod --modcod 1 --dummy \x1b made packets out", '--dummy: "\\u{1b}" is not 0 to 65535'),
+    ("mod --modcod 1 --dummy 1'_for_'--x made packets out", "--dummy: 1'_for_'--x is not 0 to 65535"),
+    ("scan -1", "-1 is not an option of scan"),
+    ("noise --seed 1 --level -1 packets out", beyond(-1, "level", 0, 65535)),
+    ("judge toy stored", "missing: <--group <G>|--modcod <M>>"),
+    ("judge --group 4 toy stored", "missing: --groups <N>, --q <Q>"),
+    ("judge --group 4 --groups 2 toy stored", "missing: --q <Q>"),
+    ("judge --groups 2 --q 3 toy stored", "missing: <--group <G>|--modcod <M>>"),
+    ("judge --short toy stored", "missing: <--group <G>|--modcod <M>>"),
+    (f"judge {TOY} --modcod 1 toy stored", "--group <G> cannot be used with --modcod <M>"),
+    (f"judge {TOY} --short toy stored", "--group <G> cannot be used with --short"),
+    ("judge --modcod 1 --q 3 toy stored", "--modcod <M> cannot be used with --q <Q>"),
+    ("judge --modcod 1 --groups 2 toy stored", "--modcod <M> cannot be used with --groups <N>"),
+    ("judge --modcod 18 toy stored", no_mode(18)),
+    ("check --hard toy certificate", "--hard is not an option of check"),
+    (f"judge {TOY} toy", "missing: <SOFT>"),
+    ("judge --group 361 --groups 2 --q 3 toy stored", beyond(361, "group", 1, 360)),
+    ("judge --group 4 --groups 0 --q 3 toy stored", beyond(0, "groups", 1, 64799)),
+    ("judge --group 4 --groups 2 --q 64800 toy stored", beyond(64800, "q", 1, 64799)),
+    (f"judge {TOY} --passes 1001 toy stored", beyond(1001, "passes", 0, 1000)),
+    (f"judge {TOY} --divisor 4096 toy stored", "--divisor is not an option of judge"),
+    (f"judge {TOY} --factor 7 toy stored", beyond(7, "factor", 8, 16)),
+    (f"judge {TOY} --factor 17 toy stored", beyond(17, "factor", 8, 16)),
+    (f"judge {TOY} --factor x toy stored", beyond("x", "factor", 8, 16)),
+    (f"judge {TOY} --lock 12 toy stored", "--lock is not an option of judge"),
     (f"judge {TOY} --uncertified --passes 0 toy stored", NOT_BOTH),
-    (f"judge {TOY} --passes 96 --uncertified toy stored", "error: the argument '--passes <P>' cannot be used with '--uncertified'"),
-    ("check toy", LACKS),
-    ("mod made packets out", LACKS),
-    ("mod --modcod 1 made packets", LACKS),
-    ("mod --modcod 0 made packets out", beyond(0, "modcod <M>", 1, 17)),
-    ("mod --modcod 18 made packets out", beyond(18, "modcod <M>", 1, 17)),
-    ("mod --modcod 1 --number 262142 made packets out", beyond(262142, "number <N>", 0, 262141)),
-    ("mod --modcod 1 --dummy 65536 made packets out", beyond(65536, "dummy <D>", 0, 65535)),
-    ("mod --modcod 1 --dummy -1 made packets out", "error: unexpected argument '-1' found"),
-    ("mod --modcod 1 --dummy x made packets out", invalid("x", "dummy <D>", "invalid digit found in string")),
-    ("mod --modcod 1 --rounds 1 made packets out", "error: unexpected argument '--rounds' found"),
-    ("mod --modcod 1 --divisor 4096 made packets out", "error: unexpected argument '--divisor' found"),
-    ("mod --modcod 1 --factor 12 made packets out", "error: unexpected argument '--factor' found"),
-    ("mod --modcod 1 --lock 12 made packets out", "error: unexpected argument '--lock' found"),
-    ("noise --seed 1 packets out", LACKS),
-    ("noise --level 1 packets out", LACKS),
-    ("noise --seed 1 --level 1 packets", LACKS),
-    ("noise --seed 1 --level 65536 packets out", beyond(65536, "level <L>", 0, 65535)),
-    ("noise --seed 1 --level 1 --esn0 1 packets out", "error: the argument '--level <L>' cannot be used with '--esn0 <DB>'"),
-    ("noise --seed 1 --esn0 1 --level 1 packets out", "error: the argument '--esn0 <DB>' cannot be used with '--level <L>'"),
-    ("noise --esn0 1 packets out", LACKS),
+    (f"judge {TOY} --passes 96 --uncertified toy stored", "--passes <P> cannot be used with --uncertified"),
+    ("check toy", "missing: <CERT>"),
+    ("check", "missing: <ROWS>, <CERT>"),
+    ("join", "missing: --modcod <M>, <BBFRAMES>, <PACKETS>"),
+    ("mod made packets out", "missing: --modcod <M>"),
+    ("mod --modcod 1 made packets", "missing: <SYMBOLS>"),
+    ("mod --modcod 0 made packets out", no_mode(0)),
+    ("mod --modcod 18 made packets out", no_mode(18)),
+    ("mod --modcod 1 --number 262142 made packets out", beyond(262142, "number", 0, 262141)),
+    ("mod --modcod 1 --dummy 65536 made packets out", beyond(65536, "dummy", 0, 65535)),
+    ("mod --modcod 1 --dummy -1 made packets out", beyond(-1, "dummy", 0, 65535)),
+    ("mod --modcod 1 --dummy x made packets out", beyond("x", "dummy", 0, 65535)),
+    ("mod --modcod 1 --rounds 1 made packets out", "--rounds is not an option of mod"),
+    ("mod --modcod 1 --divisor 4096 made packets out", "--divisor is not an option of mod"),
+    ("mod --modcod 1 --factor 12 made packets out", "--factor is not an option of mod"),
+    ("mod --modcod 1 --lock 12 made packets out", "--lock is not an option of mod"),
+    ("noise --seed 1 packets out", "missing: <--level <L>|--esn0 <DB>>"),
+    ("noise --level 1 packets out", "missing: --seed <S>"),
+    ("noise --seed 1 --level 1 packets", "missing: <OUT>"),
+    ("noise --seed 1 --level 65536 packets out", beyond(65536, "level", 0, 65535)),
+    ("noise --seed 1 --level 1 --esn0 1 packets out", "--level <L> cannot be used with --esn0 <DB>"),
+    ("noise --seed 1 --esn0 1 --level 1 packets out", "--esn0 <DB> cannot be used with --level <L>"),
+    ("noise --esn0 1 packets out", "missing: --seed <S>"),
     *((f"noise --seed 1 --esn0 {text} packets out", no_ratio(text)) for text in RATIOS),
-    ("demod", LACKS),
-    ("demod made packets out", LACKS),
-    ("demod --modcod 1 made packets", LACKS),
-    ("demod --modcod 1 --rounds 0 made packets out", beyond(0, "rounds <K>", 1, 200)),
-    ("demod --modcod 1 --rounds 201 made packets out", beyond(201, "rounds <K>", 1, 200)),
-    ("demod --modcod 1 --passes 1001 made packets out", beyond(1001, "passes <P>", 0, 1000)),
-    ("demod --modcod 1 --factor 7 made packets out", beyond(7, "factor <F>", 8, 16)),
-    ("demod --modcod 1 --factor 17 made packets out", beyond(17, "factor <F>", 8, 16)),
-    ("demod --modcod 1 --lock 11 made packets out", beyond(11, "lock <H>", 12, 40)),
-    ("demod --modcod 1 --lock 41 made packets out", beyond(41, "lock <H>", 12, 40)),
-    ("demod --modcod 1 --every 0 made packets out", beyond(0, "every <N>", 1, 2**32 - 1)),
-    (f"{RUN} --every {2**32} made packets out", beyond(2**32, "every <N>", 1, 2**32 - 1)),
-    ("demod --modcod 1 --every made packets out", invalid("made", "every <N>", "invalid digit found in string")),
-    ("demod --modcod 1 --lock x made packets out", invalid("x", "lock <H>", "invalid digit found in string")),
+    ("demod", "missing: --modcod <M>, <ROWS>, <SYMBOLS>, <PACKETS>"),
+    ("demod made packets out", "missing: --modcod <M>"),
+    ("demod --modcod 1 made packets", "missing: <PACKETS>"),
+    ("demod --modcod 1 --rounds 0 made packets out", beyond(0, "rounds", 1, 200)),
+    ("demod --modcod 1 --rounds 201 made packets out", beyond(201, "rounds", 1, 200)),
+    ("demod --modcod 1 --passes 1001 made packets out", beyond(1001, "passes", 0, 1000)),
+    ("demod --modcod 1 --factor 7 made packets out", beyond(7, "factor", 8, 16)),
+    ("demod --modcod 1 --factor 17 made packets out", beyond(17, "factor", 8, 16)),
+    ("demod --modcod 1 --lock 11 made packets out", beyond(11, "lock", 12, 40)),
+    ("demod --modcod 1 --lock 41 made packets out", beyond(41, "lock", 12, 40)),
+    ("demod --modcod 1 --every 0 made packets out", beyond(0, "every", 1, 2**32 - 1)),
+    (f"{RUN} --every {2**32} made packets out", beyond(2**32, "every", 1, 2**32 - 1)),
+    ("demod --modcod 1 --every made packets out", beyond("made", "every", 1, 2**32 - 1)),
+    ("demod --modcod 1 --lock x made packets out", beyond("x", "lock", 12, 40)),
     ("demod --modcod 1 --uncertified --passes 96 made packets out", NOT_BOTH),
-    *((f"demod --modcod 1 made in out {option}", f"error: a value is required for '{option} <FILE>' but none was supplied") for option in RECORDS),
-    *((f"mod --modcod 1 made packets out {option} file", f"error: unexpected argument '{option}' found") for option in RECORDS if option not in SENT),
-    *((f"mod --modcod 1 made packets out {option}", f"error: a value is required for '{option} <FILE>' but none was supplied") for option in SENT),
-    ("demod --modcod 1 --values one --values two made in out", "error: the argument '--values <FILE>' cannot be used multiple times"),
-    ("demod --modcod 1 --dummy 1 made packets out", "error: unexpected argument '--dummy' found"),
-    ("demod --modcod 1 --seed 1 made packets out", "error: unexpected argument '--seed' found"),
-    ("run --modcod 1 --seed 1 made packets out", LACKS),
-    ("run --modcod 1 --level 1 made packets out", LACKS),
-    ("run --modcod 1 --esn0 1 made packets out", LACKS),
-    (f"{RUN} --esn0 1 made packets out", "error: the argument '--level <L>' cannot be used with '--esn0 <DB>'"),
-    (f"{RUN} --seeds 1..2 made packets out", "error: the argument '--seed <S>' cannot be used with '--seeds <A..B>'"),
-    ("run --modcod 1 --seeds 1..2 --seed 1 --level 1 made packets out", "error: the argument '--seeds <A..B>' cannot be used with '--seed <S>'"),
-    ("run --modcod 1 --seeds 1..2 made packets out", LACKS),
-    ("run --modcod 1 --seeds --level 1 made packets out", "error: a value is required for '--seeds <A..B>' but none was supplied"),
+    *((f"demod --modcod 1 made in out {option}", f"{option}: the value is missing") for option in RECORDS),
+    *((f"mod --modcod 1 made packets out {option} file", f"{option} is not an option of mod") for option in RECORDS if option not in SENT),
+    *((f"mod --modcod 1 made packets out {option}", f"{option}: the value is missing") for option in SENT),
+    ("demod --modcod 1 --values one --values two made in out", "--values <FILE> is given twice"),
+    ("demod --modcod 1 --dummy 1 made packets out", "--dummy is not an option of demod"),
+    ("demod --modcod 1 --seed 1 made packets out", "--seed is not an option of demod"),
+    ("run --modcod 1 --seed 1 made packets out", "missing: <--level <L>|--esn0 <DB>>"),
+    ("run --modcod 1 --level 1 made packets out", "missing: <--seed <S>|--seeds <A..B>>"),
+    ("run --modcod 1 --esn0 1 made packets out", "missing: <--seed <S>|--seeds <A..B>>"),
+    (f"{RUN} --esn0 1 made packets out", "--level <L> cannot be used with --esn0 <DB>"),
+    (f"{RUN} --seeds 1..2 made packets out", "--seed <S> cannot be used with --seeds <A..B>"),
+    ("run --modcod 1 --seeds 1..2 --seed 1 --level 1 made packets out", "--seeds <A..B> cannot be used with --seed <S>"),
+    ("run --modcod 1 --seeds 1..2 made packets out", "missing: <--level <L>|--esn0 <DB>>"),
+    ("run --modcod 1 --seeds --level 1 made packets out", "--seeds: the value is missing"),
     *((f"run --modcod 1 --seeds={text} --level 1 made packets out", no_range(text)) for text in RANGES),
-    ("demod --modcod 1 --seeds 1..2 made packets out", "error: unexpected argument '--seeds' found"),
-    ("noise --seeds 1..2 --level 1 packets out", "error: unexpected argument '--seeds' found"),
+    ("demod --modcod 1 --seeds 1..2 made packets out", "--seeds is not an option of demod"),
+    ("noise --seeds 1..2 --level 1 packets out", "--seeds is not an option of noise"),
     *((f"run --modcod 1 --seed 1 --esn0 {text} made packets out", no_ratio(text)) for text in RATIOS),
-    ("run --seed 1 --level 1 made packets out", LACKS),
-    (f"{RUN} made packets", LACKS),
-    (f"{RUN} --dummy 65536 made packets out", beyond(65536, "dummy <D>", 0, 65535)),
-    (f"{RUN} --rounds 201 made packets out", beyond(201, "rounds <K>", 1, 200)),
-    (f"{RUN} --passes 1001 made packets out", beyond(1001, "passes <P>", 0, 1000)),
-    (f"{RUN} --factor 7 made packets out", beyond(7, "factor <F>", 8, 16)),
-    (f"{RUN} --factor 17 made packets out", beyond(17, "factor <F>", 8, 16)),
-    (f"{RUN} --lock 11 made packets out", beyond(11, "lock <H>", 12, 40)),
-    (f"{RUN} --lock 41 made packets out", beyond(41, "lock <H>", 12, 40)),
+    ("run --seed 1 --level 1 made packets out", "missing: --modcod <M>"),
+    (f"{RUN} made packets", "missing: <OUT>"),
+    (f"{RUN} --dummy 65536 made packets out", beyond(65536, "dummy", 0, 65535)),
+    (f"{RUN} --rounds 201 made packets out", beyond(201, "rounds", 1, 200)),
+    (f"{RUN} --passes 1001 made packets out", beyond(1001, "passes", 0, 1000)),
+    (f"{RUN} --factor 7 made packets out", beyond(7, "factor", 8, 16)),
+    (f"{RUN} --factor 17 made packets out", beyond(17, "factor", 8, 16)),
+    (f"{RUN} --lock 11 made packets out", beyond(11, "lock", 12, 40)),
+    (f"{RUN} --lock 41 made packets out", beyond(41, "lock", 12, 40)),
     (f"{RUN} --uncertified --passes 0 made packets out", NOT_BOTH),
-    (f"{RUN} --tuned=1 made packets out", "error: unexpected value '1' for '--tuned' found; no more were expected"),
-    ("scan", LACKS),
-    ("scan one other", "error: unexpected argument 'other' found"),
-    ("scan --modcod 1 one", "error: unexpected argument '--modcod' found"),
-    ("join frames out", LACKS),
-    ("join --modcod 1 frames", LACKS),
-    ("join --modcod 0 frames out", beyond(0, "modcod <M>", 1, 17)),
-    ("join --modcod 18 frames out", beyond(18, "modcod <M>", 1, 17)),
-    ("join --modcod 1 --pilots frames out", "error: unexpected argument '--pilots' found"),
-    ("audit --modcod 1 made in report", LACKS),
-    ("audit made in report certificates", LACKS),
-    ("audit --modcod 18 made in report certificates", beyond(18, "modcod <M>", 1, 17)),
-    ("audit --modcod 1 --number 262142 made in report certificates", beyond(262142, "number <N>", 0, 262141)),
-    ("audit --modcod 1 --tuned made in report certificates", "error: unexpected argument '--tuned' found"),
-    ("audit --modcod 1 --rounds 50 made in report certificates", "error: unexpected argument '--rounds' found"),
-    (f"rows {PAIR} --weight 0 --seed 1", beyond(0, "weight <W>", 1, 24)),
-    (f"rows {PAIR} --weight 25 --seed 1", beyond(25, "weight <W>", 1, 24)),
-    (f"rows {PAIR} --weight 1 --seed -1", "error: unexpected argument '-1' found"),
-    (f"rows {PAIR} --weight 1 --seed {2**64}", invalid(2**64, "seed <S>", "number too large to fit in target type")),
+    (f"{RUN} --tuned=1 made packets out", "--tuned takes no value"),
+    ("scan", "missing: <SYMBOLS>"),
+    ("scan one other", "other is one argument too many"),
+    ("scan --modcod 1 one", "--modcod is not an option of scan"),
+    ("join frames out", "missing: --modcod <M>"),
+    ("join --modcod 1 frames", "missing: <PACKETS>"),
+    ("join --modcod 0 frames out", no_mode(0)),
+    ("join --modcod 18 frames out", no_mode(18)),
+    ("join --modcod 1 --pilots frames out", "--pilots is not an option of join"),
+    ("audit --modcod 1 made in report", "missing: <CERTIFICATES>"),
+    ("audit made in report certificates", "missing: --modcod <M>"),
+    ("audit --modcod 18 made in report certificates", no_mode(18)),
+    ("audit --modcod 1 --number 262142 made in report certificates", beyond(262142, "number", 0, 262141)),
+    ("audit --modcod 1 --tuned made in report certificates", "--tuned is not an option of audit"),
+    ("audit --modcod 1 --rounds 50 made in report certificates", "--rounds is not an option of audit"),
+    (f"rows {PAIR} --weight 0 --seed 1", beyond(0, "weight", 1, 24)),
+    (f"rows {PAIR} --weight 25 --seed 1", beyond(25, "weight", 1, 24)),
+    (f"rows {PAIR} --weight 1 --seed -1", "--seed: -1 is not a number of 64 bits"),
+    (f"rows {PAIR} --weight 1 --seed {2**64}", f"--seed: {2**64} is not a number of 64 bits"),
 ]
 # Arguments that are not UTF-8, as the errors show them. The byte 255 is in no text.
 NO_TEXTS = [
@@ -256,14 +269,12 @@ NO_TEXTS = [
     ("\udcff", "\ufffd"),
     (f"scan {100 * 'long'}\udcff", f"{100 * 'long'}\ufffd"),
 ]
-# What is no divisor, and what it is like, if anything.
+# What is no divisor.
 POSSIBLE = f"[possible values: {', '.join(map(str, DIVISORS))}]"
-NO_DIVISORS = [("4095", 4096), ("0", 4096), ("04096", 4096), ("x", None), ("131072", None)]
-LACKS_DIVISOR = f"error: a value is required for '--divisor <D>' but none was supplied\n  {POSSIBLE}\n{MORE}"
+NO_DIVISORS = ["4095", "0", "04096", "x", "131072"]
 # What may decide the exit of a reception, and what may not.
 BYS = "[possible values: certainty, delivery]"
 NO_BYS = ["deliver", "Delivery", "0", "certainty,delivery"]
-LACKS_BY = f"error: a value is required for '--exit-by <BY>' but none was supplied\n  {BYS}\n{MORE}"
 ABOUTS = {
     "modes": "Lists the modes",
     "rows": "Prints a row file that a seed determines",
@@ -302,6 +313,9 @@ WORDS = [
     ("mod", "--pilots", "Frames with pilot blocks; takes no value"),
     ("mod", "--number <N>", "Scrambling number, 0 to 262141 [default: 0]"),
     ("mod", "--ro <R>", "0 for 0.35, 1 for 0.25, 2 for 0.20 [default: 0]"),
+    *((name, "--ro <R>", "without effect: headers of any roll-off are received [default: 0]") for name in ("demod", "audit")),
+    ("run", "--ro <R>", "0 for 0.35, 1 for 0.25, 2 for 0.20 [default: 0]"),
+    *((name, "frame I at SYMBOL VERDICT lost", "or --number or ROWS are not the sender's") for name in ("demod", "run")),
     ("mod", "--dummy <D>", "0 to 65535: 0 for none [default: 0]"),
     ("noise", "--level <L>", "0.816 L in each component, where a QPSK point has 700"),
     *((name, "--esn0 <DB>", "Gaussian noise, for symbols of the amplitude that `mod` sends") for name in ("noise", "run")),
@@ -361,7 +375,7 @@ QUIET = [name for name in LINES if name not in ("scan", "join", "audit")]
 
 def refused(word, name):
     """A command that does not know a word."""
-    return Case(f"{LINES[name]} {word}", FAULT, errors=first_line(f"error: unexpected argument '{word}' found"))
+    return misuse(f"{LINES[name]} {word}", f"{word} is not an option of {name}")
 
 
 def taken(word, name):
@@ -384,10 +398,18 @@ ENDED = {
 }
 
 
-def no_divisor(command, value, like):
-    tip = f"\n  tip: a similar value exists: '{like}'\n" if like else ""
-    line = f"error: invalid value '{value}' for '--divisor <D>'\n  {POSSIBLE}\n{tip}{MORE}"
-    return Case(f"{command} --divisor {value} made packets old", FAULT, errors=line)
+def no_divisor(command, value):
+    return misuse(f"{command} --divisor {value} made packets old", f"--divisor: {value} is not {' or '.join(map(str, DIVISORS))}")
+
+
+MARK, LONG_NAME = b"\xef\xbb\xbf", 300 * "n"
+MARKED = {"made": made_rows(360, 9, 36, 3, 1), "toy": b"0 4 8\n0 1 2\n", "stored": STORED}
+
+
+def marked(words, wanted, text, name):
+    """A command that reads a file of numbers behind a byte order mark."""
+    after = "s2: note: marked: begins with a byte order mark: tail -c +4 removes it\n"
+    return Case(words, FAULT, errors=f"{noted(wanted) if wanted else ''}s2: {text}\n{after}", reads={"marked": MARK + MARKED[name]})
 
 
 # Commands that name a file that is not there, and its name.
@@ -490,20 +512,34 @@ CASES = [
     *(refused("--figures", name) for name in LINES if name not in STRICT),
     *(refused("--each", name) for name in LINES if name not in ("judge", "check")),
     Case("--help", FAULT, to="/dev/full"),
-    Case("check toy", FAULT, errors=NO_CERT),
-    Case("join", FAULT, errors=NO_BBFRAMES),
-    *(Case(words, FAULT, errors=f"{line}\n{MORE}") for words, line in MISUSES if " is not in " in line),
-    *(Case(words, FAULT, errors=first_line(line)) for words, line in MISUSES),
-    *(Case(words, FAULT, errors=f"error: invalid UTF-8 in the argument '{shown}'\n\nUsage: s2 [COMMAND]\n{MORE}") for words, shown in NO_TEXTS),
+    *(misuse(words, text) for words, text in MISUSES),
+    *(misuse(words, f"{shown} is not text in UTF-8", "s2 --help") for words, shown in NO_TEXTS),
     Case(f"mod {LINK} made caf\u00e9 out", out="packets 2 frames 2\n", reads={"caf\u00e9": 2 * PACKET}, writes={"out": size(65_520)}),
-    *(no_divisor(command, *pair) for command in RECEIVING for pair in NO_DIVISORS),
-    *(Case(f"{command} made packets old --exit-by", FAULT, errors=LACKS_BY) for command in RECEIVING),
-    *(Case(f"{command} --exit-by {value} made packets old", FAULT, errors=first_line(invalid(value, "exit-by <BY>", "").rstrip(": "))) for command in RECEIVING for value in NO_BYS),
-    *(Case(f"{command} made packets old --divisor", FAULT, errors=LACKS_DIVISOR) for command in (*RECEIVING, "audit --modcod 1")),
+    *(no_divisor(command, value) for command in RECEIVING for value in NO_DIVISORS),
+    *(misuse(f"{command} made packets old --divisor", "--divisor: the value is missing") for command in (*RECEIVING, "audit --modcod 1")),
+    *(misuse(f"{command} made packets old --exit-by", "--exit-by: the value is missing") for command in RECEIVING),
+    *(misuse(f"{command} --exit-by {value} made packets old", f"--exit-by: {value} is not certainty or delivery") for command in RECEIVING for value in NO_BYS),
     *(Case(f"{name} --help", out=option("--divisor <D>", f" [default: 4096] {POSSIBLE}")) for name in ("demod", "run", "audit")),
     *(Case(f"{name} --help", out=option("--factor <F>", " [default: 12]")) for name in DECIDING),
     *(Case(f"{name} --help", out=option("--lock <H>", "12 to 40; elsewhere 12 may [default: 12]")) for name in STRICT),
     *(fault(words, f"cannot open {name}") for words, name in MISSING),
+    # the cause stands before it, also with --quiet
+    fault("mod --modcod 1 --quiet none packets old", "cannot open none"),
+    fault("mod --modcod 1 made packets old/out", "cannot open old/out", cause="Not a directory", reads={"old": b"old"}),
+    fault("scan old/out", "cannot open old/out", cause="Not a directory", reads={"old": b"old"}),
+    fault(f"scan {LONG_NAME}", f"cannot open {LONG_NAME}", cause="File name too long"),
+    fault(f"demod --modcod 1 --values {LONG_NAME} made packets out", f"cannot open {LONG_NAME}", cause="File name too long", writes={"out": b""}),
+    fault("mod --modcod 1 none packets none", "cannot open none"),
+    fault("scan .", "cannot read"),
+    fault("join --modcod 1 --short . out", "cannot read", writes={"out": b""}),
+    fault(f"audit {LINK} . empty empty empty", "cannot read", reads={"empty": b""}),
+    marked(f"table {LINK} marked", WANTED, "rows: not a number in line 1", "made"),
+    marked(f"mod {LINK} --quiet marked packets old", None, "rows: not a number in line 1", "made"),
+    marked(f"judge {TOY} marked stored", None, "rows: not a number in line 1", "toy"),
+    marked(f"judge {TOY} toy marked", None, "values: not a number in line 1", "stored"),
+    marked("check marked certificate", None, "rows: not a number in line 1", "toy"),
+    # one that is read as symbols is none
+    Case("scan marked", NO, out=ANY, reads={"marked": MARK + 357 * b"a"}),
     # the certificate's file is made before the others are opened
     fault(f"judge {TOY} --cert out none stored", "cannot open none", writes={"out": b""}),
     *(fault(words, text) for words, text in REFUSED),

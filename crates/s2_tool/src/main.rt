@@ -1,6 +1,7 @@
 //! The program.
 #![tactic(auto)]
 
+mod causes;
 mod link_request;
 mod opening;
 mod options;
@@ -8,8 +9,9 @@ mod records;
 mod serve;
 mod thinned;
 
+use crate::causes::takes_output;
 use crate::opening::{errors_of, screen_beside};
-use crate::serve::{every_of, explain, request_of, run_request, takes_output, words_given};
+use crate::serve::{every_of, explain, request_of, run_request, words_given};
 use s2_progress::Terminal;
 use std::process::ExitCode;
 
@@ -23,7 +25,7 @@ fn main(rt: HostRuntime) -> ExitCode {
             let mut notes = errors_of(&terminal);
             run_request(&rt, &terminal, &request, &mut screen, &mut notes)
         }
-        Err(error) => explain(&rt, &terminal, &error),
+        Err(unread) => explain(&rt, &terminal, &unread),
     };
     exit.code()
 }

@@ -3,18 +3,17 @@ ghost use Rattle.std.specs.Prelude.{OnErr};
 ghost use Rattle.s2_mode.specs.Counts.{CanCount};
 ghost use Rattle.s2_console.specs.Screens.{CanNote};
 
+use crate::causes::{note_cause, note_folders, note_marks};
 use crate::link_request::{LinkRequest, setup_of, with_link};
 use crate::opening::{
     open_audit, open_input, open_inputs, open_join, open_judge, open_noise, screen_beside, show_on,
 };
 use crate::options::{channel_of, demod_options, divisor_of, judging_of, run_options};
-use clap::Error;
-use clap::error::ErrorKind;
 use s2_audit::audit_command;
 use s2_commands::{noise_command, rows_command};
 use s2_console::{Console, Exit, Fault};
 use s2_evidence::{check_command, check_each_command};
-use s2_files::{Disk, Role, is_standard};
+use s2_files::Disk;
 use s2_join::join_command;
 use s2_judging::{judge_command, judge_each_command, self_command};
 use s2_mode::{CountedWrite, Counting, FaultText, Mode, Shape};
@@ -24,8 +23,7 @@ use s2_scan::scan_command;
 use s2_table::table_command;
 use s2_words::{
     AuditWords, CheckWords, CodeWords, DemodWords, JoinWords, JudgeWords, ModesWords, NoiseWords,
-    RecordWords, Request, RowsWords, RunWords, ScanWords, ShapeWords, TableWords, not_text,
-    read_words,
+    Request, RowsWords, RunWords, ScanWords, ShapeWords, TableWords, Unread, not_text, read_words,
 };
 use std::alloc::{AllocError, Global};
 use std::env::FillError;
@@ -78,11 +76,11 @@ pub(crate) fn words_given<R: Env + AllocGlobal>(rt: &R) -> Words {
 }
 
 /// The request of the arguments. Without memory for these it is a fault, as it is while they are read.
-pub(crate) fn request_of<'a>(alloc: Global, words: &'a Words) -> Result<Request<'a>, Error> {
+pub(crate) fn request_of<'a>(alloc: Global, words: &'a Words) -> Result<Request<'a>, Unread> {
     match words {
         Words::Text(words) => read_words(alloc, words),
         Words::NotText(word) => Err(not_text(alloc, word.as_str())?),
-        Words::NoMemory => Err(AllocError.into()),
+        Words::NoMemory => Err(Unread::NoMemory),
     }
 }
 
@@ -91,14 +89,18 @@ pub(crate) fn request_of<'a>(alloc: Global, words: &'a Words) -> Result<Request<
 pub(crate) fn explain<R: Disk + Print + Eprint>(
     rt: &R,
     terminal: &Terminal<'_, R>,
-    error: &Error,
+    unread: &Unread,
 ) -> Exit {
-    if error.kind() == ErrorKind::OutOfMemory {
-        return lacks_memory(&mut screen_beside(terminal, false, 0));
-    }
-    match error.print(rt) {
-        Ok(()) if !error.use_stderr() => Exit::Fine,
-        _ => Exit::Fault,
+    match unread {
+        Unread::NoMemory => lacks_memory(&mut screen_beside(terminal, false, 0)),
+        Unread::Asked(help) => match help.print(rt) {
+            Ok(()) => Exit::Fine,
+            Err(_) => Exit::Fault,
+        },
+        Unread::Fault(line) => {
+            let _ = rt.eprint(line);
+            Exit::Fault
+        }
     }
 }
 
@@ -107,31 +109,6 @@ fn lacks_memory<O: CountedWrite, E: CountedWrite>(console: &mut Console<O, E>) -
     requires { CanNote console.old }
 {
     console.complain(Fault::NoMemory)
-}
-
-/// Whether a file of this name is standard output, if a name is given.
-fn is_output(name: Option<&str>) -> bool {
-    match name {
-        Some(name) => is_standard(Role::Output, name),
-        None => false,
-    }
-}
-
-/// Whether records are written to standard output.
-fn has_output(records: RecordWords<'_>) -> bool {
-    records.names().into_iter().any(is_output)
-}
-
-/// Whether a request writes a file to standard output.
-pub(crate) fn takes_output(request: &Request<'_>) -> bool {
-    match request {
-        Request::Judge(words) => is_output(words.certificate),
-        Request::Mod(words) => is_output(Some(words.symbols)) || has_output(words.records),
-        Request::Demod(words) => is_output(Some(words.packets)) || has_output(words.records),
-        Request::Run(words) => is_output(Some(words.to)) || has_output(words.records),
-        Request::Join(words) => is_output(Some(words.packets)),
-        _ => false,
-    }
 }
 
 /// Of how many frames one has its line in the report of a request, 0 if each has it.
@@ -156,7 +133,8 @@ fn conclude<O: CountedWrite, E: CountedWrite>(
     }
 }
 
-/// Runs the command of a request on its files. A fault before that is reported. `notes` takes the notes before a report.
+/// Runs the command of a request on its files. A fault before that is reported. Notes give the cause of a fault, if the
+/// host knows it. `notes` takes the notes before a report.
 pub(crate) fn run_request<R: Disk + Clock + AllocGlobal, O: CountedWrite, E: CountedWrite>(
     rt: &R,
     terminal: &Terminal<'_, R>,
@@ -167,25 +145,54 @@ pub(crate) fn run_request<R: Disk + Clock + AllocGlobal, O: CountedWrite, E: Cou
     requires console { CanNote console.old }
     requires notes { CanCount (E.count notes.old) }
 {
+    note_folders(rt, terminal, request);
+    let ended = serve_request(rt, terminal, request, console, notes);
+    note_fault(rt, terminal, request, &ended);
+    let exit = conclude(ended, console);
+    if exit == Exit::Fault {
+        note_marks(rt, terminal, request);
+    }
+    exit
+}
+
+/// Notes the cause of a fault that came before a command.
+fn note_fault<R: Disk + AllocGlobal>(
+    rt: &R,
+    terminal: &Terminal<'_, R>,
+    request: &Request<'_>,
+    ended: &Result<Exit, Fault<'_>>,
+) {
+    if let Err(Fault::Open(name)) = ended {
+        note_cause(rt, terminal, request, name);
+    }
+}
+
+/// Runs the command of a request on its files, or returns the fault before that.
+fn serve_request<'a, R: Disk + Clock + AllocGlobal, O: CountedWrite, E: CountedWrite>(
+    rt: &R,
+    terminal: &Terminal<'_, R>,
+    request: &Request<'a>,
+    console: &mut Console<O, E>,
+    notes: &mut E,
+) -> Result<Exit, Fault<'a>>
+    requires console { CanNote console.old }
+    requires notes { CanCount (E.count notes.old) }
+    ensures { OnErr result (CanCount console.new.errors_failed) }
+{
     match request {
-        Request::Own => self_command(rt.alloc(), &mut Counting::new(rt.input()), console),
-        Request::Modes(words) => conclude(serve_modes(rt, words, console), console),
-        Request::Rows(words) => conclude(serve_rows(rt, words, console), console),
-        Request::Table(words) => conclude(serve_table(rt, words, console), console),
-        Request::Judge(words) => conclude(serve_judge(rt, words, console), console),
-        Request::Check(words) => conclude(serve_check(rt, words, console), console),
-        Request::Noise(words) => conclude(serve_noise(rt, terminal, words, console), console),
-        Request::Scan(words) => conclude(serve_scan(rt, words, console), console),
-        Request::Join(words) => conclude(serve_join(rt, words, console), console),
-        Request::Audit(words) => conclude(serve_audit(rt, words, console), console),
-        Request::Mod(words) => {
-            let request = LinkRequest::Mod(words);
-            conclude(with_link(rt, terminal, request, console, notes), console)
-        }
-        Request::Demod(words) => {
-            conclude(serve_demod(rt, terminal, words, console, notes), console)
-        }
-        Request::Run(words) => conclude(serve_run(rt, terminal, words, console, notes), console),
+        Request::Own => Ok(self_command(rt.alloc(), &mut Counting::new(rt.input()), console)),
+        Request::Modes(words) => serve_modes(rt, words, console),
+        Request::Rows(words) => serve_rows(rt, words, console),
+        Request::Table(words) => serve_table(rt, words, console),
+        Request::Judge(words) => serve_judge(rt, words, console),
+        Request::Check(words) => serve_check(rt, words, console),
+        Request::Noise(words) => serve_noise(rt, terminal, words, console),
+        Request::Scan(words) => serve_scan(rt, words, console),
+        Request::Join(words) => serve_join(rt, words, console),
+        Request::Audit(words) => serve_audit(rt, words, console),
+        Request::Mod(words) => with_link(rt, terminal, LinkRequest::Mod(words), console, notes),
+        Request::Demod(words) => serve_demod(rt, terminal, words, console, notes),
+        Request::Run(words) => serve_run(rt, terminal, words, console, notes),
     }
 }
 

@@ -1,10 +1,10 @@
 //! The arguments of all commands: options and files, with their forms, ranges, defaults and help.
 use crate::limits::{
     LEAST_FACTOR, LEAST_LOCK, MAX_ADDRESSES, MAX_FACTOR, MAX_LOCK, MAX_NUMBER, MAX_PASSES,
-    MAX_ROLL_OFF, MAX_ROUNDS,
+    MAX_ROUNDS,
 };
 use clap::builder::ValueParser;
-use s2_mode::{MAX_BITS, MAX_GROUP, MAX_MODCOD};
+use s2_mode::{MAX_BITS, MAX_GROUP};
 
 /// The decimal digits of the default rounds.
 pub(crate) const DEFAULT_ROUNDS_TEXT: &str = "50";
@@ -30,7 +30,7 @@ pub(crate) const DELIVERY_TEXT: &str = "delivery";
 /// What may decide the exit of a reception.
 pub(crate) const EXIT_BY_TEXTS: [&str; 2] = [CERTAINTY_TEXT, DELIVERY_TEXT];
 
-/// The value of an option.
+/// The value of an option. What the parser takes as any text is tested when it is read.
 #[derive(Clone, Copy)]
 pub(crate) struct Value {
     /// Its name in the help.
@@ -39,10 +39,6 @@ pub(crate) struct Value {
     pub default: Option<&'static str>,
     /// Whether the option must be given.
     pub is_required: bool,
-    /// Whether it may begin with a minus.
-    pub is_signed: bool,
-    /// Whether a value that is no number is interpreted by the reader, or refused with those that are accepted.
-    pub has_names: bool,
 }
 
 /// The form of an argument on the command line.
@@ -70,8 +66,6 @@ const FILE: Value = Value {
     allowed: ValueParser::String,
     default: None,
     is_required: false,
-    is_signed: false,
-    has_names: false,
 };
 
 /// Any number of 64 bits.
@@ -153,10 +147,7 @@ pub(crate) const MODCOD: Argument = Argument {
     name: "modcod",
     form: Form::Valued(Value {
         name: "M",
-        allowed: ValueParser::Signed(1, MAX_MODCOD as i64),
         is_required: true,
-        is_signed: true,
-        has_names: true,
         ..FILE
     }),
     help: "MODCOD, 1 to 17, or the mode's name, in small letters or in capitals, as qpsk3/4 or 8PSK2/3: `s2 modes` lists them",
@@ -164,13 +155,7 @@ pub(crate) const MODCOD: Argument = Argument {
 
 /// The same option, for a command that can do without it.
 pub(crate) const MODCOD_OR_NONE: Argument = Argument {
-    form: Form::Valued(Value {
-        name: "M",
-        allowed: ValueParser::Signed(1, MAX_MODCOD as i64),
-        is_signed: true,
-        has_names: true,
-        ..FILE
-    }),
+    form: Form::Valued(Value { name: "M", ..FILE }),
     ..MODCOD
 };
 
@@ -201,13 +186,16 @@ pub(crate) const ROLL_OFF: Argument = Argument {
     name: "ro",
     form: Form::Valued(Value {
         name: "R",
-        allowed: ValueParser::Signed(0, MAX_ROLL_OFF as i64),
         default: Some("0"),
-        is_signed: true,
-        has_names: true,
         ..FILE
     }),
     help: "Roll-off that headers tell: 0 for 0.35, 1 for 0.25, 2 for 0.20",
+};
+
+/// The same option, for a command that only receives.
+pub(crate) const ROLL_OFF_READ: Argument = Argument {
+    help: "Roll-off of the sender, 0 to 2, without effect: headers of any roll-off are received",
+    ..ROLL_OFF
 };
 
 pub(crate) const DUMMY: Argument = Argument {
@@ -317,21 +305,13 @@ pub(crate) const LEVEL: Argument = Argument {
 
 pub(crate) const ESN0: Argument = Argument {
     name: "esn0",
-    form: Form::Valued(Value {
-        name: "DB",
-        is_signed: true,
-        ..FILE
-    }),
+    form: Form::Valued(Value { name: "DB", ..FILE }),
     help: "Es/N0 in dB, -10 to 40 with two decimals at most: Gaussian noise, for symbols of the amplitude that `mod` sends",
 };
 
 pub(crate) const RATE: Argument = Argument {
     name: "rate",
-    form: Form::Valued(Value {
-        name: "R",
-        is_signed: true,
-        ..FILE
-    }),
+    form: Form::Valued(Value { name: "R", ..FILE }),
     help: "Symbols a second, 1 to 1000000000, also as 27.5M, 27.5e6 or 27500k: adds the bits a second of the transport stream",
 };
 
@@ -349,7 +329,6 @@ pub(crate) const SEEDS: Argument = Argument {
     name: "seeds",
     form: Form::Valued(Value {
         name: "A..B",
-        is_signed: true,
         ..FILE
     }),
     help: "In the place of --seed: one run for each seed from A to B, both among them, and a last line of sums",

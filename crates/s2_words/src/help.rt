@@ -139,7 +139,7 @@ macro_rules! report {
             "\
 The report, a line for each frame as it comes, and one for the end:
   frame I at SYMBOL VERDICT fixed COUNT       delivered; the outer code corrected COUNT bits
-  frame I at SYMBOL VERDICT lost              not delivered: try --rounds 200, or the noise is too strong
+  frame I at SYMBOL VERDICT lost              not delivered: noise is too strong (try --rounds 200), or --number or ROWS are not the sender's
   cut at SYMBOL symbols COUNT                 the symbols end within a frame, of which COUNT are there
   end frames F delivered D packets P bad B    of F frames D were delivered, P packets written, B had a wrong CRC-8
 ",

@@ -1,8 +1,9 @@
 //! The command line of the program: arguments in, a [`Request`] out.
 //!
 //! One table has each command's options, their ranges and their help. [`read_words`] parses the arguments with
-//! clap, using this table. It returns the request, with every option in its place, or clap's error. This is help,
-//! the version, a usage fault, or out of memory. [`not_text`] makes the fault of an argument that is not UTF-8.
+//! clap, using this table. It returns the request, with every option in its place, or why there is none: help or the
+//! version was asked for, or memory ran out, or there is a usage fault, which is one line. [`not_text`] makes the
+//! fault of an argument that is not UTF-8.
 //!
 //! ```text
 //! match read_words(alloc, &words)? {
@@ -15,6 +16,7 @@ mod arguments;
 mod decibels;
 mod help;
 pub mod limits;
+mod misuse;
 mod options;
 mod parser;
 mod reading;
@@ -22,6 +24,7 @@ mod refusal;
 mod request;
 mod seed_range;
 mod table;
+mod unread;
 
 pub use reading::read_words;
 pub use refusal::not_text;
@@ -31,3 +34,4 @@ pub use request::{
     Request, RowsWords, RunWords, ScanWords, Seeds, ShapeWords, StrengthWords, TableWords,
     TuningWords,
 };
+pub use unread::Unread;

@@ -2,45 +2,27 @@
 use crate::arguments::{Argument, Form, Value};
 use crate::help::{ABOUT, MORE, more_of};
 use crate::table::{Choice, Entry, Name, Rule, arguments_of, choices_of, commands, rule_of};
-use clap::builder::ValueParser;
 use clap::{Arg, ArgAction, ArgGroup, Command};
 use std::alloc::{AllocError, Global};
 
-/// The values that may be given by a name, read.
-#[derive(Clone, Copy)]
-pub(crate) enum Values {
-    /// Numbers, which the parser tests.
-    Numbers,
-    /// Any text.
-    Texts,
-}
-
-/// What the parser accepts as a value.
-fn allowed_of(value: Value, values: Values) -> ValueParser<'static> {
-    match values {
-        Values::Texts if value.has_names => ValueParser::String,
-        _ => value.allowed,
-    }
-}
-
-/// An option with a value.
-fn valued<'a>(arg: Arg<'a>, value: Value, values: Values) -> Arg<'a> {
+/// An option with a value. What begins with a minus and is a number is its value too, so that a fault is one of the value.
+fn valued<'a>(arg: Arg<'a>, value: Value) -> Arg<'a> {
     let arg = arg
         .value_name(value.name)
-        .value_parser(allowed_of(value, values))
+        .value_parser(value.allowed)
         .required(value.is_required)
-        .allow_negative_numbers(value.is_signed);
+        .allow_negative_numbers(true);
     match value.default {
         Some(text) => arg.default_value(text),
         None => arg,
     }
 }
 
-fn arg_of<'a>(alloc: Global, argument: Argument, values: Values) -> Arg<'a> {
+fn arg_of<'a>(alloc: Global, argument: Argument) -> Arg<'a> {
     let arg = Arg::new(alloc, argument.name).help(argument.help);
     match argument.form {
         Form::Flag => arg.long(argument.name).action(ArgAction::SetTrue),
-        Form::Valued(value) => valued(arg.long(argument.name), value, values),
+        Form::Valued(value) => valued(arg.long(argument.name), value),
         Form::File => arg.required(true),
     }
 }
@@ -56,11 +38,11 @@ fn by_rule<'a>(arg: Arg<'a>, rule: Option<Rule>) -> Result<Arg<'a>, AllocError> 
 }
 
 /// The arguments of a command.
-fn args_of<'a>(alloc: Global, command: Name, values: Values) -> Result<Vec<Arg<'a>>, AllocError> {
+fn args_of<'a>(alloc: Global, command: Name) -> Result<Vec<Arg<'a>>, AllocError> {
     let mut args = Vec::new(alloc);
     for argument in arguments_of(command) {
         let rule = rule_of(command, argument.name);
-        args.push(by_rule(arg_of(alloc, *argument, values), rule)?)?;
+        args.push(by_rule(arg_of(alloc, *argument), rule)?)?;
     }
     Ok(args)
 }
@@ -80,12 +62,8 @@ fn groups_of<'a>(alloc: Global, command: Name) -> Result<Vec<ArgGroup<'a>>, Allo
 }
 
 /// A command. Its parts are made first: a vector is dropped in one step, and a command in some twenty.
-pub(crate) fn command_of<'a>(
-    alloc: Global,
-    entry: Entry,
-    values: Values,
-) -> Result<Command<'a>, AllocError> {
-    let args = args_of(alloc, entry.command, values)?;
+fn command_of<'a>(alloc: Global, entry: Entry) -> Result<Command<'a>, AllocError> {
+    let args = args_of(alloc, entry.command)?;
     let groups = groups_of(alloc, entry.command)?;
     Command::new(alloc, entry.name)
         .about(entry.about)
@@ -95,17 +73,17 @@ pub(crate) fn command_of<'a>(
 }
 
 /// All commands.
-fn commands_of<'a>(alloc: Global, values: Values) -> Result<Vec<Command<'a>>, AllocError> {
+fn commands_of<'a>(alloc: Global) -> Result<Vec<Command<'a>>, AllocError> {
     let mut all = Vec::new(alloc);
     for entry in commands() {
-        all.push(command_of(alloc, *entry, values)?)?;
+        all.push(command_of(alloc, *entry)?)?;
     }
     Ok(all)
 }
 
 /// The parser of all commands.
-pub(crate) fn program<'a>(alloc: Global, values: Values) -> Result<Command<'a>, AllocError> {
-    let all = commands_of(alloc, values)?;
+pub(crate) fn program<'a>(alloc: Global) -> Result<Command<'a>, AllocError> {
+    let all = commands_of(alloc)?;
     Command::new(alloc, "s2")
         .version("0.1")
         .about(ABOUT)

@@ -4,7 +4,7 @@ use crate::decibels::read_esn0;
 use crate::limits::MAX_ROLL_OFF;
 use crate::options::{progress_by, read_modcod};
 use crate::parser::program;
-use crate::refusal::{misused, not_understood, values_in};
+use crate::refusal::{not_understood, unread_of};
 use crate::request::{
     AuditWords, ChannelWords, CheckWords, CodeWords, DemodWords, ExitBy, JoinWords, JudgeWords,
     LinkWords, ModWords, ModesWords, NoiseWords, NoteWords, NumberWords, Progress, RecordWords,
@@ -12,8 +12,9 @@ use crate::request::{
     TuningWords,
 };
 use crate::seed_range::read_seeds;
+use crate::unread::Unread;
+use clap::ArgMatches;
 use clap::parser::ValueSource;
-use clap::{ArgMatches, Error};
 use s2_names::SymbolRate;
 use std::alloc::Global;
 
@@ -317,7 +318,7 @@ fn request_of<'a>(name: &str, m: &ArgMatches<'a>) -> Option<Request<'a>> {
 }
 
 /// The request of parsed arguments.
-fn request_in<'a>(alloc: Global, matches: &ArgMatches<'a>) -> Result<Request<'a>, Error> {
+fn request_in<'a>(alloc: Global, matches: &ArgMatches<'a>) -> Result<Request<'a>, Unread> {
     match matches.subcommand() {
         None => Ok(Request::Own),
         Some((name, inner)) => match request_of(name, inner) {
@@ -327,11 +328,11 @@ fn request_in<'a>(alloc: Global, matches: &ArgMatches<'a>) -> Result<Request<'a>
     }
 }
 
-/// The request of the command line. The parser accepts only arguments from which a request can be made, except
-/// values that are given by a name. Any other argument that it accepted, and an unknown name, are a usage fault.
-pub fn read_words<'a>(alloc: Global, arguments: &'a [String]) -> Result<Request<'a>, Error> {
-    match program(alloc, values_in(arguments))?.try_get_matches_from(arguments) {
+/// The request of the command line, or why there is none. A few values the parser takes as any text: one of these that
+/// cannot be read is a usage fault too.
+pub fn read_words<'a>(alloc: Global, arguments: &'a [String]) -> Result<Request<'a>, Unread> {
+    match program(alloc)?.try_get_matches_from(arguments) {
         Ok(matches) => request_in(alloc, &matches),
-        Err(error) => Err(misused(alloc, arguments, error)?),
+        Err(error) => Err(unread_of(alloc, arguments, error)?),
     }
 }

@@ -1,69 +1,18 @@
-//! Usage faults with the accepted values, for a value given by an unknown name.
+//! Usage faults: each is one line, with what is accepted and the way to the help.
+use crate::arguments::Form;
 use crate::decibels::read_esn0;
+use crate::misuse::{Misuse, misuse_of};
 use crate::options::read_modcod;
-use crate::parser::{Values, command_of, program};
 use crate::reading::roll_off_of;
 use crate::seed_range::read_seeds;
-use crate::table::{Entry, commands};
+use crate::table::{Entry, arguments_of, commands};
+use crate::unread::Unread;
+use clap::builder::ValueParser;
 use clap::error::ErrorKind;
-use clap::{ArgMatches, Command, Error};
+use clap::{ArgMatches, Error};
 use s2_mode::{MAX_MODCOD, Mode, Modulation};
 use s2_names::{Case, SymbolRate, constellation};
 use std::alloc::{AllocError, Global};
-
-/// The value of an option: the next argument, or the text after its equals sign.
-fn given<'a>(arguments: &'a [String], name: &str) -> Option<&'a str> {
-    for (at, argument) in arguments.iter().enumerate() {
-        if let Some(rest) = argument.as_str().strip_prefix(name) {
-            if rest.is_empty() {
-                return Some(arguments.get(at + 1)?.as_str());
-            }
-            if let Some(value) = rest.strip_prefix("=") {
-                return Some(value);
-            }
-        }
-    }
-    None
-}
-
-/// Whether a text is a sign, if any, and digits, which the parser reads as a number or says why it is none.
-fn is_numeral(text: &str) -> bool {
-    let digits = text.strip_prefix("-").unwrap_or(text);
-    for byte in digits.bytes() {
-        if !byte.is_ascii_digit() {
-            return false;
-        }
-    }
-    !digits.is_empty()
-}
-
-/// Whether `--modcod` is given a name.
-fn is_named(arguments: &[String]) -> bool {
-    match given(arguments, "--modcod") {
-        Some(text) => !is_numeral(text),
-        None => false,
-    }
-}
-
-/// The numbers of roll-offs.
-const ROLL_OFFS: [&str; 3] = ["0", "1", "2"];
-
-/// Whether `--ro` is given something else than such a number.
-fn is_other_roll_off(arguments: &[String]) -> bool {
-    match given(arguments, "--ro") {
-        Some(text) => !ROLL_OFFS.contains(&text),
-        None => false,
-    }
-}
-
-/// The values that may be given by a name, to be read.
-pub(crate) fn values_in(arguments: &[String]) -> Values {
-    if is_named(arguments) || is_other_roll_off(arguments) {
-        Values::Texts
-    } else {
-        Values::Numbers
-    }
-}
 
 /// The command of this name.
 fn entry_of(name: &str) -> Option<Entry> {
@@ -75,27 +24,203 @@ fn entry_of(name: &str) -> Option<Entry> {
     None
 }
 
-/// A usage fault of a command, with its usage.
-fn fault_in(alloc: Global, name: &str, message: &str) -> Result<Error, AllocError> {
-    let command = match entry_of(name) {
-        Some(entry) => named_command(alloc, entry)?,
-        None => program(alloc, Values::Numbers)?,
+/// The command of the words, if they name one.
+fn command_in(arguments: &[String]) -> Option<Entry> {
+    entry_of(arguments.get(1)?.as_str())
+}
+
+/// The end of a line: where there is more about a command, or about the program.
+fn push_way(text: &mut String, command: Option<Entry>) -> Result<(), AllocError> {
+    match command {
+        Some(entry) => {
+            let name = entry.name;
+            write!(text, "; see s2 {name} --help\n")
+        }
+        None => text.push_str("; see s2 --help\n"),
+    }
+}
+
+/// Appends a word of the line, in quotes and with its escapes if it is empty or has spaces or control characters.
+fn push_word(text: &mut String, word: &str) -> Result<(), AllocError> {
+    if word.is_empty() || word.bytes().any(|byte| byte <= b' ' || byte == 127) {
+        write!(text, "{word:?}")
+    } else {
+        text.push_str(word)
+    }
+}
+
+/// Appends the numbers or names that a parser accepts.
+fn push_accepted(text: &mut String, parser: ValueParser<'static>) -> Result<(), AllocError> {
+    match parser {
+        ValueParser::Signed(least, most) => write!(text, "{least} to {most}"),
+        ValueParser::Unsigned(_, _) => text.push_str("a number of 64 bits"),
+        ValueParser::Names(names) => push_names(text, names),
+        _ => text.push_str("a value of it"),
+    }
+}
+
+/// Appends names, with a comma between them.
+fn push_names(text: &mut String, names: &[&str]) -> Result<(), AllocError> {
+    let mut between = "";
+    for name in names {
+        text.push_str(between)?;
+        text.push_str(name)?;
+        between = " or ";
+    }
+    Ok(())
+}
+
+/// The parser of an option, by its name in the help, as `--number <N>`.
+fn parser_of(command: Option<Entry>, option: &str) -> ValueParser<'static> {
+    let Some(entry) = command else {
+        return ValueParser::String;
     };
-    fault_of(command, message)
+    for argument in arguments_of(entry.command) {
+        if let Form::Valued(value) = argument.form {
+            if bare(option).strip_prefix("--") == Some(argument.name) {
+                return value.allowed;
+            }
+        }
+    }
+    ValueParser::String
 }
 
-/// A command with its whole name, which stands in its usage.
-fn named_command<'a>(alloc: Global, entry: Entry) -> Result<Command<'a>, AllocError> {
-    let name = format!(in alloc; "s2 {}", entry.name)?;
-    command_of(alloc, entry, Values::Numbers)?.bin_name(name.as_str())
+/// An option without what stands for its value.
+fn bare(option: &str) -> &str {
+    match option.split_once(' ') {
+        Some((name, _)) => name,
+        None => option,
+    }
 }
 
-fn fault_of(mut command: Command<'_>, message: &str) -> Result<Error, AllocError> {
-    command.error(ErrorKind::ValueValidation, message)
+/// Appends that an option does not accept a value.
+fn push_refused(text: &mut String, option: &str, value: &str) -> Result<(), AllocError> {
+    text.push_str(bare(option))?;
+    text.push_str(": ")?;
+    push_word(text, value)?;
+    text.push_str(" is not ")
+}
+
+/// Appends what is said of a word that is neither an option nor a file.
+fn push_unknown(text: &mut String, command: Option<Entry>, word: &str) -> Result<(), AllocError> {
+    push_word(text, word)?;
+    if !word.starts_with('-') {
+        return text.push_str(" is one argument too many");
+    }
+    text.push_str(" is not an option of ")?;
+    match command {
+        Some(entry) => text.push_str(entry.name),
+        None => text.push_str("s2"),
+    }
+}
+
+/// Appends lines of names, with commas between them.
+fn push_lines(alloc: Global, text: &mut String, lines: &str) -> Result<(), AllocError> {
+    let names = lines.replace(alloc, "\n  ", ", ")?;
+    text.push_str(names.as_str())
+}
+
+/// Appends what a mistake is.
+fn push_misuse(
+    alloc: Global,
+    text: &mut String,
+    command: Option<Entry>,
+    misuse: Misuse<'_>,
+) -> Result<(), AllocError> {
+    match misuse {
+        Misuse::Unknown(word) => push_unknown(text, command, word),
+        Misuse::NoCommand(word) => {
+            push_word(text, word)?;
+            text.push_str(" is not a command")
+        }
+        Misuse::Missing(lines) => {
+            text.push_str("missing: ")?;
+            push_lines(alloc, text, lines)
+        }
+        Misuse::Twice(option) => write!(text, "{option} is given twice"),
+        Misuse::Excluded(option, others) => {
+            write!(text, "{option} cannot be used with ")?;
+            push_lines(alloc, text, others)
+        }
+        Misuse::TakesNone(option) => write!(text, "{option} takes no value"),
+        Misuse::LacksValue(option) => {
+            let name = bare(option);
+            write!(text, "{name}: the value is missing")
+        }
+        Misuse::Refused { option, value } => {
+            push_refused(text, option, value)?;
+            push_accepted(text, parser_of(command, option))
+        }
+    }
+}
+
+/// A value given to `--pilots` in the belief that it takes one.
+const SWITCHES: [&str; 8] = ["on", "off", "yes", "no", "true", "false", "1", "0"];
+
+fn is_switch(word: &str) -> bool {
+    for switch in SWITCHES {
+        if switch.eq_ignore_ascii_case(word) {
+            return true;
+        }
+    }
+    false
+}
+
+/// Whether such a value follows `--pilots`.
+fn is_switched(arguments: &[String]) -> bool {
+    let mut behind = false;
+    for argument in arguments {
+        if behind && is_switch(argument.as_str()) {
+            return true;
+        }
+        behind = argument.as_str() == "--pilots";
+    }
+    false
+}
+
+/// The mistake that an error of this kind and this text is about.
+fn mistake_of<'t>(arguments: &[String], kind: ErrorKind, told: &'t str) -> Option<Misuse<'t>> {
+    match misuse_of(kind, told)? {
+        Misuse::Unknown(_) if is_switched(arguments) => Some(Misuse::TakesNone("--pilots")),
+        misuse => Some(misuse),
+    }
+}
+
+/// The line of the usage fault that an error of this kind and this text is.
+fn fault_line(
+    alloc: Global,
+    arguments: &[String],
+    kind: ErrorKind,
+    told: &str,
+) -> Result<String, AllocError> {
+    let command = command_in(arguments);
+    let mut text = String::from_str(alloc, "s2: ")?;
+    match mistake_of(arguments, kind, told) {
+        Some(misuse) => push_misuse(alloc, &mut text, command, misuse)?,
+        None => text.push_str(kind.as_str().unwrap_or("the words are not understood"))?,
+    }
+    push_way(&mut text, command)?;
+    Ok(text)
+}
+
+/// Why words are no request, from the parser's error.
+pub(crate) fn unread_of(
+    alloc: Global,
+    arguments: &[String],
+    error: Error,
+) -> Result<Unread, AllocError> {
+    match error.kind() {
+        ErrorKind::OutOfMemory => Ok(Unread::NoMemory),
+        ErrorKind::DisplayHelp | ErrorKind::DisplayVersion => Ok(Unread::Asked(error)),
+        kind => {
+            let told = format!(in alloc; "{error}")?;
+            Ok(Unread::Fault(fault_line(alloc, arguments, kind, told.as_str())?))
+        }
+    }
 }
 
 /// Appends the names of all modes of a constellation to a text.
-fn push_names(text: &mut String, modulation: Modulation) -> Result<(), AllocError> {
+fn push_modes(text: &mut String, modulation: Modulation) -> Result<(), AllocError> {
     let mut between = "";
     for modcod in 1..=MAX_MODCOD {
         if let Some(mode) = Mode::of(modcod, false, false) {
@@ -110,16 +235,16 @@ fn push_names(text: &mut String, modulation: Modulation) -> Result<(), AllocErro
     Ok(())
 }
 
-/// Appends the accepted values for a name to a text: the names of its constellation, if it begins with one.
-fn push_modes(text: &mut String, name: &str) -> Result<(), AllocError> {
+/// Appends the values that are accepted for a mode: the names of its constellation, if it begins with one.
+fn push_accepted_modes(text: &mut String, name: &str) -> Result<(), AllocError> {
     if begins_with(name, "qpsk", "QPSK") {
-        text.push_str("QPSK has ")?;
-        push_names(text, Modulation::Qpsk)
+        text.push_str("a mode: QPSK has ")?;
+        push_modes(text, Modulation::Qpsk)
     } else if begins_with(name, "8psk", "8PSK") {
-        text.push_str("8PSK has ")?;
-        push_names(text, Modulation::Psk8)
+        text.push_str("a mode: 8PSK has ")?;
+        push_modes(text, Modulation::Psk8)
     } else {
-        text.push_str("it is 1 to 17, or qpsk or 8psk with a code rate, as qpsk3/4 or 8psk2/3")
+        text.push_str("1 to 17 or a name")
     }
 }
 
@@ -127,16 +252,13 @@ fn begins_with(name: &str, small: &str, capital: &str) -> bool {
     name.starts_with(small) || name.starts_with(capital)
 }
 
-/// What is said of an unknown name of a mode.
-fn modcod_message(alloc: Global, m: &ArgMatches<'_>) -> Result<Option<String>, AllocError> {
-    match m.get_str("modcod") {
-        Some(name) if read_modcod(name).is_none() => {
-            let mut text = format!(in alloc; "invalid value '{name}' for '--modcod <M>': ")?;
-            push_modes(&mut text, name)?;
-            Ok(Some(text))
-        }
-        _ => Ok(None),
-    }
+/// The line of a MODCOD that is none.
+fn modcod_line(alloc: Global, value: &str) -> Result<String, AllocError> {
+    let mut text = String::from_str(alloc, "s2: ")?;
+    push_refused(&mut text, "--modcod", value)?;
+    push_accepted_modes(&mut text, value)?;
+    text.push_str("; see s2 modes\n")?;
+    Ok(text)
 }
 
 /// A value that an option does not accept.
@@ -164,58 +286,48 @@ fn refused_by<'a>(
     }
 }
 
-/// The first value that its option does not accept.
+/// The first value that its option does not accept, of those that the parser takes as any text. MODCOD is apart.
 fn refused_in<'a>(m: &ArgMatches<'a>) -> Option<Refused<'a>> {
     let (roll_off, esn0) = (m.get_str("ro"), m.get_str("esn0"));
     let (seeds, rate) = (m.get_str("seeds"), m.get_str("rate"));
     refused_by(
         roll_off,
         roll_off_of(m).is_some(),
-        "--ro <R>",
-        "0 for 0.35, 1 for 0.25, or 2 for 0.20",
+        "--ro",
+        "0 for 0.35, 1 for 0.25 or 2 for 0.20",
     )
     .or(refused_by(
         esn0,
         esn0.and_then(read_esn0).is_some(),
-        "--esn0 <DB>",
+        "--esn0",
         "-10 to 40, with at most two digits after the point",
     ))
     .or(refused_by(
         seeds,
         seeds.and_then(read_seeds).is_some(),
-        "--seeds <A..B>",
+        "--seeds",
         "two numbers of 64 bits with two points between them, the first at most the second, as 1..100",
     ))
     .or(refused_by(
         rate,
         rate.and_then(SymbolRate::read).is_some(),
-        "--rate <R>",
+        "--rate",
         "a whole number, 1 to 1000000000, also as 27.5M, 27.5e6 or 27500k",
     ))
 }
 
-/// The accepted values in place of one that is refused, if there is one.
-fn refused_message(alloc: Global, m: &ArgMatches<'_>) -> Result<Option<String>, AllocError> {
+/// The line of the first value that its option does not accept.
+fn refused_line(alloc: Global, name: &str, m: &ArgMatches<'_>) -> Result<String, AllocError> {
+    let mut text = String::from_str(alloc, "s2: ")?;
     match refused_in(m) {
-        Some(
-            Refused {
-                value,
-                option,
-                accepted,
-            },
-        ) => Ok(Some(format!(in alloc;
-            "invalid value '{value}' for '{option}': it is {accepted}"
-        )?)),
-        None => Ok(None),
+        Some(refused) => {
+            push_refused(&mut text, refused.option, refused.value)?;
+            text.push_str(refused.accepted)?;
+        }
+        None => text.push_str("no request has these words")?,
     }
-}
-
-/// The accepted values in place of unknown ones, if there are any.
-fn message_of(alloc: Global, m: &ArgMatches<'_>) -> Result<Option<String>, AllocError> {
-    match modcod_message(alloc, m)? {
-        Some(text) => Ok(Some(text)),
-        None => refused_message(alloc, m),
-    }
+    push_way(&mut text, entry_of(name))?;
+    Ok(text)
 }
 
 /// The usage fault of arguments from which no request can be made.
@@ -223,75 +335,20 @@ pub(crate) fn not_understood(
     alloc: Global,
     name: &str,
     m: &ArgMatches<'_>,
-) -> Result<Error, AllocError> {
-    match message_of(alloc, m)? {
-        Some(message) => fault_in(alloc, name, message.as_str()),
-        None => fault_in(alloc, name, "no request has these words"),
-    }
-}
-
-/// A value given to `--pilots` in the belief that it takes one.
-const SWITCHES: [&str; 8] = ["on", "off", "yes", "no", "true", "false", "1", "0"];
-
-/// Whether such a value follows `--pilots`.
-fn is_switched(arguments: &[String]) -> bool {
-    let Some(value) = given(arguments, "--pilots") else {
-        return false;
-    };
-    for switch in SWITCHES {
-        if switch.eq_ignore_ascii_case(value) {
-            return true;
-        }
-    }
-    false
-}
-
-/// Whether `--pilots` is given a value by an equals sign.
-fn is_assigned(arguments: &[String]) -> bool {
-    for argument in arguments {
-        if argument.as_str().starts_with("--pilots=") {
-            return true;
-        }
-    }
-    false
-}
-
-/// Whether a fault of this kind comes from a value that `--pilots` is given.
-fn has_switch(arguments: &[String], kind: ErrorKind) -> bool {
-    match kind {
-        ErrorKind::UnknownArgument => is_switched(arguments),
-        ErrorKind::TooManyValues => is_assigned(arguments),
-        _ => false,
-    }
-}
-
-/// The command that was given a value for `--pilots`, from which a fault of this kind comes.
-fn switched<'a>(arguments: &'a [String], kind: ErrorKind) -> Option<&'a str> {
-    if has_switch(arguments, kind) {
-        Some(arguments.get(1)?.as_str())
-    } else {
-        None
-    }
-}
-
-/// A usage fault, or in its place one that says that `--pilots` takes no value, if it was given one.
-pub(crate) fn misused(
-    alloc: Global,
-    arguments: &[String],
-    error: Error,
-) -> Result<Error, AllocError> {
-    match switched(arguments, error.kind()) {
-        Some(name) => fault_in(
-            alloc,
-            name,
-            "'--pilots' takes no value: frames have pilot blocks where it stands, and none where it does not",
-        ),
-        None => Ok(error),
+) -> Result<Unread, AllocError> {
+    match m.get_str("modcod") {
+        Some(value) if read_modcod(value).is_none() => Ok(Unread::Fault(modcod_line(
+            alloc, value,
+        )?)),
+        _ => Ok(Unread::Fault(refused_line(alloc, name, m)?)),
     }
 }
 
 /// The usage fault of an argument that is not text.
-pub fn not_text(alloc: Global, argument: &str) -> Result<Error, AllocError> {
-    let message = format!(in alloc; "invalid UTF-8 in the argument '{argument}'")?;
-    fault_of(program(alloc, Values::Numbers)?, message.as_str())
+pub fn not_text(alloc: Global, argument: &str) -> Result<Unread, AllocError> {
+    let mut text = String::from_str(alloc, "s2: ")?;
+    push_word(&mut text, argument)?;
+    text.push_str(" is not text in UTF-8")?;
+    push_way(&mut text, None)?;
+    Ok(Unread::Fault(text))
 }

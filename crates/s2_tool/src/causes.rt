@@ -1,0 +1,213 @@
+//! The files that a request names, and what the host says of those that cannot be used. A command says only that it cannot
+//! open or read one, so the host is asked for the cause: before the command, and once more after a fault.
+use crate::opening::errors_of;
+use s2_files::{Disk, Role, is_standard};
+use s2_mode::write_full;
+use s2_progress::Terminal;
+use s2_words::{RecordWords, Request};
+use std::fs::OpenOptions;
+use std::io::Read;
+use std::{fs, io};
+
+/// The names of a request's files: those of numbers in text, others that are read, and those that are written.
+#[derive(Clone, Copy)]
+struct Names<'a> {
+    texts: [Option<&'a str>; 2],
+    data: [Option<&'a str>; 3],
+    written: [Option<&'a str>; 5],
+}
+
+/// The files of a command without a link, of which one is written at most.
+fn plain<'a>(
+    texts: [Option<&'a str>; 2],
+    data: [Option<&'a str>; 3],
+    written: Option<&'a str>,
+) -> Names<'a> {
+    Names {
+        texts,
+        data,
+        written: [written, None, None, None, None],
+    }
+}
+
+/// The files of a command on a link: its row file, its input, its output and its records.
+fn linked<'a>(rows: &'a str, from: &'a str, to: &'a str, records: RecordWords<'a>) -> Names<'a> {
+    let [certificates, values, codewords, bbframes] = records.names();
+    Names {
+        texts: [Some(rows), None],
+        data: [Some(from), None, None],
+        written: [Some(to), certificates, values, codewords, bbframes],
+    }
+}
+
+/// A file that is read.
+fn one<'a>(name: &'a str) -> [Option<&'a str>; 3] {
+    [Some(name), None, None]
+}
+
+/// The files of a request.
+fn names_of<'a>(request: &Request<'a>) -> Names<'a> {
+    let (no_text, no_data) = ([None; 2], [None; 3]);
+    match request {
+        Request::Own | Request::Modes(_) | Request::Rows(_) => plain(no_text, no_data, None),
+        Request::Table(words) => plain([Some(words.rows), None], no_data, None),
+        Request::Judge(words) => {
+            plain(
+                [Some(words.rows), Some(words.soft)],
+                no_data,
+                words.certificate,
+            )
+        }
+        Request::Check(words) => plain([Some(words.rows), None], one(words.certificate), None),
+        Request::Noise(words) => plain(no_text, one(words.from), Some(words.to)),
+        Request::Scan(words) => plain(no_text, one(words.symbols), None),
+        Request::Join(words) => plain(no_text, one(words.bbframes), Some(words.packets)),
+        Request::Audit(words) => {
+            let [report, certificates] = [Some(words.report), Some(words.certificates)];
+            plain(
+                [Some(words.rows), None],
+                [Some(words.symbols), report, certificates],
+                None,
+            )
+        }
+        Request::Mod(words) => linked(words.rows, words.packets, words.symbols, words.records),
+        Request::Demod(words) => linked(words.rows, words.symbols, words.packets, words.records),
+        Request::Run(words) => linked(words.rows, words.packets, words.to, words.records),
+    }
+}
+
+/// Whether a file of this name is standard output, if a name is given.
+fn is_output(name: Option<&str>) -> bool {
+    match name {
+        Some(name) => is_standard(Role::Output, name),
+        None => false,
+    }
+}
+
+/// Whether a request writes a file to standard output.
+pub(crate) fn takes_output(request: &Request<'_>) -> bool {
+    names_of(request).written.into_iter().any(is_output)
+}
+
+/// Whether this name is among others.
+fn has_name(names: &[Option<&str>], name: &str) -> bool {
+    for it in names {
+        if *it == Some(name) {
+            return true;
+        }
+    }
+    false
+}
+
+/// The error of opening a file anew, if there is one. An output that is not there is made, as before, unless it is read too.
+fn opening_error<R: Disk>(rt: &R, names: Names<'_>, name: &str) -> Option<io::Error> {
+    let is_read = has_name(&names.texts, name) || has_name(&names.data, name);
+    if is_read {
+        if let Err(error) = fs::open(rt, name) {
+            return Some(error);
+        }
+    }
+    if !has_name(&names.written, name) {
+        return None;
+    }
+    let mut options = OpenOptions::new();
+    options.write(true).create(!is_read);
+    options.open(rt, name).err()
+}
+
+/// Notes this of a file, if there is memory.
+fn note<R: Disk + AllocGlobal>(rt: &R, terminal: &Terminal<'_, R>, name: &str, words: &str) {
+    if let Ok(line) = format!(in rt.alloc(); "s2: note: {name}: {words}\n") {
+        let _ = write_full(&mut errors_of(terminal), line.as_bytes());
+    }
+}
+
+/// Notes why a file cannot be opened, if the host still says so.
+pub(crate) fn note_cause<R: Disk + AllocGlobal>(
+    rt: &R,
+    terminal: &Terminal<'_, R>,
+    request: &Request<'_>,
+    name: &str,
+) {
+    let Some(error) = opening_error(rt, names_of(request), name) else {
+        return;
+    };
+    let Ok(told) = format!(in rt.alloc(); "{error}") else {
+        return;
+    };
+    match told.split_once(" (os error ") {
+        Some((cause, _)) => note(rt, terminal, name, cause),
+        None => note(rt, terminal, name, told.as_str()),
+    }
+}
+
+/// Whether this is a folder. A standard stream is not asked for.
+fn is_folder<R: Disk>(rt: &R, name: &str) -> bool {
+    match fs::metadata(rt, name) {
+        Ok(metadata) => metadata.is_dir() && !is_standard(Role::Input, name),
+        Err(_) => false,
+    }
+}
+
+/// Notes those of these files that are folders, which can be opened and not read.
+fn note_folders_in<R: Disk + AllocGlobal>(
+    rt: &R,
+    terminal: &Terminal<'_, R>,
+    names: &[Option<&str>],
+) {
+    for name in names {
+        match name {
+            Some(name) if is_folder(rt, name) => note(rt, terminal, name, "Is a directory"),
+            _ => {}
+        }
+    }
+}
+
+/// Notes the folders among the files that a request reads.
+pub(crate) fn note_folders<R: Disk + AllocGlobal>(
+    rt: &R,
+    terminal: &Terminal<'_, R>,
+    request: &Request<'_>,
+) {
+    let names = names_of(request);
+    note_folders_in(rt, terminal, &names.texts);
+    note_folders_in(rt, terminal, &names.data);
+}
+
+/// Whether a file begins with a byte order mark, in UTF-8.
+fn has_mark<R: Disk>(rt: &R, name: &str) -> bool {
+    let Ok(mut file) = fs::open(rt, name) else {
+        return false;
+    };
+    let mut start = [0u8; 3];
+    file.read_exact(&mut start).is_ok() && start == [0xEF, 0xBB, 0xBF]
+}
+
+/// Whether this is a regular file, which can be read once more.
+fn is_kept<R: Disk>(rt: &R, name: &str) -> bool {
+    match fs::metadata(rt, name) {
+        Ok(metadata) => metadata.is_file() && !is_standard(Role::Input, name),
+        Err(_) => false,
+    }
+}
+
+/// After a fault: notes those of a request's texts that begin with a byte order mark, which is not a number.
+pub(crate) fn note_marks<R: Disk + AllocGlobal>(
+    rt: &R,
+    terminal: &Terminal<'_, R>,
+    request: &Request<'_>,
+) {
+    for name in names_of(request).texts {
+        match name {
+            Some(name) if is_kept(rt, name) && has_mark(rt, name) => {
+                note(
+                    rt,
+                    terminal,
+                    name,
+                    "begins with a byte order mark: tail -c +4 removes it",
+                );
+            }
+            _ => {}
+        }
+    }
+}

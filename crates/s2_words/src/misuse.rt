@@ -1,0 +1,72 @@
+//! What clap says of words that are no request, in its parts: its kind of error, and what its text names.
+use clap::error::ErrorKind;
+
+/// A mistake in the words. Arguments are named as in the help, as `--modcod <M>` or `<ROWS>`.
+#[derive(Clone, Copy)]
+pub(crate) enum Misuse<'t> {
+    /// This word is no option, and no file is taken there.
+    Unknown(&'t str),
+    /// No command has this name.
+    NoCommand(&'t str),
+    /// These arguments are missing, a line each.
+    Missing(&'t str),
+    /// This option is given twice.
+    Twice(&'t str),
+    /// This option excludes the others, a line each.
+    Excluded(&'t str, &'t str),
+    /// This option takes no value.
+    TakesNone(&'t str),
+    /// The value of this option is missing.
+    LacksValue(&'t str),
+    /// This option does not accept this value.
+    Refused { option: &'t str, value: &'t str },
+}
+
+/// The text between two others.
+fn between<'t>(text: &'t str, before: &str, behind: &str) -> Option<&'t str> {
+    let (_, rest) = text.split_once(before)?;
+    let (found, _) = rest.split_once(behind)?;
+    Some(found)
+}
+
+/// An option that is given twice, or beside one that it excludes.
+fn conflict_of(told: &str) -> Option<Misuse<'_>> {
+    let option = between(told, "the argument '", "' cannot be used ")?;
+    if told.contains("' cannot be used multiple times") {
+        return Some(Misuse::Twice(option));
+    }
+    let others = between(told, "' cannot be used with:\n  ", "\n\n").or(between(
+        told,
+        "' cannot be used with '",
+        "'\n",
+    ))?;
+    Some(Misuse::Excluded(option, others))
+}
+
+/// A value that is missing or refused. A value may have any characters, and what follows it has none of a value.
+fn value_of(told: &str) -> Option<Misuse<'_>> {
+    if told.starts_with("error: a value is required") {
+        return Some(Misuse::LacksValue(between(told, " for '", "' but none")?));
+    }
+    let (before, behind) = told.rsplit_once("' for '")?;
+    let (option, _) = behind.split_once('\'')?;
+    let value = before.strip_prefix("error: invalid value '")?;
+    Some(Misuse::Refused { option, value })
+}
+
+/// The mistake that an error of this kind and this text is about.
+pub(crate) fn misuse_of(kind: ErrorKind, told: &str) -> Option<Misuse<'_>> {
+    match kind {
+        ErrorKind::UnknownArgument => between(told, " argument '", "' found").map(Misuse::Unknown),
+        ErrorKind::InvalidSubcommand => between(told, " subcommand '", "'\n").map(
+            Misuse::NoCommand,
+        ),
+        ErrorKind::MissingRequiredArgument => {
+            between(told, " not provided:\n  ", "\n\n").map(Misuse::Missing)
+        }
+        ErrorKind::ArgumentConflict => conflict_of(told),
+        ErrorKind::TooManyValues => between(told, "' for '", "' found;").map(Misuse::TakesNone),
+        ErrorKind::InvalidValue | ErrorKind::ValueValidation => value_of(told),
+        _ => None,
+    }
+}
