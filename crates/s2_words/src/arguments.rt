@@ -247,7 +247,7 @@ pub(crate) const DIVISOR: Argument = Argument {
 
 /// The same option, for a report that was made with it.
 pub(crate) const DIVISOR_OF_REPORT: Argument = Argument {
-    help: "What soft values were divided by: that of the reception, with --tuned 8192",
+    help: "What soft values were divided by: the divisor of the reception",
     ..DIVISOR
 };
 
@@ -283,6 +283,12 @@ pub(crate) const TUNED: Argument = Argument {
     name: "tuned",
     form: Form::Flag,
     help: "The factor that is best for the mode, --lock 30, --divisor 8192 and --passes 96; words that stand beside it win",
+};
+
+/// The same option, for a report that was made with it.
+pub(crate) const TUNED_REPORT: Argument = Argument {
+    help: "The divisor that --tuned sets for the mode, if the report was made with --tuned; --divisor wins",
+    ..TUNED
 };
 
 pub(crate) const SEED: Argument = Argument {

@@ -262,7 +262,7 @@ The report, a line for each frame that REPORT calls sole or most-likely, and one
 Reasons:
   no certificate    CERTIFICATES ends before this frame's
   no symbols        SYMBOLS ends before the end of this frame
-  other values      the certificate is of other soft values than this frame's: of another recording, or of another --divisor
+  other values      the certificate is of other soft values than this frame's: of another recording, or of another --divisor or --tuned
   not accepted      the certificate proves nothing under these rows
   not sole          the certificate proves that the bits are most likely, and no more
 
@@ -273,7 +273,7 @@ Exits:
 
 Example:
   s2 demod --modcod qpsk1/2 --tuned --certificates certificates rows noisy received.ts > report
-  s2 audit --modcod qpsk1/2 --divisor 8192 rows noisy report certificates";
+  s2 audit --modcod qpsk1/2 --tuned rows noisy report certificates";
 
 /// The text below the options of a command.
 pub(crate) fn more_of(command: Name) -> &'static str {
