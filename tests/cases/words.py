@@ -328,6 +328,7 @@ WORDS = [
     ("audit", "frame I at SYMBOL sole cost C", "proved: the decided bits cost C, every other codeword costs more"),
     ("audit", "other values", "of another recording, or of another --divisor or --tuned"),
     ("audit", "--tuned", "if the report was made with --tuned; --divisor wins"),
+    *((name, "five sync bytes at distance D begin at byte B", "whose first or second is refused, and what to try") for name in ("mod", "run")),
     ("mod", "packets P frames F", "P packets were taken, and F frames written, dummy frames not counted"),
 ]
 # The commands that show how far they are, those that may be strict, those that decide, and a line of each command with what it

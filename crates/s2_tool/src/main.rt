@@ -1,6 +1,7 @@
 //! The program.
 #![tactic(auto)]
 
+mod beginnings;
 mod link_request;
 mod opening;
 mod options;
