@@ -22,7 +22,7 @@ _s2() {
     run) words="--modcod --short --pilots --number --ro --dummy --rounds --passes --uncertified --divisor --factor --lock --tuned --seed --seeds --level --esn0 --figures --strict --quiet --progress --certificates --values --codewords --bbframes --help" ;;
     scan) words="--help" ;;
     join) words="--modcod --short --help" ;;
-    audit) words="--modcod --short --pilots --number --ro --divisor --help" ;;
+    audit) words="--modcod --short --pilots --number --ro --divisor --tuned --help" ;;
     help) words="modes rows table judge check mod noise demod run scan join audit" ;;
   esac
   if [[ $now == -* || ${COMP_WORDS[1]} == help ]]; then

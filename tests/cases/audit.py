@@ -165,6 +165,13 @@ def cases(symbols, report, certificates):
     yield case("", b"", certificates, NO, "certificates left over\n")
 
 
+def tuned_cases(symbols, report, certificates):
+    """Of the report of a reception with --tuned."""
+    fine, other = "".join(shown(report, apart(certificates))) + last(report), failed(certified(report)[0], "other values")
+    for words, is_fine in (("--tuned", True), ("--divisor 8192", True), ("--tuned --divisor 8192", True), ("", False), ("--tuned --divisor 4096", False), ("--divisor 4096", False)):
+        yield case(report, symbols, certificates, 0 if is_fine else NO, fine if is_fine else other, words=WORDS.replace(LINK, f"{LINK} {words}"))
+
+
 def likely_cases(symbols, report, certificates):
     """Of frames of which one is most likely and not sole: called sole, it is not shown."""
     each = apart(certificates)

@@ -60,6 +60,48 @@ SIZES = [
 ]
 
 
+def beginning(place, distance, name):
+    """The note on where five sync bytes follow each other."""
+    return f"five sync bytes at distance {distance} begin at byte {place}: try {f'tail -c +{place + 1}' if distance == 188 else 'tools/strip'} {name}"
+
+
+def refused(packets, fault_and_note, after="", words="mod --modcod 1 normal4 in out", **more):
+    """A refused packet, with its note before the fault and another one after it."""
+    text, note = fault_and_note
+    return Case(words, 1, errors=f"{noted(note)}s2: {text}\n{noted(after) if after else ''}", reads={"in": packets}, writes={"out": b""}, **more)
+
+
+# Streams whose first or second packet is refused, that one, the size that its note tells, and where five sync bytes follow each other at
+# which distance, if they do.
+BEGINNINGS = [
+    (bytes(111) + 5 * PACKET, 1, 0, (111, 188)),
+    (bytes(111) + 9 * PACKET, 1, 0, (111, 188)),
+    (bytes(111) + 4 * PACKET + bytes(188), 1, 0, None),
+    (bytes(1) + 5 * PACKET, 1, 0, (1, 188)),
+    (PACKET + bytes(1) + 5 * PACKET, 2, 0, (189, 188)),
+    (5 * (PACKET + bytes(16)), 2, 204, (0, 204)),
+    (bytes(300) + 5 * (PACKET + bytes(16)), 1, 0, (300, 204)),
+    (5 * (bytes(4) + PACKET), 1, 192, (4, 192)),
+    (4 * (bytes(4) + PACKET), 1, 192, None),
+    (5 * (PACKET + bytes(4)), 2, 192, (0, 192)),
+    # the last sync byte is the last byte that is searched, and the first one that is not
+    (bytes(65_535 - 4 * 188) + 5 * PACKET, 1, 0, (65_535 - 4 * 188, 188)),
+    (bytes(65_536 - 4 * 188) + 5 * PACKET, 1, 0, None),
+    # at the same place the least distance
+    (b"".join(b"\x47" if at in {3 + k * step for k in range(5) for step in (188, 192, 204)} else b"\x00" for at in range(1000)), 1, 0, (3, 188)),
+]
+
+
+def begun(packets, at, told, found):
+    """The cases of such a stream: with the notes, without them, from another name, and from standard input, which is not read again."""
+    note = beginning(*found, "in") if found else ""
+    yield refused(packets, no_sync(at, told), note)
+    yield refused(packets, no_sync(at, told), note, "run --modcod 1 --seed 1 --level 0 normal4 in out")
+    yield fault("mod --modcod 1 --quiet normal4 in out", no_sync(at)[0], reads={"in": packets}, writes={"out": b""})
+    for words in ("mod --modcod 1 normal4 - out", "mod --modcod 1 normal4 /dev/stdin out"):
+        yield fault(words, *no_sync(at, told), given=packets, writes={"out": b""})
+
+
 def sent(packets, line, symbols, words="--modcod 1 normal4"):
     return Case(f"mod {words} in out", out=line, reads={"in": packets}, writes={"out": symbols})
 
@@ -80,6 +122,8 @@ MOD = [
     fault("mod --modcod 1 normal4 in out", *no_sync(1), reads={"in": 188 * b"\x48"}, writes={"out": b""}),
     *(fault("mod --modcod 1 normal4 in out", *no_sync(*said), reads={"in": packets}, writes={"out": b""}) for packets, *said in SIZES),
     *(fault("mod --modcod 1 --quiet normal4 in out", no_sync(at)[0], reads={"in": packets}, writes={"out": b""}) for packets, at, _ in SIZES),
+    *(case for it in BEGINNINGS for case in begun(*it)),
+    refused(bytes(111) + 5 * PACKET, no_sync(1), beginning(111, 188, "'it'\\''s'"), "mod --modcod 1 normal4 it's out", links={"it's": ("hard", "in")}),
     # the frame that was full stands
     fault(f"mod {LINK} made in out", *no_sync(3), reads={"in": 2 * PACKET + b"\x48" + bytes(187)}, writes={"out": size(32_760)}),
     fault(f"mod {LINK} made in -", *no_sync(1), reads={"in": bytes(188)}),

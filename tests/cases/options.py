@@ -147,6 +147,7 @@ def audit_effects(two):
     # a receiver accepts any roll-off
     yield Effect("--ro", f"audit {LINK} {{}} {files}", dict.fromkeys(("", "--ro 0", "--ro 1", "--ro 2"), fine), reads)
     yield Effect("--divisor", f"audit {LINK} {{}} {files}", by_default("--divisor", 4096, 8192, fine, other), reads)
+    yield Effect("--tuned", f"audit {LINK} {{}} {files}", {"": fine, "--tuned": other, "--tuned --divisor 4096": fine}, reads)
 
 
 def mod_effects(two, dummy):

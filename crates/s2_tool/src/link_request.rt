@@ -3,6 +3,7 @@ ghost use Rattle.std.specs.Prelude.{OnErr};
 ghost use Rattle.s2_mode.specs.Counts.{CanCount};
 ghost use Rattle.s2_console.specs.Screens.{CanNote};
 
+use crate::beginnings::note_beginning;
 use crate::opening::{open_link, show_on};
 use crate::records::{conclude_records, open_records};
 use crate::serve::mode_of;
@@ -57,6 +58,15 @@ impl<'w, 'a> LinkRequest<'w, 'a> {
         match self {
             LinkRequest::Mod(_) | LinkRequest::Run(_, _) => true,
             LinkRequest::Demod(_, _) => false,
+        }
+    }
+
+    /// The name of its packet file, if it reads one and notes are not left out.
+    fn noted_packets(self) -> Option<&'a str> {
+        match self {
+            LinkRequest::Mod(words) if !words.quiet => Some(words.packets),
+            LinkRequest::Run(words, _) if !words.notes.quiet => Some(words.packets),
+            _ => None,
         }
     }
 
@@ -124,6 +134,20 @@ pub(crate) fn setup_of(words: LinkWords) -> Result<LinkSetup, Fault<'static>> {
     })
 }
 
+/// After a fault notes where packets begin in a packet file of this name, if its first or second packet is refused.
+fn note_packets<R: Disk + AllocGlobal>(
+    terminal: &Terminal<'_, R>,
+    packets: Option<&str>,
+    exit: Exit,
+) {
+    if exit != Exit::Fault {
+        return;
+    }
+    if let Some(name) = packets {
+        note_beginning(terminal, name);
+    }
+}
+
 /// Opens the files of a request on a link, and runs its command on them. `notes` takes the notes before a report.
 pub(crate) fn with_link<'a, R: Disk + Clock + AllocGlobal, O: CountedWrite, E: CountedWrite>(
     rt: &R,
@@ -163,5 +187,6 @@ pub(crate) fn with_link<'a, R: Disk + Clock + AllocGlobal, O: CountedWrite, E: C
         ),
     };
     show.finish();
+    note_packets(terminal, request.noted_packets(), exit);
     conclude_records(exit, files.to.is_begun(), records)
 }

@@ -1,6 +1,7 @@
 //! The program.
 #![tactic(auto)]
 
+mod beginnings;
 mod causes;
 mod link_request;
 mod opening;

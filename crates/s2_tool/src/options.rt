@@ -7,9 +7,10 @@ use s2_commands::{Channel, DemodOptions, RunOptions};
 use s2_console::Fault;
 use s2_mode::{FaultText, Mode};
 use s2_soft::Divisor;
-use s2_tuning::{Number, Tuning, Wanted, judging_by, tuning_by};
+use s2_tuning::{Number, Tuning, Wanted, divisor_by, judging_by, tuning_by};
 use s2_words::{
-    ChannelWords, DemodWords, JudgeWords, NumberWords, RunWords, StrengthWords, TuningWords, limits,
+    AuditWords, ChannelWords, DemodWords, JudgeWords, NumberWords, RunWords, StrengthWords,
+    TuningWords, limits,
 };
 
 const _: () = prove!(limits::MAX_ADDRESSES as usize == s2_rows::MAX_ADDRESSES);
@@ -48,16 +49,18 @@ pub(crate) fn channel_of(words: ChannelWords) -> Result<Channel, Fault<'static>>
     })
 }
 
-/// The divisor of soft values of this number.
-pub(crate) fn divisor_of(number: u32) -> Result<Divisor, Fault<'static>> {
-    Divisor::new(number).ok_or(Fault::refused(FaultText::of("no such divisor")))
-}
-
 fn number_of(words: NumberWords) -> Number {
     Number {
         is_given: words.is_given,
         value: words.value,
     }
+}
+
+/// The divisor of soft values of a report on a mode.
+pub(crate) fn divisor_of(mode: &Mode, words: &AuditWords<'_>) -> Result<Divisor, Fault<'static>> {
+    divisor_by(mode, words.tuned, number_of(words.divisor)).ok_or(Fault::refused(FaultText::of(
+        "no such divisor",
+    )))
 }
 
 /// The tuning of a receiver of a mode.

@@ -402,7 +402,7 @@ fn serve_audit<'a, R: Disk + AllocGlobal, O: CountedWrite, E: CountedWrite>(
     ensures { OnErr result (CanCount console.new.errors_failed) }
 {
     let setup = setup_of(words.link)?;
-    let divisor = divisor_of(words.divisor)?;
+    let divisor = divisor_of(&setup.mode, words)?;
     let (mut rows, mut symbols, mut report, mut certificates) = open_audit(rt, words)?;
     Ok(audit_command(
         rt.alloc(),

@@ -2,3 +2,4 @@ pub mod Limits
 pub mod Tuning
 pub mod Best
 pub mod Wanted
+pub mod Divisor

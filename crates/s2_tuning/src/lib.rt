@@ -16,9 +16,11 @@
 #![tactic(auto)]
 
 mod best;
+mod divisor;
 pub mod laws;
 mod tuning;
 mod wanted;
 
+pub use divisor::divisor_by;
 pub use tuning::{DEFAULT_ROUNDS, MAX_PASSES, MAX_ROUNDS, Tuning};
 pub use wanted::{Number, Wanted, judging_by, tuning_by};

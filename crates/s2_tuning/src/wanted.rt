@@ -35,7 +35,7 @@ pub struct Wanted {
 const BEST_MAX_HEADER_ERRORS: u32 = 30;
 
 /// A number that is given, else the best one if that is requested, else its default.
-fn number_by(tuned: bool, number: Number, best: u32) -> u32
+pub(crate) fn number_by(tuned: bool, number: Number, best: u32) -> u32
     ensures { result ≡ number_by tuned number best }
 {
     if number.is_given {

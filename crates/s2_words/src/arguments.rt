@@ -244,7 +244,7 @@ pub(crate) const DIVISOR: Argument = Argument {
 
 /// The same option, for a report that was made with it.
 pub(crate) const DIVISOR_OF_REPORT: Argument = Argument {
-    help: "What soft values were divided by: that of the reception, with --tuned the mode's in docs/formats.md",
+    help: "What soft values were divided by: the divisor of the reception",
     ..DIVISOR
 };
 
@@ -280,6 +280,12 @@ pub(crate) const TUNED: Argument = Argument {
     name: "tuned",
     form: Form::Flag,
     help: "The factor, divisor and rounds that are best for the mode, --lock 30 and --passes 96; words that stand beside it win",
+};
+
+/// The same option, for a report that was made with it.
+pub(crate) const TUNED_REPORT: Argument = Argument {
+    help: "The divisor that --tuned sets for the mode, if the report was made with --tuned; --divisor wins",
+    ..TUNED
 };
 
 pub(crate) const SEED: Argument = Argument {

@@ -111,9 +111,10 @@ Exits:
   1  a usage fault, or a fault that standard error tells: the frames before a packet that is refused stand in SYMBOLS
 
 Notes, on standard error:
-  these rows are not the standard's for MODE    no other modem receives this, but one that has the same rows
-  MODE wants N rows of addresses below M        the row file that is refused is to have these
-  packet I begins at byte B                     the packet that is refused, and what to strip of packets of 192 or 204 bytes
+  these rows are not the standard's for MODE           no other modem receives this, but one that has the same rows
+  MODE wants N rows of addresses below M               the row file that is refused is to have these
+  packet I begins at byte B                            the packet that is refused, and what to strip of packets of 192 or 204 bytes
+  five sync bytes at distance D begin at byte B        where the packets of a file begin whose first or second is refused, and what to try
 
 Files:
   --codewords and --bbframes write records of the frames, and none of a dummy frame. Each takes `-` too.
@@ -215,6 +216,7 @@ const RUN_MORE: &str = report!(
     "  seeds N frames F delivered D packets P bad B    with --seeds, behind the lines of all N runs: the sums of their last lines
 ",
     "  packet I begins at byte B                            the packet that is refused, and what to strip of packets of 192 or 204 bytes
+  five sync bytes at distance D begin at byte B        where the packets of a file begin whose first or second is refused, and what to try
 ",
     ", and the packets",
     "  s2 run --modcod qpsk1/2 --pilots --seed 1 --level 100 rows packets.ts received.ts
@@ -272,7 +274,7 @@ The report, a line for each frame that REPORT calls sole or most-likely, and one
 Reasons:
   no certificate    CERTIFICATES ends before this frame's
   no symbols        SYMBOLS ends before the end of this frame
-  other values      the certificate is of other soft values than this frame's: of another recording, or of another --divisor
+  other values      the certificate is of other soft values than this frame's: of another recording, or of another --divisor or --tuned
   not accepted      the certificate proves nothing under these rows
   not sole          the certificate proves that the bits are most likely, and no more
 
@@ -283,7 +285,7 @@ Exits:
 
 Example:
   s2 demod --modcod qpsk1/2 --tuned --certificates certificates rows noisy received.ts > report
-  s2 audit --modcod qpsk1/2 --divisor 8192 rows noisy report certificates";
+  s2 audit --modcod qpsk1/2 --tuned rows noisy report certificates";
 
 /// The text below the options of a command.
 pub(crate) fn more_of(command: Name) -> &'static str {

@@ -291,7 +291,8 @@ fn join_of<'a>(m: &ArgMatches<'a>) -> Option<Request<'a>> {
 fn audit_of<'a>(m: &ArgMatches<'a>) -> Option<Request<'a>> {
     Some(Request::Audit(AuditWords {
         link: link_of(m)?,
-        divisor: m.get_one::<u32>("divisor")?,
+        divisor: number_of(m, "divisor")?,
+        tuned: m.get_flag("tuned"),
         rows: m.get_str("ROWS")?,
         symbols: m.get_str("SYMBOLS")?,
         report: m.get_str("REPORT")?,

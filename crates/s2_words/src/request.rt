@@ -233,11 +233,12 @@ pub struct JoinWords<'a> {
     pub packets: &'a str,
 }
 
-/// `audit`: a link, the divisor of soft values, and the files.
+/// `audit`: a link, the divisor of soft values, whether the report was made with the best settings, and the files.
 #[derive(Clone, Copy)]
 pub struct AuditWords<'a> {
     pub link: LinkWords,
-    pub divisor: u32,
+    pub divisor: NumberWords,
+    pub tuned: bool,
     pub rows: &'a str,
     pub symbols: &'a str,
     pub report: &'a str,
