@@ -50,7 +50,7 @@ FAILING = [
     (DEMOD, "printed", WRITE, FRAMES),
     # each frame stands with the dummy frame behind it
     (DUMMY, "packets", READ, [(0, 0), (46_080, 0)]),
-    (DUMMY, "out", WRITE, [(0, 0), (32_760, 0), (46_080, 0), (78_840, 0)]),
+    (DUMMY, "out", WRITE, [(0, 0), (46_080, 0)]),
     (DUMMY, "printed", WRITE, [(92_160, 0)]),
     (ACROSS, "among", READ, [(0, 0), (188, 26), (376, 56)]),
     (ACROSS, "out", WRITE, [(0, 0), (188, 26)]),
