@@ -112,17 +112,21 @@ tuned_note t = (codes "s2: note: " ++ decimal (t.frames - t.delivered)) ++ (code
 abbrev pub has_lost : Totals → Bool
 has_lost t = not (nat_eq (t.frames - t.delivered) t.refused)
 
+-- the best settings are proposed: they were not tried, and they may help
+abbrev pub is_proposed : (tuned : Bool) → Totals → Bool
+is_proposed tuned t = not tuned && has_lost t
+
 -- headers of the usual amplitude came, and no BCH word was found
 abbrev pub is_undecoded : Totals → Bool
 is_undecoded t = not (nat_eq t.frames 0) && nat_eq t.delivered 0 && nat_eq t.refused 0 && is_usual (header_amplitude t)
 
 -- the note of headers without a decoded frame
-unfoldable pub headers_note : List ℕ
+abbrev pub headers_note : List ℕ
 headers_note = codes "s2: note: headers are right but no frame is decoded: another scrambling number or other rows? try s2 scan\n"
 
 -- what to try after frames were lost
 abbrev pub advice : (tuned : Bool) → Totals → List ℕ
-advice tuned t = if is_undecoded t then headers_note else note_if (not tuned && has_lost t) (tuned_note t)
+advice tuned t = if is_undecoded t then headers_note else note_if (is_proposed tuned t) (tuned_note t)
 
 -- the notes of a stream that was received to its end
 abbrev pub notes_of : (tuned : Bool) → Mode → Received → List ℕ

@@ -1,8 +1,8 @@
 //! The note on what to try after frames were lost.
-ghost use Rattle.std.specs.Prelude.{◌≡◌, [], OnOk, not};
+ghost use Rattle.std.specs.Prelude.{◌≡◌, ◌-◌, [], OnOk};
 ghost use Rattle.std.specs.Io.KnownBytes.{Appends};
 ghost use Rattle.s2_mode.specs.Counts.{CanCount, CountsFault};
-ghost use Rattle.s2_commands.specs.Losses.{advice, has_lost, headers_note, is_undecoded, tuned_note};
+ghost use Rattle.s2_commands.specs.Losses.{advice, has_lost, headers_note, is_proposed, is_undecoded, note_if, tuned_note};
 
 use crate::frame_notes::header_amplitude;
 use s2_console::Line;
@@ -24,9 +24,12 @@ fn has_lost(totals: Totals) -> bool
     lost(totals) != totals.refused
 }
 
-/// The note of headers without a decoded frame.
-const HEADERS_NOTE: &str =
-    "s2: note: headers are right but no frame is decoded: another scrambling number or other rows? try s2 scan\n";
+/// Whether the best settings are proposed. `tuned` says whether they were tried already.
+fn is_proposed(tuned: bool, totals: Totals) -> bool
+    ensures { result ≡ is_proposed tuned totals }
+{
+    !tuned && has_lost(totals)
+}
 
 /// Whether headers of the usual amplitude came, and no BCH word was found.
 fn is_undecoded(totals: Totals) -> bool
@@ -50,8 +53,36 @@ fn tuned_note(totals: Totals) -> Line
     line
 }
 
-/// Writes the note on what to try, if frames were lost. `tuned` says whether the best settings were tried already.
-#[tactic(auto, unfolding(crate::specs::Losses::tuned_note, crate::specs::Losses::headers_note))]
+/// Writes the note that proposes the best settings, if they are proposed.
+#[tactic(auto, unfolding(crate::specs::Losses::tuned_note))]
+fn write_proposal<W: CountedWrite>(
+    tuned: bool,
+    totals: Totals,
+    out: &mut W,
+) -> Result<(), WriteFault>
+    requires { CanCount (W.count out.old) }
+    ensures bytes { OnOk result (Appends (W.contents out.old) (W.contents out.new) (note_if (is_proposed tuned totals) (tuned_note totals))) }
+    ensures none { note_if (is_proposed tuned totals) (tuned_note totals) ≡ [] → out.new ≡ out.old }
+    ensures cause { CountsFault (W.count out.old) (W.count out.new) result }
+{
+    if !is_proposed(tuned, totals) {
+        return Ok(());
+    }
+    write_full(out, tuned_note(totals).as_bytes())
+}
+
+/// Writes the note of headers without a decoded frame.
+fn write_headers_note<W: CountedWrite>(out: &mut W) -> Result<(), WriteFault>
+    requires { CanCount (W.count out.old) }
+    ensures bytes { OnOk result (Appends (W.contents out.old) (W.contents out.new) headers_note) }
+    ensures cause { CountsFault (W.count out.old) (W.count out.new) result }
+{
+    let note =
+        "s2: note: headers are right but no frame is decoded: another scrambling number or other rows? try s2 scan\n";
+    write_full(out, note.as_bytes())
+}
+
+/// Writes the note on what to try, if frames were lost.
 pub(crate) fn write_advice<W: CountedWrite>(
     tuned: bool,
     totals: Totals,
@@ -63,10 +94,7 @@ pub(crate) fn write_advice<W: CountedWrite>(
     ensures cause { CountsFault (W.count out.old) (W.count out.new) result }
 {
     if is_undecoded(totals) {
-        return write_full(out, HEADERS_NOTE.as_bytes());
+        return write_headers_note(out);
     }
-    if tuned || !has_lost(totals) {
-        return Ok(());
-    }
-    write_full(out, tuned_note(totals).as_bytes())
+    write_proposal(tuned, totals, out)
 }

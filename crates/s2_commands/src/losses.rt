@@ -35,10 +35,10 @@ fn all_delivered(totals: Totals) -> bool
 }
 
 /// Whether what decides the exit has come.
-fn has_come(by: ExitBy, received: Received) -> bool
-    ensures { result ≡ has_come by received }
+fn has_come(decider: ExitBy, received: Received) -> bool
+    ensures { result ≡ has_come decider received }
 {
-    match by {
+    match decider {
         ExitBy::Certainty => received.all_certified,
         ExitBy::Delivery => all_delivered(received.totals),
     }
