@@ -36,11 +36,11 @@ abbrev pub MayFail : Option (List ℕ) → Fault → Type 0
 MayFail known faults.TooLong = IsRecording known (Err faults.TooLong)
 MayFail known f = IsOutside f
 
--- `scan` prints this of a recording
-pub record SaysScan (bytes : List ℕ) (exit : Exit) (text : List ℕ) : Type 0 where
-  pub line : text ≡ scan_text (sightings_of (all_passes bytes))
+-- `scan` prints this of a recording in the file of this name
+pub record SaysScan (name bytes : List ℕ) (exit : Exit) (text : List ℕ) : Type 0 where
+  pub line : text ≡ scan_text name (sightings_of (all_passes bytes))
   pub ends : exit ≡ scan_exit (sightings_of (all_passes bytes))
 
 -- `scan` prints this of the recording
-abbrev pub IsScanned : Option (List ℕ) → Exit → List ℕ → Type 0
-IsScanned known exit text = (bytes : List ℕ) × IsRecording known (Ok bytes) × SaysScan bytes exit text
+abbrev pub IsScanned : List ℕ → Option (List ℕ) → Exit → List ℕ → Type 0
+IsScanned name known exit text = (bytes : List ℕ) × IsRecording known (Ok bytes) × SaysScan name bytes exit text

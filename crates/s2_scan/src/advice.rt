@@ -4,6 +4,7 @@ ghost use Rattle.s2_scan.specs.Lines as lines;
 
 use crate::amplitude::MAX_AMPLITUDE;
 use crate::lines::{choose, has_pilots, is_conjugate, is_short, name_at};
+use crate::shell::push_word;
 use crate::sighting::Sighting;
 use crate::texts::{push, push_fraction, push_number};
 use std::alloc::AllocError;
@@ -76,12 +77,12 @@ fn push_convert(text: &mut Vec<u8>, form: usize) -> Result<(), AllocError>
 
 /// The command that sets a sighting's form right, as far as the pipe.
 #[tactic(auto, unfolding(crate::specs::Lines::source_words))]
-fn push_source(text: &mut Vec<u8>, sighting: &Sighting) -> Result<(), AllocError>
-    ensures { OnOk result (text.new.items ≡ text.old.items ++ lines.source_words sighting.now) }
+fn push_source(text: &mut Vec<u8>, name: &str, sighting: &Sighting) -> Result<(), AllocError>
+    ensures { OnOk result (text.new.items ≡ text.old.items ++ lines.source_words name.now sighting.now) }
 {
     push_convert(text, sighting.form)?;
     push_gain(text, gain_of(sighting.amplitude))?;
-    push(text, " recording | ")
+    push_word(text, " ", name, " | ")
 }
 
 /// The command that receives the frames of a header.
@@ -97,41 +98,45 @@ fn push_demod(text: &mut Vec<u8>, header: usize) -> Result<(), AllocError>
 
 /// The line that says how a sighting's frames are received after they are set right.
 #[tactic(auto, unfolding(crate::specs::Lines::converted_line))]
-fn push_converted(text: &mut Vec<u8>, sighting: &Sighting) -> Result<(), AllocError>
-    ensures { OnOk result (text.new.items ≡ text.old.items ++ lines.converted_line sighting.now) }
+fn push_converted(text: &mut Vec<u8>, name: &str, sighting: &Sighting) -> Result<(), AllocError>
+    ensures { OnOk result (text.new.items ≡ text.old.items ++ lines.converted_line name.now sighting.now) }
 {
-    push_source(text, sighting)?;
+    push_source(text, name, sighting)?;
     push_demod(text, sighting.header)?;
-    push(text, " rows - received.ts\n")
+    push(text, " --tuned rows - received.ts\n")
 }
 
 /// The line that says how the frames of a header are received as they are.
 #[tactic(auto, unfolding(crate::specs::Lines::direct_line))]
-fn push_direct(text: &mut Vec<u8>, header: usize) -> Result<(), AllocError>
-    ensures { OnOk result (text.new.items ≡ text.old.items ++ lines.direct_line header) }
+fn push_direct(text: &mut Vec<u8>, name: &str, header: usize) -> Result<(), AllocError>
+    ensures { OnOk result (text.new.items ≡ text.old.items ++ lines.direct_line name.now header) }
 {
     push_demod(text, header)?;
-    push(text, " rows recording received.ts\n")
+    push_word(text, " --tuned rows ", name, " received.ts\n")
 }
 
 /// The line that says how a sighting's frames are received.
-fn push_command(text: &mut Vec<u8>, sighting: &Sighting) -> Result<(), AllocError>
-    ensures { OnOk result (text.new.items ≡ text.old.items ++ lines.command_line sighting.now) }
+fn push_command(text: &mut Vec<u8>, name: &str, sighting: &Sighting) -> Result<(), AllocError>
+    ensures { OnOk result (text.new.items ≡ text.old.items ++ lines.command_line name.now sighting.now) }
 {
     if sighting.form == 0 && is_usual(sighting.amplitude) {
-        push_direct(text, sighting.header)
+        push_direct(text, name, sighting.header)
     } else {
-        push_converted(text, sighting)
+        push_converted(text, name, sighting)
     }
 }
 
-/// The last line: how the likeliest frames that this program receives are received.
-pub(crate) fn push_advice(text: &mut Vec<u8>, sightings: &[Sighting]) -> Result<(), AllocError>
-    ensures { OnOk result (text.new.items ≡ text.old.items ++ lines.advice_of sightings.now) }
+/// The last line: how the likeliest frames that this program receives are received from the file of this name.
+pub(crate) fn push_advice(
+    text: &mut Vec<u8>,
+    name: &str,
+    sightings: &[Sighting],
+) -> Result<(), AllocError>
+    ensures { OnOk result (text.new.items ≡ text.old.items ++ lines.advice_of name.now sightings.now) }
 {
     for k in 0..sightings.len() {
         if is_received(sightings[k].header) {
-            return push_command(text, &sightings[k]);
+            return push_command(text, name, &sightings[k]);
         }
     }
     push(text, "s2 demod receives none of these\n")

@@ -23,6 +23,7 @@ mod lines;
 mod passes;
 mod ranking;
 mod reading;
+mod shell;
 mod sighting;
 mod tally;
 mod text;

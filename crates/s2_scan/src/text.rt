@@ -19,9 +19,13 @@ fn push_lines(text: &mut Vec<u8>, sightings: &[Sighting]) -> Result<(), AllocErr
     Ok(())
 }
 
-/// All that is printed of sightings.
-pub(crate) fn scan_text(alloc: Global, sightings: &[Sighting]) -> Result<Vec<u8>, AllocError>
-    ensures { IfOk result (λ text. text.items ≡ lines.scan_text sightings.now) }
+/// All that is printed of sightings in the file of this name.
+pub(crate) fn scan_text(
+    alloc: Global,
+    name: &str,
+    sightings: &[Sighting],
+) -> Result<Vec<u8>, AllocError>
+    ensures { IfOk result (λ text. text.items ≡ lines.scan_text name.now sightings.now) }
 {
     let mut text = Vec::new(alloc);
     if sightings.is_empty() {
@@ -29,7 +33,7 @@ pub(crate) fn scan_text(alloc: Global, sightings: &[Sighting]) -> Result<Vec<u8>
         return Ok(text);
     }
     push_lines(&mut text, sightings)?;
-    push_advice(&mut text, sightings)?;
+    push_advice(&mut text, name, sightings)?;
     Ok(text)
 }
 

@@ -359,7 +359,7 @@ fn serve_scan<'a, R: Disk + AllocGlobal, O: CountedWrite, E: CountedWrite>(
     ensures { OnErr result (CanCount console.new.errors_failed) }
 {
     let mut symbols = open_input(rt, words.symbols)?;
-    Ok(scan_command(rt.alloc(), &mut symbols, console))
+    Ok(scan_command(rt.alloc(), words.symbols, &mut symbols, console))
 }
 
 /// `join`.

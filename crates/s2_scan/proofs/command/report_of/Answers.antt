@@ -10,7 +10,7 @@ returns-in-Ok-clause-is g c =
       p.0,
       p.1,
       record {
-        line = c.in-Ok.ensures.text ∙ ap (λ ps. scan_text (sightings_of ps)) same;
+        line = c.in-Ok.ensures.text ∙ ap (λ ps. scan_text c.args.name.now (sightings_of ps)) same;
         ends = c.in-Ok.ensures.exit ∙ ap (λ ps. scan_exit (sightings_of ps)) same;
       },
     )
