@@ -66,13 +66,16 @@ Example:
 """
 SCAN_HELP = """Tells which modes a recording has, and how to receive it
 
-Usage: s2 scan <SYMBOLS>
+Usage: s2 scan [OPTIONS] <SYMBOLS>
 
 Arguments:
   <SYMBOLS>  Recording, four bytes a symbol: I and Q, signed, in either byte order
 
 Options:
-  -h, --help  Print help
+      --first <N>  Symbols that are looked at, 1 to 4294967295; without it all
+      --quiet      No notes on standard error, and no progress but by --progress
+      --progress   Progress on standard error, also where that is no terminal: a line that is rewritten once a second
+  -h, --help       Print help
 
 The report, a line for each mode, the likeliest first:
   MODE LENGTH PILOTS         the mode, as qpsk3/4; normal or short; pilots or no-pilots
@@ -95,6 +98,7 @@ Exits:
 
 Example:
   s2 scan recording
+  receiver | s2 scan --first 1000000 -
 """
 LACKS = "error: the following required arguments were not provided:"
 MORE = "\nFor more information, try '--help'.\n"
@@ -228,6 +232,8 @@ MISUSES = [
     ("scan", LACKS),
     ("scan one other", "error: unexpected argument 'other' found"),
     ("scan --modcod 1 one", "error: unexpected argument '--modcod' found"),
+    ("scan --first 0 one", beyond(0, "first <N>", 1, 4294967295)),
+    ("scan --first 4294967296 one", beyond(4294967296, "first <N>", 1, 4294967295)),
     ("join frames out", LACKS),
     ("join --modcod 1 frames", LACKS),
     ("join --modcod 0 frames out", beyond(0, "modcod <M>", 1, 17)),
@@ -331,7 +337,7 @@ WORDS = [
 ]
 # The commands that show how far they are, those that may be strict, those that decide, and a line of each command with what it
 # needs.
-SHOWING, STRICT, DECIDING = ("mod", "noise", "demod", "run"), ("demod", "run"), ("judge", "demod", "run")
+SHOWING, STRICT, DECIDING = ("mod", "noise", "demod", "run", "scan"), ("demod", "run"), ("judge", "demod", "run")
 LINES = {
     "modes": "modes",
     "rows": f"rows {PAIR} --weight 1 --seed 1",
@@ -347,7 +353,7 @@ LINES = {
     "audit": f"audit {LINK} made empty empty empty",
 }
 # The commands that take --quiet.
-QUIET = [name for name in LINES if name not in ("scan", "join", "audit")]
+QUIET = [name for name in LINES if name not in ("join", "audit")]
 
 
 def refused(word, name):
@@ -372,6 +378,7 @@ ENDED = {
     "run": {"out": TWO, "writes": {"out": 2 * PACKET}},
     "audit": {"out": "audit frames 0 sole 0 most-likely 0\n", "reads": {"empty": b""}},
     "join": {"out": "end frames 0 delivered 0 packets 0 bad 0\n", "reads": {"empty": b""}, "writes": {"out": b""}},
+    "scan": {"code": NO, "out": "nothing found\n"},
 }
 
 

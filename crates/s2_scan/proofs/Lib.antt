@@ -10,3 +10,4 @@ pub mod Tallies
 pub mod Pieces
 pub mod Runs
 pub mod Orientations
+pub mod Beginnings

@@ -5,3 +5,4 @@ pub mod Lines
 pub mod Scanning
 pub mod Laws
 pub mod Inside
+pub mod Beginnings

@@ -5,7 +5,8 @@ ghost use Rattle.s2_console.specs.Screens.{CanNote};
 
 use crate::link_request::{LinkRequest, setup_of, with_link};
 use crate::opening::{
-    open_audit, open_input, open_inputs, open_join, open_judge, open_noise, screen_beside, show_on,
+    open_audit, open_input, open_inputs, open_join, open_judge, open_noise, open_scan,
+    screen_beside, show_on,
 };
 use crate::options::{channel_of, demod_options, divisor_of, judging_of, run_options};
 use clap::Error;
@@ -166,7 +167,7 @@ pub(crate) fn run_request<R: Disk + Clock + AllocGlobal, O: CountedWrite, E: Cou
         Request::Judge(words) => conclude(serve_judge(rt, words, console), console),
         Request::Check(words) => conclude(serve_check(rt, words, console), console),
         Request::Noise(words) => conclude(serve_noise(rt, terminal, words, console), console),
-        Request::Scan(words) => conclude(serve_scan(rt, words, console), console),
+        Request::Scan(words) => conclude(serve_scan(rt, terminal, words, console), console),
         Request::Join(words) => conclude(serve_join(rt, words, console), console),
         Request::Audit(words) => conclude(serve_audit(rt, words, console), console),
         Request::Mod(words) => {
@@ -350,16 +351,20 @@ fn serve_noise<'a, R: Disk + Clock + AllocGlobal, O: CountedWrite, E: CountedWri
 }
 
 /// `scan`.
-fn serve_scan<'a, R: Disk + AllocGlobal, O: CountedWrite, E: CountedWrite>(
+fn serve_scan<'a, R: Disk + Clock + AllocGlobal, O: CountedWrite, E: CountedWrite>(
     rt: &R,
+    terminal: &Terminal<'_, R>,
     words: &ScanWords<'a>,
     console: &mut Console<O, E>,
 ) -> Result<Exit, Fault<'a>>
     requires { CanNote console.old }
     ensures { OnErr result (CanCount console.new.errors_failed) }
 {
-    let mut symbols = open_input(rt, words.symbols)?;
-    Ok(scan_command(rt.alloc(), words.symbols, &mut symbols, console))
+    let show = show_on(terminal, Pace::Scanning, words.progress);
+    let mut symbols = open_scan(rt, &show, words)?;
+    let exit = scan_command(rt.alloc(), words.symbols, &mut symbols, console);
+    show.finish();
+    Ok(exit)
 }
 
 /// `join`.

@@ -233,7 +233,8 @@ Exits:
   2  nothing found
 
 Example:
-  s2 scan recording";
+  s2 scan recording
+  receiver | s2 scan --first 1000000 -";
 
 /// The text below the options of `join`.
 const JOIN_MORE: &str = "\
