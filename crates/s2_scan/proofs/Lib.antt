@@ -11,3 +11,4 @@ pub mod Pieces
 pub mod Runs
 pub mod Orientations
 pub mod Beginnings
+pub mod SumLemmas

@@ -6,3 +6,5 @@ pub mod Scanning
 pub mod Laws
 pub mod Inside
 pub mod Beginnings
+pub mod Sums
+pub mod Pilots

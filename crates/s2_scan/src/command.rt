@@ -4,12 +4,14 @@ ghost use Rattle.s2_mode.specs.Counts.{CanCount};
 ghost use Rattle.s2_console.specs.Exits.{CommandRuns, CommandCounts, CommandExits};
 ghost use Rattle.s2_console.specs.Screens.{CanShow};
 ghost use Rattle.s2_scan.specs.Lines.{scan_exit, scan_text};
+ghost use Rattle.s2_scan.specs.Pilots.{number_of};
 ghost use Rattle.s2_scan.specs.Sightings.{sightings_of};
 ghost use Rattle.s2_scan.specs.Scanning.{IsRecording, IsScanned, MayFail, SaysScan};
 
+use crate::number::number_of;
 use crate::passes::Pass;
 use crate::ranking::sightings_of;
-use crate::reading::read_passes;
+use crate::reading::read_seen;
 use crate::text::{scan_exit, scan_text};
 use s2_console::{Console, Exit, Fault, print};
 use s2_mode::{CountedRead, CountedWrite};
@@ -27,13 +29,14 @@ impl Drop for Report {
     }
 }
 
-/// The text and the exit for passes of the file of this name.
-fn report_by(alloc: Global, name: &str, passes: &[Pass]) -> Result<Report, AllocError>
+/// The text and the exit for the passes and the first bytes of the file of this name.
+fn report_by(alloc: Global, name: &str, passes: &[Pass], front: &[u8]) -> Result<Report, AllocError>
     ensures exit { IfOk result (λ s. s.exit ≡ scan_exit (sightings_of passes.now)) }
-    ensures text { IfOk result (λ s. s.text.items ≡ scan_text name.now (sightings_of passes.now)) }
+    ensures text { IfOk result (λ s. s.text.items ≡ scan_text name.now (number_of front.now passes.now (sightings_of passes.now)) (sightings_of passes.now)) }
 {
     let sightings = sightings_of(alloc, passes)?;
-    let text = scan_text(alloc, name, &sightings)?;
+    let number = number_of(alloc, front, passes, &sightings)?;
+    let text = scan_text(alloc, name, number, &sightings)?;
     Ok(Report {
         exit: scan_exit(&sightings),
         text,
@@ -52,8 +55,8 @@ fn report_of<R: CountedRead>(
     ensures read { result ≡ Err Fault.Read → R.count symbols.new ≡ R.count symbols.old + 1 }
     ensures no_other { result ≢ Err Fault.Read → R.count symbols.new ≡ R.count symbols.old }
 {
-    let passes = read_passes(alloc, symbols)?;
-    match report_by(alloc, name, &passes) {
+    let seen = read_seen(alloc, symbols)?;
+    match report_by(alloc, name, &seen.passes, &seen.front) {
         Ok(report) => Ok(report),
         Err(_) => Err(Fault::NoMemory),
     }
