@@ -123,6 +123,13 @@ def few_effects():
     yield Effect("--esn0", "noise --seed 1 {} in out", dict(zip(values, made)), {"reads": {"in": SAMPLES}})
 
 
+def scan_effects(two):
+    """Two frames: the second header ends with symbol 8279."""
+    found = ended(Rule("qpsk1/4 short, and its command", lambda got: got.startswith(b"qpsk1/4 short no-pilots seen 2 ") and b" rows in received.ts\n" in got))
+    ends = {"": found} | each("--first", (8279, 8280, 16380, 4294967295), (ended("nothing found\n", NO), *3 * [found]))
+    yield Effect("--first", "scan {} in", ends, {"reads": {"in": two}})
+
+
 def join_effects():
     """A frame of zeros, as long as the BBFRAMEs of the one mode: its header is refused."""
     end = "end frames {} delivered 0 packets 0 bad 0\n"
@@ -300,7 +307,7 @@ def run_effects(report, others):
 
 def effects(two, made, pilots, dummy, report, others):
     found = [*rows_effects(), *judge_effects(), *few_effects(), *join_effects(), *mod_effects(two, dummy), *tuning_effects(two, report)]
-    found += [*link_effects(two), *figure_effects(two, made)]
+    found += [*link_effects(two), *figure_effects(two, made), *scan_effects(two)]
     return found + [*record_effects(two), *audit_effects(two), *demod_effects(two, pilots), *run_effects(report, others)]
 
 

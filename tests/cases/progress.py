@@ -7,8 +7,8 @@ from cases.drawn import made_rows
 
 # Symbols of a frame of LINK and packets sent; seconds between two readings of the clock of `meter.c`, and the least bytes between them.
 FRAME, PACKETS = 8190, 100
-STEPS = {"mod": 0.15, "noise": 0.15, "demod": 0.15, "run": 0.4}
-PIECES = {"mod": 1 << 16, "noise": 1 << 16, "demod": 1 << 16, "run": 1 << 11}
+STEPS = {"mod": 0.15, "noise": 0.15, "demod": 0.15, "run": 0.4, "scan": 0.15}
+PIECES = {"mod": 1 << 16, "noise": 1 << 16, "demod": 1 << 16, "run": 1 << 11, "scan": 1 << 16}
 # The second has the rows of the first, and lines without words: more bytes than any of these commands reads or writes besides.
 FILES = {"many": PACKETS * PACKET, "padded": made_rows(360, 9, 36, 3, 1) + 2_000_000 * b"\n"}
 WORDS = {
@@ -16,8 +16,9 @@ WORDS = {
     "noise": "noise --seed 1 --level 0 frames out",
     "demod": f"demod {LINK} made frames out",
     "run": f"run {LINK} --seed 1 --level 0 made many out",
+    "scan": "scan frames",
 }
-READS = {"mod": "many", "noise": "frames", "demod": "frames", "run": "many"}
+READS = {"mod": "many", "noise": "frames", "demod": "frames", "run": "many", "scan": "frames"}
 # Where many seeds are run, and how many.
 SEEDED, RUNS = (f"run {LINK} --seeds 1..3 --level 0 made many out", 3)
 # Numbers that no line exceeds, besides those of bytes: of frames, and of packets in each run.
@@ -45,6 +46,7 @@ SHOWN = {
     "noise": {"rate", "share", "left"},
     "demod": {"frames", "packets", "rate", "share", "left"},
     "run": {"packets", "share", "left"},
+    "scan": {"rate", "share", "left"},
 }
 # Shown only if the length of the input is known.
 OF_LENGTH = {"share", "left"}
@@ -93,6 +95,8 @@ def passed(name, shown, length, runs):
     if name == "noise":
         half = Range(both.least // 2 - 8192, both.most // 2 + 8192)
         return half, both, half
+    if name == "scan":
+        return both, both, both
     packets = units(int(shown["packets"]), 188)
     if name == "run":
         # the line counts received packets as soon as there are some; all packets are read by then

@@ -67,13 +67,16 @@ Example:
 """
 SCAN_HELP = """Tells which modes a recording has, and how to receive it
 
-Usage: s2 scan <SYMBOLS>
+Usage: s2 scan [OPTIONS] <SYMBOLS>
 
 Arguments:
   <SYMBOLS>  Recording, four bytes a symbol: I and Q, signed, in either byte order
 
 Options:
-  -h, --help  Print help
+      --first <N>  Symbols that are looked at, 1 to 4294967295; without it all
+      --quiet      No notes on standard error, and no progress but by --progress
+      --progress   Progress on standard error, also where that is no terminal: a line that is rewritten once a second
+  -h, --help       Print help
 
 The report, a line for each mode, the likeliest first:
   MODE LENGTH PILOTS         the mode, as qpsk3/4; normal or short; pilots or no-pilots
@@ -82,6 +85,10 @@ The report, a line for each mode, the likeliest first:
   turn K conjugate yes|no    the symbols were multiplied by the K-th power of i, and then conjugated, or not
   bytes big|little           the byte order
   amplitude A                of the headers' symbols; `mod` sends 990
+
+The line before the last:
+  number N                          the scrambling number, by the pilots of the likeliest frames that have some
+  number not looked for: no pilots  the command of the last line takes 0: try others with --number
 
 The last line:
   tools/convert .. | ./s2 demod ..    receives the first mode of the list that `demod` takes; rows is the mode's row file
@@ -96,6 +103,7 @@ Exits:
 
 Example:
   s2 scan recording
+  receiver | s2 scan --first 1000000 -
 """
 RUN = "run --modcod 1 --seed 1 --level 1"
 WANTED_NORMAL = "QPSK 1/4, normal wants 45 rows of addresses below 48600"
@@ -244,6 +252,8 @@ MISUSES = [
     ("scan", "missing: <SYMBOLS>"),
     ("scan one other", "other is one argument too many"),
     ("scan --modcod 1 one", "--modcod is not an option of scan"),
+    ("scan --first 0 one", beyond(0, "first", 1, 4294967295)),
+    ("scan --first 4294967296 one", beyond(4294967296, "first", 1, 4294967295)),
     ("join frames out", "missing: --modcod <M>"),
     ("join --modcod 1 frames", "missing: <PACKETS>"),
     ("join --modcod 0 frames out", no_mode(0)),
@@ -356,7 +366,7 @@ WORDS = [
 ]
 # The commands that show how far they are, those that may be strict, those that decide, and a line of each command with what it
 # needs.
-SHOWING, STRICT, DECIDING = ("mod", "noise", "demod", "run"), ("demod", "run"), ("judge", "demod", "run")
+SHOWING, STRICT, DECIDING = ("mod", "noise", "demod", "run", "scan"), ("demod", "run"), ("judge", "demod", "run")
 LINES = {
     "modes": "modes",
     "rows": f"rows {PAIR} --weight 1 --seed 1",
@@ -372,7 +382,7 @@ LINES = {
     "audit": f"audit {LINK} made empty empty empty",
 }
 # The commands that take --quiet.
-QUIET = [name for name in LINES if name not in ("scan", "join", "audit")]
+QUIET = [name for name in LINES if name not in ("join", "audit")]
 
 
 def refused(word, name):
@@ -397,6 +407,7 @@ ENDED = {
     "run": {"out": TWO, "writes": {"out": 2 * PACKET}},
     "audit": {"out": "audit frames 0 sole 0 most-likely 0\n", "reads": {"empty": b""}},
     "join": {"out": "end frames 0 delivered 0 packets 0 bad 0\n", "reads": {"empty": b""}, "writes": {"out": b""}},
+    "scan": {"code": NO, "out": "nothing found\n"},
 }
 
 

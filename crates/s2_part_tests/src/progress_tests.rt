@@ -228,6 +228,7 @@ fn numbers_of_a_receiver(rt: HostRuntime) {
         ..want
     };
     assert_eq!(rt; numbers_at(Pace::AddingNoise, now), noisy);
+    assert_eq!(rt; numbers_at(Pace::Scanning, now), noisy);
 }
 
 #[test]

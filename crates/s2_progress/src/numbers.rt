@@ -9,6 +9,8 @@ pub enum Pace {
     Receiving { frame: u64 },
     /// Symbols come in, and go out with noise.
     AddingNoise,
+    /// Symbols come in.
+    Scanning,
     /// Packets come in. After the last one they go out, once for each run.
     Looping { runs: u64 },
 }
@@ -55,7 +57,9 @@ fn ratio(number: u64, many: u64, per: u64) -> Option<u64> {
 fn symbols_of(pace: Pace, passed: Passed) -> Option<u64> {
     match pace {
         Pace::Sending { frame: _ } => Some(passed.given / SYMBOL_BYTES),
-        Pace::Receiving { frame: _ } | Pace::AddingNoise => Some(passed.taken / SYMBOL_BYTES),
+        Pace::Receiving { frame: _ } | Pace::AddingNoise | Pace::Scanning => {
+            Some(passed.taken / SYMBOL_BYTES)
+        }
         Pace::Looping { runs: _ } => None,
     }
 }
@@ -65,7 +69,7 @@ fn packets_of(pace: Pace, passed: Passed) -> Option<u64> {
     match pace {
         Pace::Sending { frame: _ } => Some(passed.taken / PACKET_BYTES),
         Pace::Receiving { frame: _ } => Some(passed.given / PACKET_BYTES),
-        Pace::AddingNoise => None,
+        Pace::AddingNoise | Pace::Scanning => None,
         Pace::Looping { runs: _ } if passed.given == 0 => Some(passed.taken / PACKET_BYTES),
         Pace::Looping { runs: _ } => Some(passed.given / PACKET_BYTES),
     }
@@ -76,7 +80,7 @@ fn frames_of(pace: Pace, passed: Passed) -> Option<u64> {
     match pace {
         Pace::Sending { frame } => ratio(passed.given / SYMBOL_BYTES, 1, frame),
         Pace::Receiving { frame } => ratio(passed.taken / SYMBOL_BYTES, 1, frame),
-        Pace::AddingNoise | Pace::Looping { runs: _ } => None,
+        Pace::AddingNoise | Pace::Scanning | Pace::Looping { runs: _ } => None,
     }
 }
 

@@ -4,11 +4,13 @@ use Rattle.std.specs.Io.KnownBytes.{Consumes, IsAtEnd}
 use Rattle.std.specs.Prelude.{if◌then◌else◌}
 use Rattle.std.proofs.KnownBytes.{Consumes-nil, Consumes-trans}
 use Rattle.std.proofs.lemmas.Bool.{cases_lt, lt-ltb, le-ltb}
-use Rattle.std.proofs.lemmas.List.{take-append-le, drop-append-le, drop-drop, take_all}
+use Rattle.std.proofs.lemmas.List.{length-take-le, take-append-le, drop-append-le, drop-drop, drop_at, drop-take, take_all}
+use Rattle.std.proofs.Math.Seq.{take-append-add}
 use Rattle.s2_console.specs.declared.fault.Fault.TheVariants as faults
 use Rattle.s2_scan.specs.Inside.{Fed, Filled}
 use Rattle.s2_scan.specs.Passing.{passes_at, passes_below, positions_in, window_at}
-use Rattle.s2_scan.specs.Scanning.{ArePasses, IsRecording, max_bytes, recorded}
+use Rattle.s2_scan.specs.Pilots.{front_bytes, front_of}
+use Rattle.s2_scan.specs.Scanning.{AreSeen, IsRecording, max_bytes, recorded}
 use Rattle.s2_scan.specs.declared.passes.Pass.{Pass}
 use Rattle.s2_scan.proofs.Ranges.{flat_more}
 
@@ -56,10 +58,23 @@ passes_joined bytes first (suc n) =
     ∙ (sym (append_assoc (passes_below 0 bytes first) (passes_below first block n) (passes_at (first + n) (window_at n block)))
     ∙ ((λ t. passes_joined bytes first n t ++ passes_at (place t) (window t)) ∙ (sym (position_more 0 bytes (first + n)) ∙ ap (passes_below 0 bytes) last))))
 
+-- the first bytes of bytes, with those of the bytes after them
+front_more : (bytes piece : List ℕ) → front_of bytes ++ take (front_bytes - length (front_of bytes)) piece ≡ front_of (bytes ++ piece)
+front_more bytes piece = elim (cases_lt front_bytes (length bytes)) [
+  | inl less ↦
+      let size : length (front_of bytes) ≡ front_bytes = length-take-le front_bytes bytes (omega arith) in
+      let none : front_bytes - length (front_of bytes) ≡ 0 = omega (arith, size) in
+      ap (λ n. front_of bytes ++ take n piece) none ∙ (append-nil (front_of bytes) ∙ sym (take-append-le front_bytes bytes piece (omega arith)))
+  | inr more ↦
+      let all : front_of bytes ≡ bytes = take_all front_bytes bytes more in
+      let parts : length bytes + (front_bytes - length bytes) ≡ front_bytes = omega arith in
+      (λ t. all t ++ take (front_bytes - length (all t)) piece) ∙ (sym (take-append-add bytes piece (front_bytes - length bytes)) ∙ ap (λ n. take n (bytes ++ piece)) parts)
+]
+
 -- ---- a block more
 
 -- the bytes read so far, with those of the next block
-module _ (origin old new : Option (List ℕ)) (before after : List ℕ) (held total first : ℕ) (passes : List Pass) (fed : Fed origin old before held first passes) (filled : Filled old new before after held total) where
+module _ (origin old new : Option (List ℕ)) (before after : List ℕ) (held total first : ℕ) (passes : List Pass) (front : List ℕ) (fed : Fed origin old before held first passes front) (filled : Filled old new before after held total) where
   abbrev pub read : List ℕ
   read = fed.bytes ++ filled.piece
 
@@ -97,9 +112,21 @@ module _ (origin old new : Option (List ℕ)) (before after : List ℕ) (held to
     | inr more ↦ omega (arith, size_on, more, filled.size)
   ]
 
+  -- the first bytes, with those of this block
+  abbrev pub front_on : List ℕ
+  front_on = front ++ take (front_bytes - length front) (take (total - held) (drop held after))
+
+  pub begun_on : held ≤ length before → front_on ≡ front_of read
+  begun_on room =
+      let parts : held + (total - held) ≡ total = omega (arith, filled.size) in
+      let size : length (take held before) ≡ held = length-take-le held before room in
+      let piece : take (total - held) (drop held after) ≡ filled.piece = sym (drop-take held (total - held) after) ∙ (ap (λ n. drop held (take n after)) parts ∙ (ap (drop held) filled.joined ∙ drop_at (take held before) filled.piece held size)) in
+      (λ t. fed.begun t ++ take (front_bytes - length (fed.begun t)) (piece t)) ∙ front_more fed.bytes filled.piece
+
   -- the recording ends with this block
-  pub ends : total < 33124 → first + 8192 ≤ 2 ^ 40 → IsAtEnd new → (found : List Pass) → found ≡ passes ++ passes_below first (take total after) (positions_in (take total after)) → ArePasses origin found
-  ends few room end found is = (read, recording origin new taken_on end, is ∙ (found_all ∙ ap (passes_below 0 read) (sym count_is)))
+  pub ends : total < 33124 → first + 8192 ≤ 2 ^ 40 → held ≤ length before → IsAtEnd new → (found : List Pass) → found ≡ passes ++ passes_below first (take total after) (positions_in (take total after))
+      → (begin : List ℕ) → begin ≡ front_on → AreSeen origin found begin
+  ends few room inside end found is begin begun = (read, recording origin new taken_on end, is ∙ (found_all ∙ ap (passes_below 0 read) (sym count_is)), begun ∙ begun_on inside)
     where
       short : length read < max_bytes
       short = omega (arith, size_on, few, room)
@@ -112,9 +139,10 @@ module _ (origin old new : Option (List ℕ)) (before after : List ℕ) (held to
           ap recorded whole ∙ ap (λ (b : Bool). if b then Ok read else Err faults.TooLong) (lt-ltb (length read) max_bytes short)
 
   -- it goes on
-  pub goes_on : total ≡ 33124 → length after ≡ 33124 → (block : List ℕ) → take 356 block ≡ drop 32768 after → (found : List Pass)
-      → found ≡ passes ++ passes_below first (take total after) (positions_in (take total after)) → Fed origin new block 356 (first + 8192) found
-  goes_on full room block kept found is = record {
+  pub goes_on : total ≡ 33124 → length after ≡ 33124 → held ≤ length before → (block : List ℕ) → take 356 block ≡ drop 32768 after → (found : List Pass)
+      → found ≡ passes ++ passes_below first (take total after) (positions_in (take total after))
+      → (begin : List ℕ) → begin ≡ front_on → Fed origin new block 356 (first + 8192) found begin
+  goes_on full room inside block kept found is begin begun = record {
     bytes = read;
     consumed = taken_on;
     size = omega (arith, size_on, full);
@@ -126,30 +154,34 @@ module _ (origin old new : Option (List ℕ)) (before after : List ℕ) (held to
         let many : first + (total / 4 - 89) ≡ first + 8192 = omega (arith, full) in
         is ∙ (found_all ∙ ap (passes_below 0 read) many);
     early = λ less. absurd (omega arith);
+    begun = begun ∙ begun_on inside;
   }
 
 -- nothing is read yet
-pub none_fed : (origin : Option (List ℕ)) (block : List ℕ) (held first : ℕ) (passes : List Pass) → held ≡ 0 → first ≡ 0 → passes ≡ [] → Fed origin origin block held first passes
-none_fed origin block held first passes none start empty = record {
+pub none_fed : (origin : Option (List ℕ)) (block : List ℕ) (held first : ℕ) (passes : List Pass) (front : List ℕ) → held ≡ 0 → first ≡ 0 → passes ≡ [] → front ≡ [] → Fed origin origin block held first passes front
+none_fed origin block held first passes front none start empty fresh = record {
   bytes = [];
   consumed = Consumes-nil origin;
   size = omega (arith, none, start);
   kept = ap (λ n. take n block) none ∙ sym (ap (λ n. drop (4 * n) []) start);
   found = empty ∙ sym (no_position 0 [] ∙ refl) ∙ ap (passes_below 0 []) (sym start);
   early = λ _. start;
+  begun = fresh;
 }
 
 -- a recording that does not end after all blocks is too long
-pub too_long : (origin rest : Option (List ℕ)) (block : List ℕ) (held first : ℕ) (passes : List Pass) → Fed origin rest block held first passes → first ≡ 2 ^ 40 → IsRecording origin (Err faults.TooLong)
-too_long None rest block held first passes fed all = tt
-too_long (Some xs) None block held first passes fed all = absurd fed.consumed
-too_long (Some xs) (Some ys) block held first passes fed all =
+pub too_long : (origin rest : Option (List ℕ)) (block : List ℕ) (held first : ℕ) (passes : List Pass) (front : List ℕ) → Fed origin rest block held first passes front → first ≡ 2 ^ 40 → IsRecording origin (Err faults.TooLong)
+too_long None rest block held first passes front fed all = tt
+too_long (Some xs) None block held first passes front fed all = absurd fed.consumed
+too_long (Some xs) (Some ys) block held first passes front fed all =
     let full : 356 ≤ held = elim (cases_lt held 356) [ inl less ↦ let none : first ≡ 0 = fed.early less in absurd (omega (arith, none, all)) | inr more ↦ more ] in
     let long : max_bytes ≤ length xs = omega (arith, fed.size, all, full, ap length fed.consumed, length-append fed.bytes ys) in
     ap (λ (b : Bool). if b then Ok xs else Err faults.TooLong) (le-ltb (length xs) max_bytes long)
 
 -- the same, by equal numbers and passes
-pub fed_as : (origin rest : Option (List ℕ)) (block : List ℕ) (held held' first first' : ℕ) (passes passes' : List Pass) → held' ≡ held → first' ≡ first → passes' ≡ passes
-    → Fed origin rest block held first passes → Fed origin rest block held' first' passes'
-fed_as origin rest block held held' first first' passes passes' p q r fed =
-    subst (λ (h : ℕ). Fed origin rest block h first' passes') (sym p) (subst (λ (f : ℕ). Fed origin rest block held f passes') (sym q) (subst (λ (ps : List Pass). Fed origin rest block held first ps) (sym r) fed))
+pub fed_as : (origin rest : Option (List ℕ)) (block : List ℕ) (held held' first first' : ℕ) (passes passes' : List Pass) (front front' : List ℕ) → held' ≡ held → first' ≡ first → passes' ≡ passes → front' ≡ front
+    → Fed origin rest block held first passes front → Fed origin rest block held' first' passes' front'
+fed_as origin rest block held held' first first' passes passes' front front' p q r s fed =
+    subst (λ (h : ℕ). Fed origin rest block h first' passes' front') (sym p)
+    (subst (λ (f : ℕ). Fed origin rest block held f passes' front') (sym q)
+    (subst (λ (ps : List Pass). Fed origin rest block held first ps front') (sym r) (subst (λ (xs : List ℕ). Fed origin rest block held first passes xs) (sym s) fed)))

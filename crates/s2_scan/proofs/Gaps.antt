@@ -1,5 +1,5 @@
 -- Sightings, one after the other.
-use Rattle.std.proofs.Common.{◌≡◌, ℕ, ◌+◌, ◌<◌, ◌≤◌, Bool, true, List, length, get_or, drop, ap, sym, ◌∙◌}
+use Rattle.std.proofs.Common.{◌≡◌, ℕ, ◌+◌, ◌<◌, ◌≤◌, Bool, true, List, length, get_or, drop, Option, ap, sym, ◌∙◌}
 use Rattle.std.specs.Prelude.{codes, if◌then◌else◌}
 use Rattle.std.proofs.lemmas.List.{drop_all, drop_more}
 use Rattle.s2_scan.specs.Lines.{advice_of, command_line, is_received}
@@ -15,12 +15,12 @@ abbrev pub no_sighting : Sighting
 no_sighting = record { form = 0; header = 0; seen = 0; pairs = 0; first = 0; every = 0; amplitude = 0 }
 
 -- the first one that is received
-pub received_here : (ss : List Sighting) (k : ℕ) → k < length ss → is_received (get_or ss k no_sighting).header ≡ true → advice_of (drop k ss) ≡ advice_of ss
-    → command_line (get_or ss k no_sighting) ≡ advice_of ss
-received_here ss k lt is rest =
+pub received_here : (name : List ℕ) (number : Option ℕ) (ss : List Sighting) (k : ℕ) → k < length ss → is_received (get_or ss k no_sighting).header ≡ true → advice_of name number (drop k ss) ≡ advice_of name number ss
+    → command_line name number (get_or ss k no_sighting) ≡ advice_of name number ss
+received_here name number ss k lt is rest =
     let s = get_or ss k no_sighting in
-    sym (ap advice_of (drop_more ss k no_sighting lt) ∙ ap (λ (b : Bool). if b then command_line s else advice_of (drop (k + 1) ss)) is) ∙ rest
+    sym (ap (advice_of name number) (drop_more ss k no_sighting lt) ∙ ap (λ (b : Bool). if b then command_line name number s else advice_of name number (drop (k + 1) ss)) is) ∙ rest
 
 -- none is
-pub received_none : (ss : List Sighting) (k : ℕ) → length ss ≤ k → advice_of (drop k ss) ≡ advice_of ss → codes "s2 demod receives none of these\n" ≡ advice_of ss
-received_none ss k past rest = sym (ap advice_of (drop_all k ss past)) ∙ rest
+pub received_none : (name : List ℕ) (number : Option ℕ) (ss : List Sighting) (k : ℕ) → length ss ≤ k → advice_of name number (drop k ss) ≡ advice_of name number ss → codes "s2 demod receives none of these\n" ≡ advice_of name number ss
+received_none name number ss k past rest = sym (ap (advice_of name number) (drop_all k ss past)) ∙ rest

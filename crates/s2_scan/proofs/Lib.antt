@@ -10,3 +10,5 @@ pub mod Tallies
 pub mod Pieces
 pub mod Runs
 pub mod Orientations
+pub mod Beginnings
+pub mod SumLemmas

@@ -6,12 +6,12 @@ use Rattle.s2_console.specs.Exits.{CommandAnswers}
 use Rattle.s2_scan.specs.Scanning.{IsRecording, MayFail, SaysScan}
 
 -- a fault that may come is the input's, or from outside
-pub may_answer : (known : Option (List ℕ)) (f : Fault) → MayFail known f → CommandAnswers SaysScan (IsRecording known) (Err f)
-may_answer known faults.Read may = tt
-may_answer known faults.Write may = tt
-may_answer known faults.NoMemory may = tt
-may_answer known faults.TooLong may = may
-may_answer known (faults.Open name) may = absurd may
-may_answer known (faults.UsedTwice name) may = absurd may
-may_answer known (faults.Rows text) may = absurd may
-may_answer known (faults.Refused text) may = absurd may
+pub may_answer : (name : List ℕ) (known : Option (List ℕ)) (f : Fault) → MayFail known f → CommandAnswers (SaysScan name) (IsRecording known) (Err f)
+may_answer name known faults.Read may = tt
+may_answer name known faults.Write may = tt
+may_answer name known faults.NoMemory may = tt
+may_answer name known faults.TooLong may = may
+may_answer name known (faults.Open path) may = absurd may
+may_answer name known (faults.UsedTwice path) may = absurd may
+may_answer name known (faults.Rows text) may = absurd may
+may_answer name known (faults.Refused text) may = absurd may

@@ -5,3 +5,6 @@ pub mod Lines
 pub mod Scanning
 pub mod Laws
 pub mod Inside
+pub mod Beginnings
+pub mod Sums
+pub mod Pilots

@@ -1,5 +1,5 @@
 -- What `scan` prints (own).
-use Rattle.std.specs.Prelude.{ℕ, ◌+◌, ◌-◌, ◌*◌, ◌/◌, ◌%◌, ◌==◌, ◌&&◌, ◌||◌, Bool, not, nat_le, nat_lt, max, min, List, [], ◌∷◌, ◌++◌, get_or, drop, codes, decimal, if◌then◌else◌}
+use Rattle.std.specs.Prelude.{ℕ, ◌+◌, ◌-◌, ◌*◌, ◌/◌, ◌%◌, ◌==◌, ◌&&◌, ◌||◌, Bool, true, not, nat_le, nat_lt, max, min, List, [], ◌∷◌, ◌++◌, get_or, drop, Option, None, Some, codes, decimal, if◌then◌else◌}
 use Rattle.s2_console.specs.declared.exit.Exit.{Exit}
 use Rattle.s2_console.specs.declared.exit.Exit.TheVariants as exits
 use Rattle.s2_scan.specs.Forms.{is_little, way_of}
@@ -67,6 +67,10 @@ lines_of (s ∷ ss) = line_of s ++ lines_of ss
 
 -- ---- what to do
 
+-- whether a number is between two others, or one of them
+abbrev pub is_between : ℕ → ℕ → ℕ → Bool
+is_between least most n = nat_le least n && nat_le n most
+
 -- whether this program receives the frames of a header: MODCOD 1 to 17; 9/10, which is 11 and 17, has no short frames
 abbrev pub is_received : ℕ → Bool
 is_received header =
@@ -98,38 +102,72 @@ convert_words form =
     (if is_little form then codes "tools/convert ci16_le ci16_be" else codes "tools/convert ci16_be ci16_be")
     ++ ((if is_conjugate form then codes " --conjugate" else []) ++ turn_words (turns_back form))
 
--- the command that sets a sighting's form right, as far as the pipe
-unfoldable pub source_words : Sighting → List ℕ
-source_words s = convert_words s.form ++ (gain_words (gain_of s.amplitude) ++ codes " recording | ")
+-- whether a byte of a name needs no quotes in a shell: a letter, a digit, or one of % + , - . / : = @ _
+abbrev pub is_plain : ℕ → Bool
+is_plain byte = is_between 43 58 byte || (is_between 64 90 byte || (is_between 97 122 byte || ((byte == 37) || ((byte == 61) || (byte == 95)))))
 
--- the command that receives the frames of a header
-unfoldable pub demod_words : ℕ → List ℕ
-demod_words header =
-    codes "./s2 demod --modcod "
-    ++ (name_at header ++ ((if is_short header then codes " --short" else []) ++ (if has_pilots header then codes " --pilots" else [])))
+-- whether this is true of all bytes
+abbrev pub are_plain : List ℕ → Bool
+are_plain [] = true
+are_plain (byte ∷ bytes) = is_plain byte && are_plain bytes
+
+-- a byte between single quotes; a single quote is outside of them, after a backslash
+abbrev pub quoted_byte : ℕ → List ℕ
+quoted_byte byte = if byte == 39 then codes "'\\''" else byte ∷ []
+
+-- bytes between single quotes
+abbrev pub quoted_bytes : List ℕ → List ℕ
+quoted_bytes [] = []
+quoted_bytes (byte ∷ bytes) = quoted_byte byte ++ quoted_bytes bytes
+
+-- a name as a word of a shell: between single quotes, if it needs them
+unfoldable pub shell_word : List ℕ → List ℕ
+shell_word name = if are_plain name then name else codes "'" ++ (quoted_bytes name ++ codes "'")
+
+-- the command that sets a sighting's form right, as far as the pipe
+unfoldable pub source_words : List ℕ → Sighting → List ℕ
+source_words name s = convert_words s.form ++ (gain_words (gain_of s.amplitude) ++ (codes " " ++ (shell_word name ++ codes " | ")))
+
+-- the option for a scrambling number, if it is found and not 0
+unfoldable pub number_words : Option ℕ → List ℕ
+number_words None = []
+number_words (Some number) = if number == 0 then [] else codes " --number " ++ decimal number
+
+-- the mode of a header in options
+unfoldable pub mode_words : ℕ → List ℕ
+mode_words header = name_at header ++ ((if is_short header then codes " --short" else []) ++ (if has_pilots header then codes " --pilots" else []))
+
+-- the command that receives the frames of a header under a scrambling number
+unfoldable pub demod_words : Option ℕ → ℕ → List ℕ
+demod_words number header = codes "./s2 demod --modcod " ++ (mode_words header ++ (number_words number ++ codes " --tuned rows "))
 
 -- the line that says how a sighting's frames are received after they are set right
-unfoldable pub converted_line : Sighting → List ℕ
-converted_line s = source_words s ++ (demod_words s.header ++ codes " rows - received.ts\n")
+unfoldable pub converted_line : List ℕ → Option ℕ → Sighting → List ℕ
+converted_line name number s = source_words name s ++ (demod_words number s.header ++ codes "- received.ts\n")
 
 -- the line that says how the frames of a header are received as they are
-unfoldable pub direct_line : ℕ → List ℕ
-direct_line header = demod_words header ++ codes " rows recording received.ts\n"
+unfoldable pub direct_line : List ℕ → Option ℕ → ℕ → List ℕ
+direct_line name number header = demod_words number header ++ (shell_word name ++ codes " received.ts\n")
 
 -- The line that says how a sighting's frames are received: as they are, if they are in our byte order, neither conjugated
 -- nor rotated, and their amplitude needs no gain
-abbrev pub command_line : Sighting → List ℕ
-command_line s = if (s.form == 0) && is_usual s.amplitude then direct_line s.header else converted_line s
+abbrev pub command_line : List ℕ → Option ℕ → Sighting → List ℕ
+command_line name number s = if (s.form == 0) && is_usual s.amplitude then direct_line name number s.header else converted_line name number s
 
--- the last line: how the likeliest frames that this program receives are received
-abbrev pub advice_of : List Sighting → List ℕ
-advice_of [] = codes "s2 demod receives none of these\n"
-advice_of (s ∷ ss) = if is_received s.header then command_line s else advice_of ss
+-- the last line: how the likeliest frames that this program receives are received from the file of this name
+abbrev pub advice_of : List ℕ → Option ℕ → List Sighting → List ℕ
+advice_of name number [] = codes "s2 demod receives none of these\n"
+advice_of name number (s ∷ ss) = if is_received s.header then command_line name number s else advice_of name number ss
+
+-- the line of the scrambling number
+unfoldable pub number_line : Option ℕ → List ℕ
+number_line None = codes "number not looked for: no pilots\n"
+number_line (Some number) = (codes "number " ++ decimal number) ++ codes "\n"
 
 -- all that is printed
-abbrev pub scan_text : List Sighting → List ℕ
-scan_text [] = codes "nothing found\n"
-scan_text (s ∷ ss) = lines_of (s ∷ ss) ++ advice_of (s ∷ ss)
+abbrev pub scan_text : List ℕ → Option ℕ → List Sighting → List ℕ
+scan_text name number [] = codes "nothing found\n"
+scan_text name number (s ∷ ss) = lines_of (s ∷ ss) ++ (number_line number ++ advice_of name number (s ∷ ss))
 
 -- exit 0 if there is a sighting, else 2
 abbrev pub scan_exit : List Sighting → Exit

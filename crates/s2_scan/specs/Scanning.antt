@@ -5,6 +5,7 @@ use Rattle.s2_console.specs.declared.exit.Exit.{Exit}
 use Rattle.s2_console.specs.declared.fault.Fault.{Fault}
 use Rattle.s2_console.specs.declared.fault.Fault.TheVariants as faults
 use Rattle.s2_scan.specs.Passing.{all_passes}
+use Rattle.s2_scan.specs.Pilots.{front_of, number_of}
 use Rattle.s2_scan.specs.Sightings.{sightings_of}
 use Rattle.s2_scan.specs.Lines.{scan_text, scan_exit}
 use Rattle.s2_scan.specs.declared.passes.Pass.{Pass}
@@ -21,9 +22,9 @@ recorded bytes = if nat_lt (length bytes) max_bytes then Ok bytes else Err fault
 abbrev pub IsRecording : Option (List ℕ) → Result (List ℕ) Fault → Type 0
 IsRecording known said = IfSome known (λ bytes. recorded bytes ≡ said)
 
--- these are the passes of the recording
-abbrev pub ArePasses : Option (List ℕ) → List Pass → Type 0
-ArePasses known passes = (bytes : List ℕ) × IsRecording known (Ok bytes) × (passes ≡ all_passes bytes)
+-- these are the passes and the first bytes of the recording
+abbrev pub AreSeen : Option (List ℕ) → List Pass → List ℕ → Type 0
+AreSeen known passes front = (bytes : List ℕ) × IsRecording known (Ok bytes) × (passes ≡ all_passes bytes) × (front ≡ front_of bytes)
 
 -- a read failed, or memory was refused
 abbrev pub IsOutside : Fault → Type 0
@@ -36,11 +37,11 @@ abbrev pub MayFail : Option (List ℕ) → Fault → Type 0
 MayFail known faults.TooLong = IsRecording known (Err faults.TooLong)
 MayFail known f = IsOutside f
 
--- `scan` prints this of a recording
-pub record SaysScan (bytes : List ℕ) (exit : Exit) (text : List ℕ) : Type 0 where
-  pub line : text ≡ scan_text (sightings_of (all_passes bytes))
+-- `scan` prints this of a recording in the file of this name
+pub record SaysScan (name bytes : List ℕ) (exit : Exit) (text : List ℕ) : Type 0 where
+  pub line : text ≡ scan_text name (number_of (front_of bytes) (all_passes bytes) (sightings_of (all_passes bytes))) (sightings_of (all_passes bytes))
   pub ends : exit ≡ scan_exit (sightings_of (all_passes bytes))
 
 -- `scan` prints this of the recording
-abbrev pub IsScanned : Option (List ℕ) → Exit → List ℕ → Type 0
-IsScanned known exit text = (bytes : List ℕ) × IsRecording known (Ok bytes) × SaysScan bytes exit text
+abbrev pub IsScanned : List ℕ → Option (List ℕ) → Exit → List ℕ → Type 0
+IsScanned name known exit text = (bytes : List ℕ) × IsRecording known (Ok bytes) × SaysScan name bytes exit text

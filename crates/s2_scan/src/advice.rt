@@ -4,6 +4,7 @@ ghost use Rattle.s2_scan.specs.Lines as lines;
 
 use crate::amplitude::MAX_AMPLITUDE;
 use crate::lines::{choose, has_pilots, is_conjugate, is_short, name_at};
+use crate::shell::{push_name, push_word};
 use crate::sighting::Sighting;
 use crate::texts::{push, push_fraction, push_number};
 use std::alloc::AllocError;
@@ -76,62 +77,107 @@ fn push_convert(text: &mut Vec<u8>, form: usize) -> Result<(), AllocError>
 
 /// The command that sets a sighting's form right, as far as the pipe.
 #[tactic(auto, unfolding(crate::specs::Lines::source_words))]
-fn push_source(text: &mut Vec<u8>, sighting: &Sighting) -> Result<(), AllocError>
-    ensures { OnOk result (text.new.items ≡ text.old.items ++ lines.source_words sighting.now) }
+fn push_source(text: &mut Vec<u8>, name: &str, sighting: &Sighting) -> Result<(), AllocError>
+    ensures { OnOk result (text.new.items ≡ text.old.items ++ lines.source_words name.now sighting.now) }
 {
     push_convert(text, sighting.form)?;
     push_gain(text, gain_of(sighting.amplitude))?;
-    push(text, " recording | ")
+    push_word(text, " ", name, " | ")
 }
 
-/// The command that receives the frames of a header.
-#[tactic(auto, unfolding(crate::specs::Lines::demod_words))]
-fn push_demod(text: &mut Vec<u8>, header: usize) -> Result<(), AllocError>
-    ensures { OnOk result (text.new.items ≡ text.old.items ++ lines.demod_words header) }
+/// The option for a scrambling number, if it is found and not 0.
+#[tactic(auto, unfolding(crate::specs::Lines::number_words))]
+fn push_option(text: &mut Vec<u8>, number: Option<u64>) -> Result<(), AllocError>
+    ensures { OnOk result (text.new.items ≡ text.old.items ++ lines.number_words number) }
 {
-    push(text, "./s2 demod --modcod ")?;
+    let Some(number) = number else {
+        return Ok(());
+    };
+    if number == 0 {
+        return Ok(());
+    }
+    push_number(text, " --number ", number)
+}
+
+/// The mode of a header in options.
+#[tactic(auto, unfolding(crate::specs::Lines::mode_words))]
+fn push_mode(text: &mut Vec<u8>, header: usize) -> Result<(), AllocError>
+    ensures { OnOk result (text.new.items ≡ text.old.items ++ lines.mode_words header) }
+{
     push(text, name_at(header))?;
     push(text, choose(is_short(header), " --short", ""))?;
     push(text, choose(has_pilots(header), " --pilots", ""))
 }
 
+/// The command that receives the frames of a header under a scrambling number.
+#[tactic(auto, unfolding(crate::specs::Lines::demod_words))]
+fn push_demod(text: &mut Vec<u8>, number: Option<u64>, header: usize) -> Result<(), AllocError>
+    ensures { OnOk result (text.new.items ≡ text.old.items ++ lines.demod_words number header) }
+{
+    push(text, "./s2 demod --modcod ")?;
+    push_mode(text, header)?;
+    push_option(text, number)?;
+    push(text, " --tuned rows ")
+}
+
 /// The line that says how a sighting's frames are received after they are set right.
 #[tactic(auto, unfolding(crate::specs::Lines::converted_line))]
-fn push_converted(text: &mut Vec<u8>, sighting: &Sighting) -> Result<(), AllocError>
-    ensures { OnOk result (text.new.items ≡ text.old.items ++ lines.converted_line sighting.now) }
+fn push_converted(
+    text: &mut Vec<u8>,
+    name: &str,
+    number: Option<u64>,
+    sighting: &Sighting,
+) -> Result<(), AllocError>
+    ensures { OnOk result (text.new.items ≡ text.old.items ++ lines.converted_line name.now number sighting.now) }
 {
-    push_source(text, sighting)?;
-    push_demod(text, sighting.header)?;
-    push(text, " rows - received.ts\n")
+    push_source(text, name, sighting)?;
+    push_demod(text, number, sighting.header)?;
+    push(text, "- received.ts\n")
 }
 
 /// The line that says how the frames of a header are received as they are.
 #[tactic(auto, unfolding(crate::specs::Lines::direct_line))]
-fn push_direct(text: &mut Vec<u8>, header: usize) -> Result<(), AllocError>
-    ensures { OnOk result (text.new.items ≡ text.old.items ++ lines.direct_line header) }
+fn push_direct(
+    text: &mut Vec<u8>,
+    name: &str,
+    number: Option<u64>,
+    header: usize,
+) -> Result<(), AllocError>
+    ensures { OnOk result (text.new.items ≡ text.old.items ++ lines.direct_line name.now number header) }
 {
-    push_demod(text, header)?;
-    push(text, " rows recording received.ts\n")
+    push_demod(text, number, header)?;
+    push_name(text, name)?;
+    push(text, " received.ts\n")
 }
 
 /// The line that says how a sighting's frames are received.
-fn push_command(text: &mut Vec<u8>, sighting: &Sighting) -> Result<(), AllocError>
-    ensures { OnOk result (text.new.items ≡ text.old.items ++ lines.command_line sighting.now) }
+fn push_command(
+    text: &mut Vec<u8>,
+    name: &str,
+    number: Option<u64>,
+    sighting: &Sighting,
+) -> Result<(), AllocError>
+    ensures { OnOk result (text.new.items ≡ text.old.items ++ lines.command_line name.now number sighting.now) }
 {
     if sighting.form == 0 && is_usual(sighting.amplitude) {
-        push_direct(text, sighting.header)
+        push_direct(text, name, number, sighting.header)
     } else {
-        push_converted(text, sighting)
+        push_converted(text, name, number, sighting)
     }
 }
 
-/// The last line: how the likeliest frames that this program receives are received.
-pub(crate) fn push_advice(text: &mut Vec<u8>, sightings: &[Sighting]) -> Result<(), AllocError>
-    ensures { OnOk result (text.new.items ≡ text.old.items ++ lines.advice_of sightings.now) }
+/// The last line: how the likeliest frames that this program receives are received from the file of this name.
+pub(crate) fn push_advice(
+    text: &mut Vec<u8>,
+    name: &str,
+    number: Option<u64>,
+    sightings: &[Sighting],
+) -> Result<(), AllocError>
+    ensures { OnOk result (text.new.items ≡ text.old.items ++ lines.advice_of name.now number sightings.now) }
 {
     for k in 0..sightings.len() {
         if is_received(sightings[k].header) {
-            return push_command(text, &sightings[k]);
+            return push_command(text, name, number, &sightings[k]);
         }
     }
     push(text, "s2 demod receives none of these\n")

@@ -4,12 +4,14 @@ ghost use Rattle.s2_mode.specs.Counts.{CanCount};
 ghost use Rattle.s2_console.specs.Exits.{CommandRuns, CommandCounts, CommandExits};
 ghost use Rattle.s2_console.specs.Screens.{CanShow};
 ghost use Rattle.s2_scan.specs.Lines.{scan_exit, scan_text};
+ghost use Rattle.s2_scan.specs.Pilots.{number_of};
 ghost use Rattle.s2_scan.specs.Sightings.{sightings_of};
 ghost use Rattle.s2_scan.specs.Scanning.{IsRecording, IsScanned, MayFail, SaysScan};
 
+use crate::number::number_of;
 use crate::passes::Pass;
 use crate::ranking::sightings_of;
-use crate::reading::read_passes;
+use crate::reading::read_seen;
 use crate::text::{scan_exit, scan_text};
 use s2_console::{Console, Exit, Fault, print};
 use s2_mode::{CountedRead, CountedWrite};
@@ -27,13 +29,14 @@ impl Drop for Report {
     }
 }
 
-/// The text and the exit for passes.
-fn report_by(alloc: Global, passes: &[Pass]) -> Result<Report, AllocError>
+/// The text and the exit for the passes and the first bytes of the file of this name.
+fn report_by(alloc: Global, name: &str, passes: &[Pass], front: &[u8]) -> Result<Report, AllocError>
     ensures exit { IfOk result (λ s. s.exit ≡ scan_exit (sightings_of passes.now)) }
-    ensures text { IfOk result (λ s. s.text.items ≡ scan_text (sightings_of passes.now)) }
+    ensures text { IfOk result (λ s. s.text.items ≡ scan_text name.now (number_of front.now passes.now (sightings_of passes.now)) (sightings_of passes.now)) }
 {
     let sightings = sightings_of(alloc, passes)?;
-    let text = scan_text(alloc, &sightings)?;
+    let number = number_of(alloc, front, passes, &sightings)?;
+    let text = scan_text(alloc, name, number, &sightings)?;
     Ok(Report {
         exit: scan_exit(&sightings),
         text,
@@ -41,15 +44,19 @@ fn report_by(alloc: Global, passes: &[Pass]) -> Result<Report, AllocError>
 }
 
 /// The text and the exit for a recording.
-fn report_of<R: CountedRead>(alloc: Global, symbols: &mut R) -> Result<Report, Fault<'static>>
+fn report_of<R: CountedRead>(
+    alloc: Global,
+    name: &str,
+    symbols: &mut R,
+) -> Result<Report, Fault<'static>>
     requires { CanCount (R.count symbols.old) }
-    ensures is { IfOk result (λ s. IsScanned (R.remaining symbols.old) s.exit s.text.items) }
+    ensures is { IfOk result (λ s. IsScanned name.now (R.remaining symbols.old) s.exit s.text.items) }
     ensures faults { IfErr result (MayFail (R.remaining symbols.old)) }
     ensures read { result ≡ Err Fault.Read → R.count symbols.new ≡ R.count symbols.old + 1 }
     ensures no_other { result ≢ Err Fault.Read → R.count symbols.new ≡ R.count symbols.old }
 {
-    let passes = read_passes(alloc, symbols)?;
-    match report_by(alloc, &passes) {
+    let seen = read_seen(alloc, symbols)?;
+    match report_by(alloc, name, &seen.passes, &seen.front) {
         Ok(report) => Ok(report),
         Err(_) => Err(Fault::NoMemory),
     }
@@ -58,23 +65,25 @@ fn report_of<R: CountedRead>(alloc: Global, symbols: &mut R) -> Result<Report, F
 /// Prints the contents of a recording.
 fn print_scan<R: CountedRead, O: CountedWrite>(
     alloc: Global,
+    name: &str,
     symbols: &mut R,
     out: &mut O,
 ) -> Result<Exit, Fault<'static>>
     requires symbols { CanCount (R.count symbols.old) }
     requires out { CanCount (O.count out.old) }
     ensures whole { IsOk result → O.count out.new ≡ O.count out.old }
-    ensures run { CommandRuns SaysScan (IsRecording (R.remaining symbols.old)) result (O.contents out.old) (O.contents out.new) }
+    ensures run { CommandRuns (SaysScan name.now) (IsRecording (R.remaining symbols.old)) result (O.contents out.old) (O.contents out.new) }
     ensures causes { CommandCounts result (R.count symbols.old) (R.count symbols.new) (O.count out.old) (O.count out.new) }
 {
-    let report = report_of(alloc, symbols)?;
+    let report = report_of(alloc, name, symbols)?;
     print(out, report.exit, &report.text)
 }
 
-/// `scan`: prints which headers a recording has, in which form, and how the likeliest frames are received. The exit is
-/// 2 if no header comes twice at its frame's distance.
+/// `scan`: prints which headers a recording has, in which form, and how the likeliest frames are received from the file of
+/// this name. The exit is 2 if no header comes twice at its frame's distance.
 pub fn scan_command<R: CountedRead, O: CountedWrite, E: CountedWrite>(
     alloc: Global,
+    name: &str,
     symbols: &mut R,
     console: &mut Console<O, E>,
 ) -> Exit
@@ -82,9 +91,9 @@ pub fn scan_command<R: CountedRead, O: CountedWrite, E: CountedWrite>(
     requires console { CanShow console.old }
     ensures quiet { result ≢ Exit.Fault → console.new.errors_failed ≡ console.old.errors_failed }
     ensures whole { result ≢ Exit.Fault → console.new.output_failed ≡ console.old.output_failed }
-    ensures run { CommandExits SaysScan (IsRecording (R.remaining symbols.old))
+    ensures run { CommandExits (SaysScan name.now) (IsRecording (R.remaining symbols.old))
         (R.count symbols.old) (R.count symbols.new) console.old console.new result }
 {
-    let ended = print_scan(alloc, symbols, &mut console.output);
+    let ended = print_scan(alloc, name, symbols, &mut console.output);
     console.conclude(ended)
 }

@@ -4,7 +4,8 @@
 //! forms for each header of the standard (PLHEADER, EN 302 307-1, 5.5.2): MODCOD 0 to 28 with every TYPE. A position
 //! passes with at most 4 wrong bits of the 26 of the SOF and at most 12 of all 90. A header that comes twice at its
 //! frame's distance has a line. The last line is the command that receives the likeliest frames. [`amplitude_by`],
-//! [`is_usual`] and [`gain_of`] say how strong symbols are, and which gain they need.
+//! [`is_usual`] and [`gain_of`] say how strong symbols are, and which gain they need. A [`Beginning`] is the first symbols of
+//! a recording.
 //!
 //! ```text
 //! let exit = scan_command(rt.alloc(), &mut symbols, &mut console);
@@ -13,6 +14,8 @@
 
 mod advice;
 mod amplitude;
+mod beginning;
+mod candidate;
 mod candidates;
 mod codes;
 mod command;
@@ -20,10 +23,15 @@ mod distances;
 mod forms;
 pub mod laws;
 mod lines;
+mod number;
 mod passes;
+mod pilots;
 mod ranking;
 mod reading;
+mod sequences;
+mod shell;
 mod sighting;
+mod sums;
 mod tally;
 mod text;
 mod texts;
@@ -31,4 +39,5 @@ mod windows;
 
 pub use advice::{gain_of, is_usual};
 pub use amplitude::amplitude_by;
+pub use beginning::Beginning;
 pub use command::scan_command;

@@ -1,10 +1,11 @@
 //! A recording that is read block by block.
-ghost use Rattle.std.specs.Prelude.{◌≡◌, ◌≢◌, ◌+◌, ◌*◌, ◌^◌, ◌<◌, ◌≤◌, ◌++◌, [], true, false, take, drop, Err, IfErr, IfOk, IsOkUnless, OnOk, vec_len};
+ghost use Rattle.std.specs.Prelude.{◌≡◌, ◌≢◌, ◌+◌, ◌*◌, ◌-◌, ◌^◌, ◌<◌, ◌≤◌, ◌++◌, [], true, false, length, take, drop, Err, IfErr, IfOk, IsOkUnless, OnOk, vec_len};
 ghost use Rattle.std.specs.Io.KnownBytes.{IsAtEnd};
 ghost use Rattle.s2_mode.specs.Counts.{CanCount};
 ghost use Rattle.s2_scan.specs.Inside.{AreHeaders, Completes, Filled, GoesOn};
 ghost use Rattle.s2_scan.specs.Passing.{passes_below, positions_in};
-ghost use Rattle.s2_scan.specs.Scanning.{ArePasses, IsOutside, MayFail};
+ghost use Rattle.s2_scan.specs.Pilots.{front_bytes};
+ghost use Rattle.s2_scan.specs.Scanning.{AreSeen, IsOutside, MayFail};
 
 use crate::codes::{HEADERS, all_headers};
 use crate::passes::Pass;
@@ -25,9 +26,28 @@ const BLOCK: usize = 33_124;
 /// The most blocks of a recording.
 const MAX_BLOCKS: u32 = 134_217_728;
 
-/// The state of reading: the passes so far, the bytes kept, and the position of the first of these.
+/// The first bytes of a recording that are kept for its pilots: those of 2^22 symbols.
+const FRONT: usize = 16_777_216;
+
+/// The passes of a recording, and its first bytes.
+pub(crate) struct Seen {
+    pub(crate) passes: Vec<Pass>,
+    pub(crate) front: Vec<u8>,
+}
+
+impl Drop for Seen {
+    fn drop(self) {
+        let Seen {
+            passes: _,
+            front: _,
+        } = self;
+    }
+}
+
+/// The state of reading: the passes and the first bytes so far, the bytes kept, and the position of the first of these.
 struct Feed {
     passes: Vec<Pass>,
+    front: Vec<u8>,
     block: Vec<u8>,
     held: usize,
     first: u64,
@@ -37,6 +57,7 @@ impl Drop for Feed {
     fn drop(self) {
         let Feed {
             passes: _,
+            front: _,
             block: _,
             held: _,
             first: _,
@@ -45,23 +66,26 @@ impl Drop for Feed {
 }
 
 impl Feed {
-    /// The passes.
-    fn into_passes(self) -> Vec<Pass>
-        ensures { result ≡ self.passes }
+    /// What was seen.
+    fn into_seen(self) -> Seen
+        ensures passes { result.passes ≡ self.passes }
+        ensures front { result.front ≡ self.front }
     {
         let Feed {
             passes,
+            front,
             block: _,
             held: _,
             first: _,
         } = self;
-        passes
+        Seen { passes, front }
     }
 }
 
 /// Nothing read, and room for a block.
 fn begin(alloc: Global) -> Result<Feed, Fault<'static>>
     ensures empty { IfOk result (λ f. f.passes.items ≡ []) }
+    ensures front { IfOk result (λ f. f.front.items ≡ []) }
     ensures room { IfOk result (λ f. vec_len f.block ≡ 33124) }
     ensures held { IfOk result (λ f. f.held ≡ 0) }
     ensures first { IfOk result (λ f. f.first ≡ 0) }
@@ -70,6 +94,7 @@ fn begin(alloc: Global) -> Result<Feed, Fault<'static>>
     let block = vec![in alloc; 0u8; BLOCK].map_err(|_| Fault::NoMemory)?;
     Ok(Feed {
         passes: Vec::new(alloc),
+        front: Vec::new(alloc),
         block,
         held: 0,
         first: 0,
@@ -100,18 +125,32 @@ fn fill<R: CountedRead>(
     }
 }
 
-/// Appends the passes of a block, filled up to a place, to those before it.
+/// Appends bytes to the first ones, as far as these are kept.
+fn push_front(front: &mut Vec<u8>, bytes: &[u8]) -> Result<(), Fault<'static>>
+    ensures front { OnOk result (front.new.items ≡ front.old.items ++ take (front_bytes - length front.old.items) bytes.now) }
+    ensures told { IsOkUnless result Fault.NoMemory }
+{
+    let room = FRONT.saturating_sub(front.len());
+    match front.extend_from_slice(&bytes[..room.min(bytes.len())]) {
+        Ok(()) => Ok(()),
+        Err(_) => Err(Fault::NoMemory),
+    }
+}
+
+/// Appends the passes of a block, filled up to a place, to those before it, and the bytes that were read to the first ones.
 fn push_held(numbers: &[u128; HEADERS], feed: &mut Feed, total: usize) -> Result<(), Fault<'static>>
     requires headers { AreHeaders numbers.now }
     requires size { vec_len feed.old.block ≡ 33124 }
-    requires total { total ≤ 33124 }
+    requires total { (feed.old.held ≤ total) × (total ≤ 33124) }
     requires few { feed.old.first < 2 ^ 40 }
     ensures passes { OnOk result (feed.new.passes.items ≡ feed.old.passes.items ++ passes_below feed.old.first (take total feed.old.block.items) (positions_in (take total feed.old.block.items))) }
+    ensures front { OnOk result (feed.new.front.items ≡ feed.old.front.items ++ take (front_bytes - length feed.old.front.items) (take (total - feed.old.held) (drop feed.old.held feed.old.block.items))) }
     ensures block { feed.new.block ≡ feed.old.block }
     ensures held { feed.new.held ≡ feed.old.held }
     ensures first { feed.new.first ≡ feed.old.first }
     ensures told { IsOkUnless result Fault.NoMemory }
 {
+    push_front(&mut feed.front, &feed.block[feed.held..total])?;
     match push_block(numbers, feed.first, &feed.block[..total], &mut feed.passes) {
         Ok(()) => Ok(()),
         Err(_) => Err(Fault::NoMemory),
@@ -127,6 +166,7 @@ fn keep(feed: &mut Feed)
     ensures held { feed.new.held ≡ 356 }
     ensures first { feed.new.first ≡ feed.old.first + 8192 }
     ensures passes { feed.new.passes ≡ feed.old.passes }
+    ensures front { feed.new.front ≡ feed.old.front }
 {
     feed.block.copy_within(BLOCK - KEPT.., 0);
     feed.held = KEPT;
@@ -148,7 +188,7 @@ fn read_block<R: CountedRead>(
     ensures held { feed.new.held ≤ 356 }
     ensures first { IfOk result (λ ended. ended ≡ false → feed.new.first ≡ feed.old.first + 8192) }
     ensures on { IfOk result (λ ended. ended ≡ false → GoesOn (R.remaining reader.old) feed.old (R.remaining reader.new) feed.new) }
-    ensures end { IfOk result (λ ended. ended ≡ true → Completes (R.remaining reader.old) feed.old feed.new.passes.items) }
+    ensures end { IfOk result (λ ended. ended ≡ true → Completes (R.remaining reader.old) feed.old feed.new.passes.items feed.new.front.items) }
     ensures read { result ≡ Err Fault.Read → R.count reader.new ≡ R.count reader.old + 1 }
     ensures no_other { result ≢ Err Fault.Read → R.count reader.new ≡ R.count reader.old }
     ensures told { IfErr result IsOutside }
@@ -163,13 +203,13 @@ fn read_block<R: CountedRead>(
     Ok(false)
 }
 
-/// The passes of a recording.
-pub(crate) fn read_passes<R: CountedRead>(
+/// The passes of a recording, and its first bytes.
+pub(crate) fn read_seen<R: CountedRead>(
     alloc: Global,
     reader: &mut R,
-) -> Result<Vec<Pass>, Fault<'static>>
+) -> Result<Seen, Fault<'static>>
     requires { CanCount (R.count reader.old) }
-    ensures passes { IfOk result (λ v. ArePasses (R.remaining reader.old) v.items) }
+    ensures seen { IfOk result (λ s. AreSeen (R.remaining reader.old) s.passes.items s.front.items) }
     ensures faults { IfErr result (MayFail (R.remaining reader.old)) }
     ensures read { result ≡ Err Fault.Read → R.count reader.new ≡ R.count reader.old + 1 }
     ensures no_other { result ≢ Err Fault.Read → R.count reader.new ≡ R.count reader.old }
@@ -179,7 +219,7 @@ pub(crate) fn read_passes<R: CountedRead>(
     for _block in 0..MAX_BLOCKS {
         let ended = read_block(&numbers, reader, &mut feed)?;
         if ended {
-            return Ok(feed.into_passes());
+            return Ok(feed.into_seen());
         }
     }
     Err(Fault::TooLong)

@@ -5,7 +5,7 @@ ghost use Rattle.s2_scan.specs.Lines as lines;
 use crate::advice::push_advice;
 use crate::lines::push_line;
 use crate::sighting::Sighting;
-use crate::texts::push;
+use crate::texts::{push, push_number};
 use s2_console::Exit;
 use std::alloc::{AllocError, Global};
 
@@ -19,9 +19,26 @@ fn push_lines(text: &mut Vec<u8>, sightings: &[Sighting]) -> Result<(), AllocErr
     Ok(())
 }
 
-/// All that is printed of sightings.
-pub(crate) fn scan_text(alloc: Global, sightings: &[Sighting]) -> Result<Vec<u8>, AllocError>
-    ensures { IfOk result (λ text. text.items ≡ lines.scan_text sightings.now) }
+/// The line of the scrambling number.
+#[tactic(auto, unfolding(crate::specs::Lines::number_line))]
+fn push_number_line(text: &mut Vec<u8>, number: Option<u64>) -> Result<(), AllocError>
+    ensures { OnOk result (text.new.items ≡ text.old.items ++ lines.number_line number) }
+{
+    let Some(number) = number else {
+        return push(text, "number not looked for: no pilots\n");
+    };
+    push_number(text, "number ", number)?;
+    push(text, "\n")
+}
+
+/// All that is printed of sightings in the file of this name, under a scrambling number.
+pub(crate) fn scan_text(
+    alloc: Global,
+    name: &str,
+    number: Option<u64>,
+    sightings: &[Sighting],
+) -> Result<Vec<u8>, AllocError>
+    ensures { IfOk result (λ text. text.items ≡ lines.scan_text name.now number sightings.now) }
 {
     let mut text = Vec::new(alloc);
     if sightings.is_empty() {
@@ -29,7 +46,8 @@ pub(crate) fn scan_text(alloc: Global, sightings: &[Sighting]) -> Result<Vec<u8>
         return Ok(text);
     }
     push_lines(&mut text, sightings)?;
-    push_advice(&mut text, sightings)?;
+    push_number_line(&mut text, number)?;
+    push_advice(&mut text, name, number, sightings)?;
     Ok(text)
 }
 

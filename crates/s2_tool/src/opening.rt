@@ -12,7 +12,8 @@ use s2_files::{Destination, Disk, Opener, Reader, StandardStreams, Target};
 use s2_judging::JudgeFiles;
 use s2_mode::Counting;
 use s2_progress::{Clearing, Meter, Pace, Show, Terminal, Watched};
-use s2_words::{AuditWords, JoinWords, JudgeWords, Progress};
+use s2_scan::Beginning;
+use s2_words::{AuditWords, JoinWords, JudgeWords, Progress, ScanWords};
 use std::rt::Files;
 use std::time::Clock;
 
@@ -204,6 +205,32 @@ pub(crate) fn open_noise<'a, 'm, 't, 'r, R: Disk + Clock + AllocGlobal>(
         Watched::new(from, show),
         Destination::new(Watched::new(to, show)),
     ))
+}
+
+/// The bytes that are read of a recording of this length, if that is known.
+fn length_within(first: Option<u32>, length: Option<u64>) -> Option<u64> {
+    let Some(first) = first else {
+        return length;
+    };
+    let most = 4 * u64::from(first);
+    match length {
+        Some(length) => Some(length.min(most)),
+        None => Some(most),
+    }
+}
+
+/// Opens the recording of `scan`, as far as it is looked at.
+pub(crate) fn open_scan<'a, 'm, 't, 'r, R: Disk + Clock>(
+    rt: &R,
+    show: &'m Show<'t, 'r, R>,
+    words: &ScanWords<'a>,
+) -> Result<Beginning<Watched<'m, Input<R>, Show<'t, 'r, R>>>, Fault<'a>>
+    ensures { IfOk result (λ file. file.inner.inner.failed ≡ 0) }
+{
+    let mut opener = Opener::new(rt);
+    let symbols = opener.read(words.symbols)?;
+    show.expect(length_within(words.first, opener.last_length()));
+    Ok(Beginning::new(Watched::new(symbols, show), words.first))
 }
 
 /// Opens the files of `join`: BBFRAMEs with a buffer, and packets. The packets of a frame are written at once, so they

@@ -6,7 +6,8 @@ ghost use Rattle.s2_console.specs.Screens.{CanNote};
 use crate::causes::{note_cause, note_folders, note_marks};
 use crate::link_request::{LinkRequest, setup_of, with_link};
 use crate::opening::{
-    open_audit, open_input, open_inputs, open_join, open_judge, open_noise, screen_beside, show_on,
+    open_audit, open_input, open_inputs, open_join, open_judge, open_noise, open_scan,
+    screen_beside, show_on,
 };
 use crate::options::{channel_of, demod_options, divisor_of, judging_of, run_options};
 use s2_audit::audit_command;
@@ -187,7 +188,7 @@ fn serve_request<'a, R: Disk + Clock + AllocGlobal, O: CountedWrite, E: CountedW
         Request::Judge(words) => serve_judge(rt, words, console),
         Request::Check(words) => serve_check(rt, words, console),
         Request::Noise(words) => serve_noise(rt, terminal, words, console),
-        Request::Scan(words) => serve_scan(rt, words, console),
+        Request::Scan(words) => serve_scan(rt, terminal, words, console),
         Request::Join(words) => serve_join(rt, words, console),
         Request::Audit(words) => serve_audit(rt, words, console),
         Request::Mod(words) => with_link(rt, terminal, LinkRequest::Mod(words), console, notes),
@@ -366,16 +367,20 @@ fn serve_noise<'a, R: Disk + Clock + AllocGlobal, O: CountedWrite, E: CountedWri
 }
 
 /// `scan`.
-fn serve_scan<'a, R: Disk + AllocGlobal, O: CountedWrite, E: CountedWrite>(
+fn serve_scan<'a, R: Disk + Clock + AllocGlobal, O: CountedWrite, E: CountedWrite>(
     rt: &R,
+    terminal: &Terminal<'_, R>,
     words: &ScanWords<'a>,
     console: &mut Console<O, E>,
 ) -> Result<Exit, Fault<'a>>
     requires { CanNote console.old }
     ensures { OnErr result (CanCount console.new.errors_failed) }
 {
-    let mut symbols = open_input(rt, words.symbols)?;
-    Ok(scan_command(rt.alloc(), &mut symbols, console))
+    let show = show_on(terminal, Pace::Scanning, words.progress);
+    let mut symbols = open_scan(rt, &show, words)?;
+    let exit = scan_command(rt.alloc(), words.symbols, &mut symbols, console);
+    show.finish();
+    Ok(exit)
 }
 
 /// `join`.

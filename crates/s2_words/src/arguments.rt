@@ -391,6 +391,16 @@ pub(crate) const PROGRESS: Argument = Argument {
     help: "Progress on standard error, also where that is no terminal: a line that is rewritten once a second",
 };
 
+pub(crate) const FIRST: Argument = Argument {
+    name: "first",
+    form: Form::Valued(Value {
+        name: "N",
+        allowed: ValueParser::Unsigned(1, u32::MAX as u64),
+        ..FILE
+    }),
+    help: "Symbols that are looked at, 1 to 4294967295; without it all",
+};
+
 pub(crate) const HARD: Argument = Argument {
     name: "hard",
     form: Form::Flag,

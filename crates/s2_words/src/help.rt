@@ -233,6 +233,10 @@ The report, a line for each mode, the likeliest first:
   bytes big|little           the byte order
   amplitude A                of the headers' symbols; `mod` sends 990
 
+The line before the last:
+  number N                          the scrambling number, by the pilots of the likeliest frames that have some
+  number not looked for: no pilots  the command of the last line takes 0: try others with --number
+
 The last line:
   tools/convert .. | ./s2 demod ..    receives the first mode of the list that `demod` takes; rows is the mode's row file
   ./s2 demod ..                       the same, where nothing is to be converted: an amplitude of 833 to 1177 needs no gain
@@ -245,7 +249,8 @@ Exits:
   2  nothing found
 
 Example:
-  s2 scan recording";
+  s2 scan recording
+  receiver | s2 scan --first 1000000 -";
 
 /// The text below the options of `join`.
 const JOIN_MORE: &str = "\

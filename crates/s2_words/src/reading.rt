@@ -275,6 +275,8 @@ fn run_of<'a>(m: &ArgMatches<'a>) -> Option<Request<'a>> {
 
 fn scan_of<'a>(m: &ArgMatches<'a>) -> Option<Request<'a>> {
     Some(Request::Scan(ScanWords {
+        first: m.get_one::<u32>("first"),
+        progress: progress_of(m),
         symbols: m.get_str("SYMBOLS")?,
     }))
 }

@@ -218,9 +218,11 @@ pub struct RunWords<'a> {
     pub to: &'a str,
 }
 
-/// `scan`: the recording.
+/// `scan`: how many symbols are looked at, if not all, whether progress is shown, and the recording.
 #[derive(Clone, Copy)]
 pub struct ScanWords<'a> {
+    pub first: Option<u32>,
+    pub progress: Progress,
     pub symbols: &'a str,
 }
 

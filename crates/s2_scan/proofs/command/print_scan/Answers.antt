@@ -12,7 +12,7 @@ returns-in_err-report-clause-run g c =
     let f = c.in_err-report.field-0.0 in
     let out = g.O.CountedWrite.contents c.args.out.now in
     let p = err_from_is_err_and c.from_residual.result c.from_residual.ensures.1 in
-    rw (p.1, p.2) (refused SaysScan (IsRecording known) f out out (may_answer known f c.in_err-report.ensures.faults) refl)
+    rw (p.1, p.2) (refused (SaysScan c.args.name.now) (IsRecording known) f out out (may_answer c.args.name.now known f c.in_err-report.ensures.faults) refl)
 
 pub returns-clause-run : goal.returns-clause-run
 returns-clause-run g c =
@@ -21,5 +21,5 @@ returns-clause-run g c =
     let is = c.in_ok-report.ensures.is in
     let old = g.O.CountedWrite.contents c.args.out.now in
     let new = g.O.CountedWrite.contents c.print.new.out in
-    printed_text SaysScan (IsRecording known) is.0 report.exit report.text.items c.print.result old new is.1 is.2
+    printed_text (SaysScan c.args.name.now) (IsRecording known) is.0 report.exit report.text.items c.print.result old new is.1 is.2
     (subst (λ (xs : List ℕ). Prints report.exit xs c.print.result old new) c.deref.ensures.value c.print.ensures.prints)

@@ -1,0 +1,96 @@
+-- The scrambling number of a recording, by its pilots (EN 302 307-1, 5.5.3 and 5.5.4): a pilot is sent as (A, A), and then
+-- rotated by the quarter turns of the scrambling number.
+use Rattle.std.specs.Prelude.{ℕ, zero, suc, ◌+◌, ◌*◌, ◌/◌, ◌%◌, ◌&&◌, Bool, nat_lt, nat_le, List, [], ◌∷◌, map, take, length, get_or, Option, None, Some, if◌then◌else◌}
+use Rattle.std.specs.List.{filter, range_with_len}
+use Rattle.s2_scramble.specs.Gold.{quarter_turns}
+use Rattle.s2_scan.specs.Forms.{is_little, symbol_in}
+use Rattle.s2_scan.specs.Lines.{has_pilots, is_conjugate}
+use Rattle.s2_scan.specs.Sightings.{is_of}
+use Rattle.s2_scan.specs.Sums.{energy, no_sum, righted, sum_below, turned_back}
+use Rattle.s2_scan.specs.declared.candidate.Candidate.{Candidate}
+use Rattle.s2_scan.specs.declared.passes.Pass.{Pass}
+use Rattle.s2_scan.specs.declared.sighting.Sighting.{Sighting}
+use Rattle.s2_scan.specs.declared.sums.Sum.{Sum}
+
+-- ---- pilots
+
+-- the bytes at the beginning of a recording that are kept for this: those of 2^22 symbols
+abbrev pub front_bytes : ℕ
+front_bytes = 16777216
+
+-- the first bytes of a recording
+abbrev pub front_of : List ℕ → List ℕ
+front_of bytes = take front_bytes bytes
+
+-- the pilots of a frame that are used: those of its first two blocks
+abbrev pub pilot_count : ℕ
+pilot_count = 72
+
+-- the most frames whose pilots are used
+abbrev pub frame_count : ℕ
+frame_count = 16
+
+-- which symbol after the header pilot k is: a block of 36 comes after each 16 slots of 90 symbols
+abbrev pub pilot_place : ℕ → ℕ
+pilot_place k = 1440 + 1476 * (k / 36) + k % 36
+
+-- symbol k of a recording in a form, conjugated if that sets it right; nothing past the end
+abbrev pub symbol_at : ℕ → List ℕ → ℕ → Sum
+symbol_at form bytes k = if nat_lt k (length bytes / 4) then righted (is_conjugate form) (symbol_in (is_little form) bytes k) else no_sum
+
+-- the position of a frame
+abbrev pub position_at : List Pass → ℕ → ℕ
+position_at frames j = (get_or frames j (record { position = 0; form = 0; header = 0; energy = 0 })).position
+
+-- pilot k of frames, added up
+unfoldable pub pilot_sum : ℕ → List ℕ → List Pass → ℕ → Sum
+pilot_sum form bytes frames k = sum_below (λ j. symbol_at form bytes (position_at frames j + (90 + pilot_place k))) (length frames)
+
+-- all pilots of frames, each added up
+unfoldable pub pilot_sums : ℕ → List ℕ → List Pass → List Sum
+pilot_sums form bytes frames = map (pilot_sum form bytes frames) (range_with_len 0 pilot_count)
+
+-- ---- numbers
+
+-- pilots rotated back by the quarter turns of a scrambling number, and added up
+unfoldable pub descrambled : List Sum → ℕ → Sum
+descrambled pilots number = sum_below (λ k. turned_back (quarter_turns number (pilot_place k)) (get_or pilots k no_sum)) pilot_count
+
+-- a scrambling number, and the energy of that sum
+abbrev pub tried : List Sum → ℕ → Candidate
+tried pilots number = record { number = number; energy = energy (descrambled pilots number) }
+
+-- the one with more energy; the first of equal ones
+abbrev pub better : Candidate → Candidate → Candidate
+better a b = if nat_lt a.energy b.energy then b else a
+
+-- the best of number 0 and the numbers below n; the least of equally good ones
+unfoldable pub best_below : List Sum → ℕ → Candidate
+best_below pilots zero = tried pilots 0
+best_below pilots (suc n) = better (best_below pilots n) (tried pilots n)
+
+-- how many scrambling numbers there are
+abbrev pub numbers : ℕ
+numbers = 262142
+
+-- ---- a recording
+
+-- the frames whose pilots are used: the first ones of a sighting
+abbrev pub frames_of : Sighting → List Pass → List Pass
+frames_of s passes = take frame_count (filter (is_of s.form s.header) passes)
+
+-- the scrambling number by the pilots of a sighting, if those of its first frame are kept
+unfoldable pub number_by : List ℕ → List Pass → Sighting → Option ℕ
+number_by bytes passes s =
+    if nat_le (s.first + 3042) (length bytes / 4)
+    then Some (best_below (pilot_sums s.form bytes (frames_of s passes)) numbers).number
+    else None
+
+-- whether frames have pilots; dummy frames have none
+abbrev pub is_piloted : ℕ → Bool
+is_piloted header = nat_le 4 header && has_pilots header
+
+-- the scrambling number by the likeliest frames with pilots
+abbrev pub number_of : List ℕ → List Pass → List Sighting → Option ℕ
+number_of bytes passes [] = None
+number_of bytes passes (s ∷ ss) = if is_piloted s.header then number_by bytes passes s else number_of bytes passes ss
