@@ -1,4 +1,0 @@
-pub mod Plans
-pub mod Steps
-pub mod Loads
-pub mod Places
