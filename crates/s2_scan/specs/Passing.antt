@@ -1,13 +1,16 @@
 -- Which positions of a recording pass as a header (own).
-use Rattle.std.specs.Prelude.{ℕ, zero, suc, ◌+◌, ◌-◌, ◌*◌, ◌/◌, ◌%◌, ◌==◌, Bool, false, List, [], ◌∷◌, length, map, take, drop, nat_le, unsigned_abs, if◌then◌else◌}
+use Rattle.std.specs.Prelude.{ℕ, ◌+◌, ◌-◌, ◌*◌, ◌/◌, ◌%◌, ◌==◌, false, List, [], ◌∷◌, length, map, take, drop, nat_le, Bool, if◌then◌else◌}
 use Rattle.std.specs.List.{flat_map, range_with_len}
-use Rattle.s2_mode.specs.declared.symbols.Symbol.{Symbol}
 use Rattle.s2_mode.specs.Limits.{header_symbols}
 use Rattle.s2_mode.specs.Mode.{Mode, mode_of}
+use Rattle.s2_bits.specs.Bits.{number}
 use Rattle.s2_plframe.specs.Header.{header_bit, dummy_mode}
 use Rattle.s2_plframe.specs.Search.{Decision, decision, mismatches, matches_header}
 use Rattle.s2_scan.specs.Forms.{forms, is_little, way_of, set_right, symbol_in}
+use Rattle.s2_scan.specs.Lines.{is_conjugate}
+use Rattle.s2_scan.specs.Sums.{energy, righted, sum_below, turned_back}
 use Rattle.s2_scan.specs.declared.passes.Pass.{Pass}
+use Rattle.s2_scan.specs.declared.sums.Sum.{Sum}
 
 -- ---- the headers
 
@@ -41,19 +44,20 @@ sof_threshold = 4
 abbrev pub matches_sof : List Decision → Bool
 matches_sof seen = nat_le (mismatches (header_bit (dummy_mode false false)) seen 26) sof_threshold
 
--- I * I + Q * Q
-abbrev pub energy_of : Symbol → ℕ
-energy_of s = unsigned_abs s.i * unsigned_abs s.i + unsigned_abs s.q * unsigned_abs s.q
+-- by how many quarter turns symbol k of a header is rotated from (A, A): (-A, A) is one turn, and a one bit two more
+abbrev pub header_quarters : Mode → ℕ → ℕ
+header_quarters m k = k % 2 + 2 * number (header_bit m k)
 
--- the energy of the first n symbols of a window
-unfoldable pub energy_below : Bool → List ℕ → ℕ → ℕ
-energy_below little window zero = 0
-energy_below little window (suc k) = energy_below little window k + energy_of (symbol_in little window k)
+-- the symbols of a window rotated back by those of a header, and added up: noise adds up to little, and the header to 90 times
+-- its amplitude
+unfoldable pub header_sum : ℕ → ℕ → List ℕ → Sum
+header_sum form header window =
+    sum_below (λ k. turned_back (header_quarters (code_at header) k) (righted (is_conjugate form) (symbol_in (is_little form) window k))) header_symbols
 
 -- the pass of a window as a header in a form
 abbrev pub pass_as : ℕ → List ℕ → ℕ → ℕ → Pass
 pass_as position window form header =
-    record { position = position; form = form; header = header; energy = energy_below (is_little form) window header_symbols }
+    record { position = position; form = form; header = header; energy = energy (header_sum form header window) / header_symbols }
 
 -- a pass, if at most 12 of all 90 bits differ from the header
 abbrev pub passes_as : ℕ → List ℕ → ℕ → ℕ → List Pass

@@ -72,7 +72,7 @@ usual_distance ds = (most_frequent (tally_of ds []) no_tally).distance
 
 -- ---- amplitude
 
--- the energy of passes
+-- the energy of passes, without their noise
 abbrev pub energy_in : List Pass → ℕ
 energy_in [] = 0
 energy_in (p ∷ passes) = p.energy + energy_in passes
@@ -90,7 +90,7 @@ max_amplitude = 46341
 abbrev pub amplitude_by : ℕ → ℕ → ℕ
 amplitude_by energy symbols = roots_below (energy / symbols) max_amplitude
 
--- the amplitude over the headers that passed
+-- the amplitude over the headers that passed, without their noise
 abbrev pub amplitude_of : List Pass → ℕ
 amplitude_of passes = amplitude_by (energy_in passes) (header_symbols * length passes)
 

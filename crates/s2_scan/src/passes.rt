@@ -1,18 +1,19 @@
 //! The positions of a recording that pass as a header.
-ghost use Rattle.std.specs.Prelude.{◌≡◌, ◌+◌, ◌*◌, ◌-◌, ◌^◌, ◌<◌, ◌≤◌, ◌++◌, ℕ, List, [], ◌∷◌, length, if◌then◌else◌, OnOk};
+ghost use Rattle.std.specs.Prelude.{◌≡◌, ◌+◌, ◌*◌, ◌-◌, ◌<◌, ◌≤◌, ◌++◌, ℕ, List, [], ◌∷◌, length, if◌then◌else◌, OnOk};
 ghost use Rattle.std.specs.List.{flat_map};
-ghost use Rattle.s2_mode.specs.Limits.{header_symbols};
 ghost use Rattle.s2_plframe.specs.Inside.{IsWindow};
-ghost use Rattle.s2_scan.specs.Inside.{AreHeaders};
+ghost use Rattle.s2_scan.specs.Inside.{AreHeaders, IsWithin};
 ghost use Rattle.s2_scan.specs.Passing as passing;
 
 use crate::codes::HEADERS;
 use crate::forms::{is_sof, symbol_in};
-use s2_mode::{HEADER_SYMBOLS, Symbol};
+use crate::lines::is_conjugate;
+use crate::sums::{NO_SUM, Sum, energy, plus, righted, turned_back};
+use s2_mode::HEADER_SYMBOLS;
 use s2_plframe::{HEADER_THRESHOLD, wrong_in};
 use std::alloc::AllocError;
 
-/// A position that passes as a header in a form, and the energy of its 90 symbols.
+/// A position that passes as a header in a form, and the energy of its 90 symbols without their noise.
 #[derive(Clone, Copy)]
 pub(crate) struct Pass {
     pub(crate) position: u64,
@@ -21,40 +22,49 @@ pub(crate) struct Pass {
     pub(crate) energy: u64,
 }
 
-/// I * I + Q * Q.
-fn energy_of(symbol: Symbol) -> u64
-    ensures is { result ≡ passing.energy_of symbol }
-    ensures most { result ≤ 2 ^ 31 }
+/// By how many quarter turns symbol `k` of a header is rotated from (A, A).
+fn header_quarters(numbers: &[u128; HEADERS], header: usize, k: usize) -> u8
+    requires headers { AreHeaders numbers.now }
+    requires header { header < 116 }
+    requires k { k < 90 }
+    ensures { result ≡ passing.header_quarters (passing.code_at header) k }
 {
-    let i = u64::from(symbol.i.unsigned_abs());
-    let q = u64::from(symbol.q.unsigned_abs());
-    i * i + q * q
+    let bit = (numbers[header] >> (HEADER_SYMBOLS - 1 - k)) % 2;
+    (k % 2) as u8 + 2 * bit as u8
 }
 
-/// The energy of the 90 symbols of a window.
-fn window_energy(little: bool, window: &[u8]) -> u64
-    requires { length window.now ≡ 360 }
-    ensures { result ≡ passing.energy_below little window.now header_symbols }
+/// The symbols of a window rotated back by those of a header, and added up.
+fn header_sum(numbers: &[u128; HEADERS], form: usize, header: usize, window: &[u8]) -> Sum
+    requires headers { AreHeaders numbers.now }
+    requires header { header < 116 }
+    requires window { length window.now ≡ 360 }
+    ensures is { result ≡ passing.header_sum form header window.now }
+    ensures within { IsWithin 37748736 result }
 {
-    let mut energy = 0u64;
+    let mut sum = NO_SUM;
     for k in 0..HEADER_SYMBOLS {
-        energy += energy_of(symbol_in(little, window, k));
+        let quarters = header_quarters(numbers, header, k);
+        let symbol = righted(is_conjugate(form), symbol_in(form >= 8, window, k));
+        sum = plus(sum, turned_back(quarters, symbol));
     }
-    energy
+    sum
 }
 
 /// Appends the pass of a window as a header to others.
 fn push_pass(
+    numbers: &[u128; HEADERS],
     position: u64,
     form: usize,
     header: usize,
     window: &[u8],
     passes: &mut Vec<Pass>,
 ) -> Result<(), AllocError>
-    requires { length window.now ≡ 360 }
+    requires headers { AreHeaders numbers.now }
+    requires header { header < 116 }
+    requires window { length window.now ≡ 360 }
     ensures { OnOk result (passes.new.items ≡ passes.old.items ++ passing.pass_as position window.now form header ∷ []) }
 {
-    let energy = window_energy(form >= 8, window);
+    let energy = energy(header_sum(numbers, form, header, window)) / HEADER_SYMBOLS as u64;
     passes.push(Pass {
         position,
         form,
@@ -67,17 +77,20 @@ fn push_pass(
 /// Appends the pass of a window as a header to others, if it is near enough.
 fn push_near(
     near: bool,
+    numbers: &[u128; HEADERS],
     position: u64,
     form: usize,
     header: usize,
     window: &[u8],
     passes: &mut Vec<Pass>,
 ) -> Result<(), AllocError>
-    requires { length window.now ≡ 360 }
+    requires headers { AreHeaders numbers.now }
+    requires header { header < 116 }
+    requires window { length window.now ≡ 360 }
     ensures { OnOk result (passes.new.items ≡ passes.old.items ++ (if near then passing.pass_as position window.now form header ∷ [] else [])) }
 {
     if near {
-        push_pass(position, form, header, window, passes)
+        push_pass(numbers, position, form, header, window, passes)
     } else {
         Ok(())
     }
@@ -99,7 +112,7 @@ fn push_headers(
 {
     for header in 0..HEADERS {
         let near = wrong_in(numbers[header], seen) <= HEADER_THRESHOLD;
-        push_near(near, position, form, header, window, passes)?;
+        push_near(near, numbers, position, form, header, window, passes)?;
     }
     Ok(())
 }

@@ -231,7 +231,7 @@ The report, a line for each mode, the likeliest first:
   every D                    the usual distance from one to the next
   turn K conjugate yes|no    the symbols were multiplied by the K-th power of i, and then conjugated, or not
   bytes big|little           the byte order
-  amplitude A                of the headers' symbols; `mod` sends 990
+  amplitude A                of the N headers, without their noise; `mod` sends 990
 
 The line before the last:
   number N                          the scrambling number, by the pilots of the likeliest frames that have some
