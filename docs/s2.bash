@@ -8,7 +8,8 @@ _s2() {
   fi
   case "$before" in
     --divisor) COMPREPLY=($(compgen -W "4096 8192 16384 32768 65536" -- "$now")); return ;;
-    --rate|--modcod|--group|--groups|--q|--weight|--seed|--passes|--factor|--number|--ro|--dummy|--level|--esn0|--rounds|--lock|--seeds) return ;;
+    --exit-by) COMPREPLY=($(compgen -W "certainty delivery" -- "$now")); return ;;
+    --rate|--modcod|--group|--groups|--q|--weight|--seed|--passes|--factor|--number|--ro|--dummy|--level|--esn0|--rounds|--lock|--every|--seeds|--first) return ;;
   esac
   case "${COMP_WORDS[1]}" in
     modes) words="--rate --modcod --short --quiet --help" ;;
@@ -18,9 +19,9 @@ _s2() {
     check) words="--each --quiet --help" ;;
     mod) words="--modcod --short --pilots --number --ro --dummy --quiet --progress --codewords --bbframes --help" ;;
     noise) words="--seed --level --esn0 --quiet --progress --help" ;;
-    demod) words="--modcod --short --pilots --number --ro --rounds --passes --uncertified --divisor --factor --lock --tuned --figures --strict --quiet --progress --certificates --values --codewords --bbframes --help" ;;
-    run) words="--modcod --short --pilots --number --ro --dummy --rounds --passes --uncertified --divisor --factor --lock --tuned --seed --seeds --level --esn0 --figures --strict --quiet --progress --certificates --values --codewords --bbframes --help" ;;
-    scan) words="--help" ;;
+    demod) words="--modcod --short --pilots --number --ro --rounds --passes --uncertified --divisor --factor --lock --tuned --figures --every --exit-by --strict --quiet --progress --certificates --values --codewords --bbframes --help" ;;
+    run) words="--modcod --short --pilots --number --ro --dummy --rounds --passes --uncertified --divisor --factor --lock --tuned --seed --seeds --level --esn0 --figures --every --exit-by --strict --quiet --progress --certificates --values --codewords --bbframes --help" ;;
+    scan) words="--first --quiet --progress --help" ;;
     join) words="--modcod --short --help" ;;
     audit) words="--modcod --short --pilots --number --ro --divisor --tuned --help" ;;
     help) words="modes rows table judge check mod noise demod run scan join audit" ;;

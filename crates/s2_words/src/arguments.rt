@@ -395,7 +395,7 @@ pub(crate) const FIRST: Argument = Argument {
     name: "first",
     form: Form::Valued(Value {
         name: "N",
-        allowed: ValueParser::Unsigned(1, u32::MAX as u64),
+        allowed: ValueParser::Signed(1, u32::MAX as i64),
         ..FILE
     }),
     help: "Symbols that are looked at, 1 to 4294967295; without it all",
