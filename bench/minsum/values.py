@@ -1,8 +1,7 @@
-"""Values of layered min-sum on small codes, by the rule's description, as the tests of s2_minsum have them.
+"""Values of layered min-sum on small codes, implemented from the description of the rule, for the tests of s2_minsum.
 
-A code is the size of a group, how many groups, q, and the address rows; `run` gives the posteriors, and the messages check
-by check, after so many rounds, or after one layer of the first.
-"""
+A code is the size of a group, the number of groups, q, and the address rows. `run` returns the posteriors, and the messages check by check,
+after a number of rounds, or after one layer of the first round."""
 
 
 def members(group, groups, q, rows):

@@ -1,9 +1,8 @@
-"""Verdicts on small codes, by the description of the four steps over checks and members, as the tests of s2_split, s2_settle and
-s2_judge have them.
+"""Verdicts on small codes, implemented from the description of the four steps over checks and members, for the tests of s2_split, s2_settle and
+s2_judge.
 
-A code is the size of a group, how many groups, q, and the address rows. `verdict` gives the word of a report, the bits, and the least
-rest in favour of them that the certificate leaves, or None where there is none.
-"""
+A code is the size of a group, the number of groups, q, and the address rows. `verdict` returns the word of a report, the bits, and the least
+rest in their favour that the certificate leaves, or None if there is none."""
 
 import os
 import sys
