@@ -20,7 +20,7 @@ def members(group, groups, q, rows):
 
 
 def message(inputs, factor):
-    """What the inputs of the other members make: so many sixteenths of the least size, rounded up."""
+    """The message from the inputs of the other members: `factor` sixteenths of the least size, rounded up."""
     least = min([1023] + [abs(v) for v in inputs])
     sign = -1 if sum(v < 0 for v in inputs) % 2 else 1
     return sign * -(-least * factor // 16)

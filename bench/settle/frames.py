@@ -52,7 +52,7 @@ class Numbers:
 
 
 def frame(group, groups, q, weight, seed, deviation, passes):
-    """The rows, the checks, a codeword, and its values behind noise."""
+    """The rows, the checks, a codeword, and its values with noise."""
     rows = made_rows(group, groups, q, weight, seed)
     checks, numbers, k = values.members(group, groups, q, rows), Numbers(seed), group * groups
     word = [numbers.next() % 2 == 1 for _ in range(k)] + [False] * len(checks)
@@ -68,7 +68,7 @@ def frame(group, groups, q, weight, seed, deviation, passes):
 
 
 def file_of(group, groups, q, checks, soft, word, moves):
-    """The certificate of moves, as it stands in a file."""
+    """The certificate of moves, in its file format."""
     out = b"S2ML\2" + b"".join(v.to_bytes(2, "big") for v in (group, groups, q, shares.SCALE))
     out += b"".join(v.to_bytes(2, "big", signed=True) for v in soft)
     bits = "".join("01"[bit] for bit in word)

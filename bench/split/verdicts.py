@@ -20,7 +20,7 @@ def odd(checks, bits):
 
 
 def repaired(checks, bits):
-    """The bits with each one turned that is in two checks at least, all of them odd."""
+    """The bits, with each one inverted that is in at least two checks, all of them odd."""
     odds = odd(checks, bits)
     around = [[odds[j] for j, check in enumerate(checks) if i in check] for i in range(len(bits))]
     return [bit ^ (len(own) >= 2 and all(own)) for bit, own in zip(bits, around)]
