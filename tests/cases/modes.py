@@ -1,4 +1,4 @@
-"""`mod` in all modes and with each word: its symbols beside those of a modulator written in C."""
+"""`mod` in all modes and with each option: its symbols are compared with those of a modulator written in C."""
 from cases.common import Case, digest
 from cases.drawn import made_rows
 
