@@ -1,4 +1,4 @@
-"""Tests of the parts of examples/gnuradio, for the Python that knows GNU Radio: tests/gnuradio starts it with the folder of the flow graphs.
+"""Tests of the parts of examples/gnuradio, for a Python with GNU Radio: tests/gnuradio starts it with the folder of the flow graphs.
 It prints a line for each part that fails, and then exits with 1."""
 import argparse
 import contextlib
