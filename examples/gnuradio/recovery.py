@@ -2,7 +2,7 @@
 them by GNU Radio's loops and `s2 demod`.
 
 A band edge loop corrects the frequency, symbol_sync recovers the symbol timing with matched filters, and a Costas loop corrects the rest of
-the frequency, and the phase up to a multiple of 90 degrees, which the headers of the frames determine. The first frames are lost while
+the frequency, and the phase up to a multiple of 90 degrees. The headers of the frames determine that multiple. The first frames are lost while
 the loops settle; after the first received packet none may be missing."""
 import os
 import random

@@ -95,7 +95,7 @@ def on_turned_moves(at, is_codeword):
 
 # The lines for the wrong bit's certificates and for the codeword's, and the ones of the codeword.
 YES, ONES = ["yes cost 0\n", "sole cost -45\n"], [0, 8, 9, 10, 11, 16, 17, 18, 19]
-# With q 4 in the place of 3 the rows have 55 edges, not 47.
+# With q 4 instead of 3 the rows have 55 edges, not 47.
 OTHER_Q = with_byte(10, 4)[:17] + bytes(2 * 24 + 3 + 188)
 
 

@@ -1,4 +1,4 @@
-"""Certificates whose rests or local minima are 0, or miss that by one, in both versions; with wide checks, bits in 24 checks, amounts up to
+"""Certificates whose rests or local minima are 0, or miss that by one, in both versions. Some have wide checks, bits in 24 checks, amounts up to
 2^31 - 1, shares of -2^31, and sums beyond 32 bits. All are of the word of zeros. The expected line of each is computed from its definition."""
 import random
 

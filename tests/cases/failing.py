@@ -21,7 +21,7 @@ def is_moved(moved, size, printed):
 
 
 # For each command and one file that it reads or writes: the line after a failed call on that file, and the numbers of bytes in `out` and
-# `printed` by then, for the first call and those after it, if that changes. For `noise` it is a condition on these and on the number of bytes
+# `printed` by then. If they change, they are given for the first call and those after it. For `noise` it is a condition on these and on the number of bytes
 # of the file that were moved. `mod` writes a frame once it has its packets, and a frame's line after all frames; `demod` and `run` write
 # packets and lines frame by frame. Rows are printed at once. Standard input is `given`, and standard output `printed`.
 FAILING = [

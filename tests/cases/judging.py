@@ -91,7 +91,7 @@ LEFT = [
     (FIVE, 2, MORE_LEFT, "sole cost 0\n", "sole cost 0\n", MORE_MOVED),
     (SIX, 0, THREE_LEFT, "sole cost 0\n", "sole cost 0\n", THREE_MOVED),
 ]
-# Codes of made rows of weight 3, by group, groups, q and seed, passes, and values of the word of zeros: settling finds a certificate in
+# Codes of made rows of weight 3, by group, groups, q and seed, passes, and values of the word of zeros. Settling finds a certificate in
 # exactly this number of passes, or gives up in at most 60 (None), as `bench/settle/shares.py` computes it. With another number in the rule
 # each of these would end otherwise: the first pass before which it may give up, the number of bits that counts as few, the reserve.
 SETTLED = [

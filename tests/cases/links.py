@@ -347,7 +347,7 @@ RUN = [
 ]
 
 
-# A seed and a level with which two rounds of min-sum leave a different count of wrong bits for each divisor, and sizes of components
+# A seed and a level with which two rounds of min-sum leave a different count of wrong bits for each divisor. Sizes of components
 # around those from which on a soft value is not 0.
 NOISY, WEAK = (14, 670), (1, 2, 3, 5, 6, 11, 12, 23, 24)
 # A seed and a level for which only the second header has 13 to 30 wrong bits.
@@ -376,7 +376,7 @@ def reporting(two, rows):
 
 def divided(two, report_by):
     """The cases of divisors over the symbols of the two packets: with noise, without, and so weak that a large divisor makes all values
-    zero, which is the word of zeros; and with noise those of factors, and of --tuned."""
+    zero, which is the word of zeros. With noise, also the cases of factors, and of --tuned."""
     noisy, noise = spoilt(two, *NOISY), "--rounds 2 --seed {} --level {}".format(*NOISY)
     lost = TWO.replace("sole fixed 0", "most-likely lost").replace("delivered 2 packets 2", "delivered 0 packets 0")
     usual, note = report_by(DIVISORS[0], 12), noted(refused_headers(2, 2))
