@@ -9,6 +9,7 @@ LITERAL = re.compile(r'"((?:\\.|[^"\\])*)"')
 COMMAND = re.compile(r'^ +(\w+)\) words="([^"]*)"', re.M)
 
 
+@functools.cache
 def text_at(path):
     """The text of a file, empty if it is not there."""
     return (ROOT / path).read_text(encoding="utf-8") if (ROOT / path).is_file() else ""

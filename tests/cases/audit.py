@@ -168,7 +168,7 @@ def cases(symbols, report, certificates):
 def tuned_cases(symbols, report, certificates):
     """Of the report of a reception with --tuned."""
     fine, other = "".join(shown(report, apart(certificates))) + last(report), failed(certified(report)[0], "other values")
-    for words, is_fine in (("--tuned", True), ("--divisor 8192", True), ("--tuned --divisor 8192", True), ("", False), ("--tuned --divisor 4096", False), ("--divisor 4096", False)):
+    for words, is_fine in (("--tuned", True), ("--divisor 16384", True), ("--tuned --divisor 16384", True), ("", False), ("--tuned --divisor 4096", False), ("--divisor 4096", False)):
         yield case(report, symbols, certificates, 0 if is_fine else NO, fine if is_fine else other, words=WORDS.replace(LINK, f"{LINK} {words}"))
 
 

@@ -471,10 +471,10 @@ def heard(words, symbols, code, end, packets, errors=""):
 def worded(two):
     """Symbols with pilots and another scrambling number, received with other words too."""
     words, end = f"{LINK} --pilots", "end frames 2 delivered {0} packets {0} bad 0\n"
-    no_sync = "16740 symbols passed over in 1 place, the first at 0", "no frame of QPSK 1/4, short in 16740 symbols: try s2 scan"
+    no_sync = *missing((0,)), "16740 symbols passed over in 1 place, the first at 0", "no frame of QPSK 1/4, short in 16740 symbols: try s2 scan"
     return [
         heard(f"{words} --number 7", two, 0, end.format(2), 2 * PACKET),
-        heard(words, two, NO, end.format(0), b""),
+        heard(words, two, NO, end.format(0), b"", noted(UNDECODED)),
         heard(f"{LINK} --number 7", two, 0, NONE, b"", noted(*no_sync)),
         heard(f"{LINK} --number 7 --strict", two, NO, NONE, b"", noted(*no_sync)),
     ]

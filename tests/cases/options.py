@@ -215,7 +215,7 @@ def tuning_effects(two, report):
     ends = {"": many, "--rounds 50": many, "--rounds 2": usual, "--rounds 1": one}
     yield from both("--rounds", f"{LINK} {{}}", ends, NOISY, noisy)
     # with another scrambling number no frame is decoded, so all rounds are run
-    best, usual = (received(Rule(f"{it} rounds each", lambda got, it=it: got.count(b" rounds %d " % it) == 2), NO, b"") for it in (100, 50))
+    best, usual = (received(Rule(f"{it} rounds each", lambda got, it=it: got.count(b" rounds %d " % it) == 2), NO, b"", [UNDECODED]) for it in (100, 50))
     ends = {"": best, "--rounds 100": best, "--rounds 50": usual}
     yield Effect("--rounds", f"demod {LINK} --number 5 --figures --tuned {{}} made in out", ends, {"reads": {"in": two}})
     hard, soft = {"reads": {"in": spoilt(two, 1, 500)}}, {"reads": {"in": spoilt(two, 1, 400)}}

@@ -29,11 +29,15 @@ fn is_again<R: Disk>(rt: &R, name: &str) -> bool {
     }
 }
 
-/// The first bytes of a file.
-fn first_bytes<R: Disk + AllocGlobal>(rt: &R, name: &str) -> Result<Vec<u8>, AllocError>
-    ensures { IfOk result (λ bytes. length bytes.items ≤ 65536) }
+/// The first bytes of a file, at most so many.
+fn first_bytes<R: Disk + AllocGlobal>(
+    rt: &R,
+    name: &str,
+    most: usize,
+) -> Result<Vec<u8>, AllocError>
+    ensures { IfOk result (λ bytes. length bytes.items ≤ most) }
 {
-    let mut bytes = vec![in rt.alloc(); 0u8; SEARCHED]?;
+    let mut bytes = vec![in rt.alloc(); 0u8; most]?;
     let count = match open_input(rt, name) {
         Ok(mut file) => read_full(&mut file, &mut bytes).unwrap_or(0),
         Err(_) => 0,
@@ -93,7 +97,7 @@ fn note_of(alloc: Global, syncs: Syncs, name: &str) -> Result<String, AllocError
 
 /// The note on a packet file: where packets begin in it, if its first or second packet is refused.
 fn beginning_note<R: Disk + AllocGlobal>(rt: &R, name: &str) -> Result<Option<String>, AllocError> {
-    let bytes = first_bytes(rt, name)?;
+    let bytes = first_bytes(rt, name, SEARCHED)?;
     if !is_refused(&bytes) {
         return Ok(None);
     }
