@@ -8,7 +8,7 @@ from pages import paragraphs
 from words import commands, identifiers, text_at
 
 PAGES = ("docs/working.md", "docs/architecture.md")
-# Folders that the toolchain makes, in which no file must exist.
+# The folder of the toolchain's output, whose files need not exist.
 MADE = "out"
 PATH = re.compile(r"(?:[\w.*-]+/)+[\w.*-]*|[\w*-]+\.(?:rt|antt|py|md|edit|svg|txt|json|c)")
 CRATE = re.compile(r"s2_[a-z_]+")

@@ -57,7 +57,7 @@ class Fault(Exception):
 
 
 class Words(argparse.ArgumentParser):
-    """The command line of a tool. Refused words have exit 1: 2 means that something was lost."""
+    """The command line of a tool. Refused arguments have exit status 1: 2 means that something was lost."""
 
     def error(self, message):
         self.exit(1, f"{self.prog}: {message}; see tools/{self.prog} --help\n")
@@ -187,7 +187,7 @@ def run(words, given=b""):
 
 
 def program_of(chosen):
-    """The program: the one that is named, else that of this folder, which is built first if that can be done. Of two, the one that `s2` runs."""
+    """The program: the one that is named, otherwise that of this folder, which is built first if that can be done. Of two, the one that `s2` runs."""
     front, built = os.path.join(TOP, "s2"), os.path.join(TOP, "crates/s2_tool/out/s2_tool")
     if chosen:
         return os.path.abspath(chosen)
@@ -437,7 +437,7 @@ class Whole:
         self.least = 2 * DUMMY
 
     def go_on(self, stop):
-        """A receiver in the state of this one goes on up to a position. What it reported."""
+        """A receiver in the state of this one continues up to a position. What it reported."""
         reception = self.tried(Stretch(self.cursor, stop, self.follows), self.receiver.records)
         self.take(reception, 0)
         shutil.rmtree(reception.folder)
@@ -546,7 +546,7 @@ class Whole:
         return None if shared is None else reception.index[shared] + 1
 
     def add(self, reception):
-        """Adds the frames of a reception. Until it meets this one, a receiver in the state of this one goes on."""
+        """Adds the frames of a reception. Until it meets this one, a receiver in the state of this one continues."""
         self.known = [at for at in self.known if at >= reception.stretch.start]
         self.no_frame = self.no_frame or NO_FRAME.search(reception.notes)
         ahead, tried = 1, self.cursor

@@ -19,7 +19,7 @@ def packed(bits):
 
 
 def scrambler():
-    """The sequence of the standard's baseband scrambler: 1 + x^14 + x^15, begun anew with each frame."""
+    """The sequence of the standard's baseband scrambler: 1 + x^14 + x^15, restarted with each frame."""
     register = [int(bit) for bit in "100101010000000"]
     while True:
         bit = register[13] ^ register[14]
