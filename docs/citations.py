@@ -9,7 +9,7 @@ PASSED_ON = re.compile(r"pub use Rattle\.(s2_\w+)\.specs\.([\w.]+)\.\{([^}]*)\}"
 
 
 def home_of(crate, module, name):
-    """The crate and the file of specs that define what is imported from there: `pub use` leads on."""
+    """The crate and the file of specs that define a name imported from there, through each `pub use`."""
     path = ROOT / "crates" / crate / "specs"
     file = path.joinpath(*module.split(".")).with_suffix(".antt")
     text = file.read_text(encoding="utf-8") if file.exists() else ""

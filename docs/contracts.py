@@ -1,4 +1,4 @@
-"""The functions of the crates and their clauses, as they stand in the sources: what docs/define and docs/clauses look in."""
+"""The functions of the crates and their clauses in the sources, for docs/define and docs/clauses."""
 import pathlib
 import re
 from typing import NamedTuple
@@ -24,7 +24,7 @@ class Clause(NamedTuple):
 
 
 def closing(text, at):
-    """The place behind the brace that closes the one at `at`."""
+    """The place after the brace that closes the one at `at`."""
     depth = 0
     for place in range(at, len(text)):
         depth += {"{": 1, "}": -1}.get(text[place], 0)
@@ -34,7 +34,7 @@ def closing(text, at):
 
 
 def head_and_body(text, at):
-    """An item's clauses, where its body begins and ends, and the place behind both."""
+    """An item's clauses, the beginning and the end of its body, and the place after both."""
     clauses, parens = [], 0
     while at < len(text):
         c = text[at]
@@ -55,7 +55,7 @@ def head_and_body(text, at):
 
 
 def without_generics(head):
-    """A head without what stands between < and >."""
+    """A head without the parts between < and >."""
     head = head.replace("->", "")
     while re.search(r"<[^<>]*>", head):
         head = re.sub(r"<[^<>]*>", "", head)
@@ -122,15 +122,15 @@ def sources(folder):
 
 
 def text_of(path):
-    """A source without its comments and literals, line by line as it stands."""
+    """A source without its comments and literals, with its lines unchanged."""
     text = COMMENT.sub("", path.read_text(encoding="utf-8"))
     return LITERAL.sub(lambda found: "\n" * found[0].count("\n"), text)
 
 
 def public_calls(crate):
     """(file, its text, owner, name, clauses) of each public call of a crate. Public calls are the functions that its src/lib.rt
-    exports, the methods of the types and traits that it exports, and what its public modules (`laws`) hold; of the program, which
-    exports nothing, they are the public functions of its modules."""
+    exports, the methods of the types and traits that it exports, and the contents of its public modules (`laws`). The program exports
+    nothing: its public calls are the public functions of its modules."""
     folder = crate / "src"
     if (folder / "lib.rt").exists():
         wanted = set(exports(folder / "lib.rt", folder))

@@ -8,15 +8,15 @@ from pages import paragraphs
 from words import commands, identifiers, text_at
 
 PAGES = ("docs/working.md", "docs/architecture.md")
-# What the toolchain makes, where no file is looked for.
+# The folder of the toolchain's output, whose files need not exist.
 MADE = "out"
 PATH = re.compile(r"(?:[\w.*-]+/)+[\w.*-]*|[\w*-]+\.(?:rt|antt|py|md|edit|svg|txt|json|c)")
 CRATE = re.compile(r"s2_[a-z_]+")
 IDENTIFIER = re.compile(r"[^\W\d]\w*(?:::\w+)*")
 RECIPE = re.compile(r"(?:- )?\*\*")
-# Where a path begins.
+# The folders in which a path may begin.
 FOLDERS = ("", "crates/", "tests/cases/")
-# What stands for any name, and for any folders.
+# The texts for any name, and for any folders.
 ANY = {"NAME": "[^/]*", "*": "[^/]*", "...": ".*"}
 ANY_OF = re.compile(r"\bNAME\b|\*|\.\.\.")
 
@@ -33,7 +33,7 @@ def paths():
 
 
 def ends_so(name):
-    """The paths that end with a name -> what is before it."""
+    """The paths that end with a name -> the part before it."""
     parts, places = ANY_OF.split(name), [ANY[it] for it in ANY_OF.findall(name)]
     pattern = re.compile("(|.*/)" + "".join(re.escape(part) + place for part, place in zip(parts, [*places, ""])))
     last = name.rpartition("/")[2]
@@ -92,7 +92,7 @@ def wrong_names(cells, crates):
 
 
 def wrong_in(part, crates, of_files):
-    """What is wrong in a paragraph, an item or a row of a table."""
+    """The errors in a paragraph, an item or a row of a table."""
     words = CODE_LETTERS.findall(part)
     named = [word for word in words if is_path(word)]
     yield from (f"there is no file {word}" for word in named if not found(word, crates_of(part) or crates))

@@ -1,4 +1,4 @@
-"""The definitions of the crates as they stand in the files of specs/: what docs/define reads."""
+"""The definitions of the crates in the files of specs/, for docs/define."""
 import re
 from typing import NamedTuple
 
@@ -21,7 +21,7 @@ class Definition(NamedTuple):
     text: str
 
     def value(self):
-        """What a number without arguments is, if it stands on one line."""
+        """The value of a number without arguments, if it is on one line."""
         found = re.search(rf"^\w* ?pub {re.escape(self.name)} : [ℕℤ]\n{re.escape(self.name)} = (.*)", self.text)
         return found and found[1]
 

@@ -5,9 +5,9 @@
     examples/check.py --each ROWS CERTIFICATES
 
 It prints what `s2 check` prints. With --each it reads certificates one after another, and prints a line for each as it comes.
-A file may be -, standard input. docs/certificates.md explains what a certificate proves, docs/formats.md has both file formats.
+A file may be -, standard input. docs/certificates.md explains what a certificate proves, and docs/formats.md has both file formats.
 
-Exit 0 if all certificates are accepted, 2 if one is not, 1 if a file cannot be read, with a sentence on standard error.
+The exit status is 0 if all certificates are accepted, 2 if one is not, and 1 if a file cannot be read, with a sentence on standard error.
 
 Why an accepted certificate is a proof: changing a bit of the word adds its value, in favour of the word, to the cost. The scale
 times this value is the bit's rest plus its shares. Another codeword changes an even number of bits in each check, and no two shares
@@ -99,7 +99,7 @@ def read_head(file, each):
 
 
 def read_body(file, version, shape, count, alone):
-    """Soft values, word and split of a certificate. Nothing may follow one that stands alone."""
+    """Soft values, word and split of a certificate. A single one must be the whole file."""
     group, groups, q = shape
     n = group * (groups + q)
     packed = 2 * n + (n + 7) // 8

@@ -1,6 +1,6 @@
-"""What tools/pieces and tools/live share: receivers of s2 on stretches of a stream, and their frames put together as one receiver reports them.
+"""The code that tools/pieces and tools/live share: receivers of s2 on parts of a stream, and their frames joined as one receiver reports them.
 
-What a receiver meets is a function of the symbols. After a frame its search depends on the frame's position only: it stands right after
+A receiver's frames are a function of the symbols. After a frame its search depends on the frame's position only: it is directly after
 a frame, and holds no symbols. So two receivers that report a frame at one position report the same frames from there on. A new receiver
 is put in that state by a dummy frame before its first symbol. The packets and their counts come from `s2 join`, which reads the BBFRAMEs."""
 import argparse
@@ -57,7 +57,7 @@ class Fault(Exception):
 
 
 class Words(argparse.ArgumentParser):
-    """The command line of a tool. Refused words have exit 1: 2 means that something was lost."""
+    """The command line of a tool. Refused arguments have exit status 1: 2 means that something was lost."""
 
     def error(self, message):
         self.exit(1, f"{self.prog}: {message}; see tools/{self.prog} --help\n")
@@ -72,7 +72,7 @@ class Told(Exception):
 
 
 class Stretch(typing.NamedTuple):
-    """The symbols from one position of a stream up to another. `follows`: a receiver that begins here stands right after a frame."""
+    """The symbols from one position of a stream up to another. `follows`: a receiver that begins here is directly after a frame."""
 
     start: int
     stop: int
@@ -152,10 +152,10 @@ class Receiver(typing.NamedTuple):
         named = [word for name in records for word in (f"--{name}", os.path.join(folder, name))]
         words = [self.program, "demod", *self.words, *named, self.rows, "-", os.devnull]
         before = [bytes.fromhex(self.dummy)] if stretch.follows else []
-        # the notes come to memory first: where the disk is full, a file would hide the line of s2
+        # the notes go to memory first: if the disk is full, a file would hide the line of s2
         with open(f"{folder}/report", "wb") as report, os.fdopen(os.memfd_create("notes"), "w+b") as notes:
             child = subprocess.Popen(words, stdin=subprocess.PIPE, stdout=report, stderr=notes)
-            # fewer turns between the two; refused where the user has no room for it
+            # fewer switches between the two; refused if the user has no memory left for it
             with contextlib.suppress(OSError):
                 fcntl.fcntl(child.stdin, F_SETPIPE_SZ, BLOCK)
             try:
@@ -187,7 +187,7 @@ def run(words, given=b""):
 
 
 def program_of(chosen):
-    """The program: the one that is named, else that of this folder, which is built first if that can be done. Of two, the one that `s2` runs."""
+    """The program: the one that is named, otherwise that of this folder, which is built first if that can be done. Of two, the one that `s2` runs."""
     front, built = os.path.join(TOP, "s2"), os.path.join(TOP, "crates/s2_tool/out/s2_tool")
     if chosen:
         return os.path.abspath(chosen)
@@ -260,8 +260,8 @@ class Reception:
         return int(found[1]) if found else 0
 
     def find_gaps(self):
-        """For each frame whether symbols were passed over before it. Whole dummy frames can have the same length. Then the BBFRAMEs tell:
-        there is one of zeros more. If several lost frames leave open which one it is of, the gap is not known here."""
+        """For each frame whether symbols were skipped before it. Whole dummy frames can have the same length. Then the BBFRAMEs decide:
+        there is one more of zeros. If it may belong to several lost frames, the gap is not known here."""
         with open(f"{self.folder}/bbframes", "rb") as file:
             headers = iter(lambda: file.read(self.receiver.bbframe)[:BBHEADER], b"")
             number, lost = 0, 0
@@ -274,7 +274,7 @@ class Reception:
                 number, lost = part + 1, 0
 
     def settle(self, numbers, extra):
-        """So many of these frames have a gap before them."""
+        """This number of these frames has a gap before them."""
         distances = {number: self.frames[number].at - self.frames[number].before for number in numbers}
         open_ones = [number for number, distance in distances.items() if distance and distance % DUMMY == 0]
         sure = [number for number, distance in distances.items() if distance % DUMMY]
@@ -291,7 +291,7 @@ def is_whole_only(name):
 
 
 class Output:
-    """A file that has its name only when it is whole. Before, it has none, or one with a point where the file system wants it. A device, a pipe
+    """A file that gets its name only when it is complete. Before, it has none, or one with a dot if the file system needs one. A device, a pipe
     and standard output are written at once."""
 
     def __init__(self, name):
@@ -328,7 +328,7 @@ class Output:
 
 
 class Outputs:
-    """The packets, by `s2 join`; the records that are asked for; the report, which is on standard error if standard output has one of them."""
+    """The packets, by `s2 join`; the requested records; the report, which is on standard error if standard output has one of them."""
 
     def __init__(self, receiver, mode, packets, records):
         self.packets, self.records = Output(packets), {name: Output(file) for name, file in records.items()}
@@ -437,7 +437,7 @@ class Whole:
         self.least = 2 * DUMMY
 
     def go_on(self, stop):
-        """A receiver in the state of this one goes on up to a position. What it reported."""
+        """A receiver in the state of this one continues up to a position. What it reported."""
         reception = self.tried(Stretch(self.cursor, stop, self.follows), self.receiver.records)
         self.take(reception, 0)
         shutil.rmtree(reception.folder)
@@ -490,7 +490,7 @@ class Whole:
         self.least = 2 * (stop - self.cursor)
 
     def note_gap(self, symbols, *notes):
-        """The notes at once on symbols without a frame, if they are as many as a frame has."""
+        """The immediate notes on symbols without a frame, if there are enough for a frame."""
         if symbols >= self.receiver.size and not self.quiet:
             sys.stderr.buffer.write(b"".join(b"s2: note: %b\n" % it for it in notes))
             sys.stderr.buffer.flush()
@@ -546,7 +546,7 @@ class Whole:
         return None if shared is None else reception.index[shared] + 1
 
     def add(self, reception):
-        """Adds the frames of a reception. Until it meets this one, a receiver in the state of this one goes on."""
+        """Adds the frames of a reception. Until it meets this one, a receiver in the state of this one continues."""
         self.known = [at for at in self.known if at >= reception.stretch.start]
         self.no_frame = self.no_frame or NO_FRAME.search(reception.notes)
         ahead, tried = 1, self.cursor
@@ -620,7 +620,7 @@ class Whole:
         return amplitude + [f"s2: note: {lost} of {frames} frames lost: try --tuned\n".encode()] * proposed
 
     def finish(self, total, chosen):
-        """The stream ends here: what is left of it, the end line, the notes, and the exit."""
+        """The stream ends here: the remaining symbols, the end line, the notes, and the exit status."""
         cut = None
         while self.cursor < total:
             reception = self.go_on(total)
@@ -728,7 +728,7 @@ def file_of(name):
 
 
 def is_refused(inputs, outputs):
-    """Whether s2 refuses a file, or may do so: then it runs by itself, and says what is wrong."""
+    """Whether s2 refuses a file, or may do so: then it runs by itself, and reports the error."""
     outputs = [*outputs]
     files = [it for it in map(file_of, (*inputs, *outputs)) if it]
     closed = [it for it in outputs if it != "-" and not os.access(it if os.path.exists(it) else os.path.dirname(os.path.abspath(it)), os.W_OK)]
@@ -744,8 +744,8 @@ def words_of(chosen):
 
 
 def end_at_once(parent):
-    """In a process of a pool signals have their usual meaning again, and so in the s2 that it starts. It ends with the process that began it, and
-    at once if that has ended before the signal was asked for."""
+    """In a process of a pool signals have their usual meaning again, also in the s2 that it starts. It ends with the process that began it, or
+    at once if that had ended before the signal was requested."""
     for it in (signal.SIGINT, signal.SIGTERM):
         signal.signal(it, signal.SIG_DFL)
     ctypes.CDLL(None).prctl(PR_SET_PDEATHSIG, signal.SIGTERM)

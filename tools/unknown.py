@@ -1,4 +1,4 @@
-"""What tools/receive says of a recording in which nothing is found: what its numbers look like, and what to try."""
+"""The advice of tools/receive for a recording in which nothing is found: a description of its numbers, and what to try."""
 import array
 import math
 import subprocess
@@ -8,7 +8,7 @@ import typing
 # Symbols of a header; symbols that are looked at, and the form in which they are read: 64-bit floats, which hold every number of each form.
 HEADER, LOOKED, FORM, BYTES = 90, 1 << 15, "cf64_le", 16
 FLOATS, INTEGERS = ("cf32_le", "cf32_be", "cf64_le", "cf64_be"), ("ci16_le", "ci16_be", "ci8", "cu8")
-# Floats of a recording are within this range, and the greatest is at most so many times the RMS.
+# Floats of a recording are within this range, and the greatest is at most this multiple of the RMS.
 USUAL, MOST = (1e-9, 1e9), 100
 # Bytes of 8-bit numbers are alike in both orders: the RMS of 16 bits is the same, but for this.
 ALIKE = 1.1

@@ -1,8 +1,7 @@
-"""A dummy frame worked out from the tables of EN 302 307-1 alone: dummy.py NUMBER [SYMBOLS]
+"""A dummy frame computed from the tables of EN 302 307-1 alone: dummy.py NUMBER [SYMBOLS]
 
-NUMBER is the scrambling number. It prints the symbols from the header's first, from the first slot's and the last one,
-and a sum of all bytes in which each place counts; SYMBOLS becomes a symbol file of the frame, amplitude 700.
-"""
+NUMBER is the scrambling number. It prints the first symbols of the header and of the first slot, the last symbol, and a sum of all bytes
+weighted by their positions. SYMBOLS becomes a symbol file of the frame, amplitude 700."""
 import struct
 import sys
 

@@ -1,7 +1,6 @@
 """GNU Radio's DVB-S2 transmitter: send.py PACKETS SYMBOLS RATE QPSK|8PSK NORMAL|SHORT ON|OFF
 
-Writes its symbols as a symbol file: pairs of 16-bit numbers, big endian, amplitude 990.
-"""
+Writes its symbols as a symbol file: pairs of 16-bit integers, big endian, amplitude 990."""
 import sys
 
 from gnuradio import blocks, dtv, gr

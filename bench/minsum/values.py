@@ -1,8 +1,7 @@
-"""Values of layered min-sum on small codes, by the rule's description, as the tests of s2_minsum have them.
+"""Values of layered min-sum on small codes, implemented from the description of the rule, for the tests of s2_minsum.
 
-A code is the size of a group, how many groups, q, and the address rows; `run` gives the posteriors, and the messages check
-by check, after so many rounds, or after one layer of the first.
-"""
+A code is the size of a group, the number of groups, q, and the address rows. `run` returns the posteriors, and the messages check by check,
+after a number of rounds, or after one layer of the first round."""
 
 
 def members(group, groups, q, rows):
@@ -21,7 +20,7 @@ def members(group, groups, q, rows):
 
 
 def message(inputs, factor):
-    """What the inputs of the other members make: so many sixteenths of the least size, rounded up."""
+    """The message from the inputs of the other members: `factor` sixteenths of the least size, rounded up."""
     least = min([1023] + [abs(v) for v in inputs])
     sign = -1 if sum(v < 0 for v in inputs) % 2 else 1
     return sign * -(-least * factor // 16)

@@ -1,9 +1,8 @@
-"""Frames of made codes, and what settling finds for each: the tables of `frames_tests.rt` and of `tests/cases/made_frames.py`.
+"""Frames of made codes, and the result of settling for each: the tables of `frames_tests.rt` and of `tests/cases/made_frames.py`.
 
-Each frame is a group, groups, q, the weight of a row, a seed, the deviation of the noise and how many passes. Its rows, its codeword and
-its soft values come from the seed. A line tells the FNV-1a of the certificate file, or 0 where none is found, and the verdict on the
-values. `real` takes some minutes.
-"""
+Each frame is a group, groups, q, the weight of a row, a seed, the deviation of the noise and a number of passes. Its rows, its codeword and
+its soft values come from the seed. It prints a line for each: the FNV-1a of the certificate file, or 0 if none is found, and the verdict on the
+values. `real` takes some minutes."""
 
 import os
 import sys
@@ -53,7 +52,7 @@ class Numbers:
 
 
 def frame(group, groups, q, weight, seed, deviation, passes):
-    """The rows, the checks, a codeword, and its values behind noise."""
+    """The rows, the checks, a codeword, and its values with noise."""
     rows = made_rows(group, groups, q, weight, seed)
     checks, numbers, k = values.members(group, groups, q, rows), Numbers(seed), group * groups
     word = [numbers.next() % 2 == 1 for _ in range(k)] + [False] * len(checks)
@@ -69,7 +68,7 @@ def frame(group, groups, q, weight, seed, deviation, passes):
 
 
 def file_of(group, groups, q, checks, soft, word, moves):
-    """The certificate of moves, as it stands in a file."""
+    """The certificate of moves, in its file format."""
     out = b"S2ML\2" + b"".join(v.to_bytes(2, "big") for v in (group, groups, q, shares.SCALE))
     out += b"".join(v.to_bytes(2, "big", signed=True) for v in soft)
     bits = "".join("01"[bit] for bit in word)

@@ -1,8 +1,7 @@
-"""Certificates by settling, by the rule's description over checks and members, as the tests of s2_settle have them.
+"""Certificates by settling, implemented from the description of the rule over checks and members, for the tests of s2_settle.
 
-A code is the size of a group, how many groups, q, and the address rows; `settle` gives the shares of each edge, check by
-check, members rising, or None where no certificate is found. `Trace` counts what it took.
-"""
+A code is the size of a group, the number of groups, q, and the address rows. `settle` returns the shares of each edge, check by check,
+members in increasing order, or None if no certificate is found. `Trace` counts its operations."""
 
 import os
 import sys

@@ -1,9 +1,8 @@
-"""Verdicts on small codes, by the description of the four steps over checks and members, as the tests of s2_split, s2_settle and
-s2_judge have them.
+"""Verdicts on small codes, implemented from the description of the four steps over checks and members, for the tests of s2_split, s2_settle and
+s2_judge.
 
-A code is the size of a group, how many groups, q, and the address rows. `verdict` gives the word of a report, the bits, and the least
-rest in favour of them that the certificate leaves, or None where there is none.
-"""
+A code is the size of a group, the number of groups, q, and the address rows. `verdict` returns the word of a report, the bits, and the least
+rest in their favour that the certificate leaves, or None if there is none."""
 
 import os
 import sys
@@ -21,7 +20,7 @@ def odd(checks, bits):
 
 
 def repaired(checks, bits):
-    """The bits with each one turned that is in two checks at least, all of them odd."""
+    """The bits, with each one inverted that is in at least two checks, all of them odd."""
     odds = odd(checks, bits)
     around = [[odds[j] for j, check in enumerate(checks) if i in check] for i in range(len(bits))]
     return [bit ^ (len(own) >= 2 and all(own)) for bit, own in zip(bits, around)]

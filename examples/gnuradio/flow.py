@@ -1,5 +1,5 @@
-"""What the flow graphs of this folder have in common: both ends of the modem behind pipes, pulses, noise, pictures, and what is said of
-the packets that came."""
+"""The common parts of the flow graphs of this folder: both ends of the modem as child processes with pipes, pulses, noise, pictures, and the
+check of the received packets."""
 import argparse
 import os
 import random
@@ -13,14 +13,14 @@ from gnuradio import analog, blocks, filter as filters, gr
 from gnuradio.filter import firdes
 
 S2 = os.environ.get("S2", os.path.join(os.path.dirname(os.path.abspath(__file__)), "../../s2"))
-# QPSK 3/4, normal frames, pilots: the words, the packets that a frame has room for, and what stands for 1 in a symbol file.
+# QPSK 3/4, normal frames, pilots: the options, the packets per frame, and the amplitude in a symbol file for 1.
 MODE = ["--modcod", "7", "--pilots"]
 MODCOD, TYPE = 7, 1
 PACKETS_A_FRAME = 32
 AMPLITUDE = 990
-# Samples a symbol, and the pulses: roots of raised cosines, cut off behind so many symbols.
+# Samples per symbol, and the root raised cosine pulses: their roll-off, and their length in symbols.
 SAMPLES, ROLL_OFF, SPAN = 4, 0.35, 32
-# How many symbols are drawn, and how many samples of how many symbols go into a line of the spectrum.
+# The number of symbols drawn, of symbols in the spectrum, and of samples in one transform.
 DRAWN, HEARD, LINE = 8000, 60000, 512
 
 
@@ -34,7 +34,7 @@ def shaped():
 
 
 def matched():
-    """Samples to symbols, where the sampling is ours: a pulse's peak is every SAMPLES-th sample from the first on."""
+    """Samples to symbols, with known timing: every SAMPLES-th sample from the first on is a pulse's peak."""
     return filters.fir_filter_ccf(SAMPLES, pulse(1))
 
 
@@ -52,7 +52,7 @@ def numbers():
 
 
 class Keep(gr.sync_block):
-    """Keeps some items of a stream behind those that are passed by, for a picture."""
+    """Keeps some items of a stream for a picture, after a number that it skips."""
 
     def __init__(self, count, after=0):
         gr.sync_block.__init__(self, "keep", [numpy.complex64], None)
@@ -70,7 +70,7 @@ class Keep(gr.sync_block):
 
 
 class Link:
-    """The packets that are sent, and the two ends of the modem, which run beside the flow graph and talk with it through pipes."""
+    """The packets that are sent, and the two ends of the modem: child processes, with pipes to and from the flow graph."""
 
     def __init__(self, chosen):
         self.chosen, self.room = chosen, tempfile.TemporaryDirectory(prefix="flow-")
@@ -84,13 +84,13 @@ class Link:
         return os.path.join(self.room.name, name)
 
     def begin(self, words, end):
-        """Starts an end of the modem with an end of a pipe, which is this process's no more afterwards."""
+        """Starts an end of the modem with an end of a pipe, and closes that end in this process."""
         self.ends.append(subprocess.Popen([S2, *words], stdout=subprocess.PIPE, text=True, pass_fds=[end]))
         os.close(end)
 
     def sent(self, graph):
-        """The symbols of `s2 mod`, amplitude 1. A dummy frame stands behind each frame, so that what the filters hold back at the
-        end is none of ours."""
+        """The symbols of `s2 mod`, amplitude 1. A dummy frame follows each frame, so that the symbols that the filters hold back at
+        the end belong to no frame with packets."""
         read, written = os.pipe()
         self.begin(["mod", *MODE, "--dummy", "1", self.chosen.rows, self.place("packets"), f"/dev/fd/{written}"], written)
         symbols = blocks.interleaved_short_to_complex(False, False, AMPLITUDE)
@@ -110,7 +110,7 @@ class Link:
             print(line, end="", flush=True)
 
     def run(self, graph):
-        """Runs the flow graph and both ends to their ends; the lines of the reports are printed as they come."""
+        """Runs the flow graph and both ends until they end, and prints the lines of the reports as they come."""
         tellers = [threading.Thread(target=self.tell, args=[end]) for end in self.ends]
         for teller in tellers:
             teller.start()
@@ -120,12 +120,12 @@ class Link:
         self.sink.do_update()  # without which it closes its end of the pipe much later
         for end, teller in zip(self.ends, tellers):
             teller.join()
-            if end.wait() == 1:  # its fault stands on standard error
+            if end.wait() == 1:  # it has reported its error on standard error
                 sys.exit(f"s2 {end.args[1]} failed")
 
     def finish(self, graph, what, samples, symbols, passed=SPAN):
-        """Runs the flow graph, draws these samples on the channel and, behind so many that are passed by, these symbols where a picture is
-        asked for, and judges what came."""
+        """Runs the flow graph and judges the received packets. If a picture is requested, it draws these samples on the channel, and these
+        symbols after the first `passed` of them."""
         heard, shown = Keep(SAMPLES * HEARD), Keep(DRAWN, passed)
         graph.connect(samples, heard)
         graph.connect(symbols, shown)
@@ -135,7 +135,7 @@ class Link:
         self.judge(self.chosen.lost)
 
     def received(self):
-        """The places of the packets that came among those that were sent; None for one that was not sent."""
+        """The places of the received packets among those that were sent; None for one that was not sent."""
         places = {packet: place for place, packet in enumerate(self.packets)}
         with open(self.place("received"), "rb") as file:
             came = file.read()
@@ -146,8 +146,8 @@ class Link:
         return [line.split() for line in self.report if line.startswith("frame ")]
 
     def judge(self, most_lost):
-        """Says what came, and ends with 1 where packets are wrong, out of order or missing behind the first that came, or more frames
-        than allowed are not among them."""
+        """Prints the numbers of packets, and exits with 1 if packets are wrong, out of order or missing after the first received one, or if
+        more frames than allowed are missing."""
         came, frames = self.received(), self.frames()
         certified = sum(words[4] in ("sole", "most-likely") for words in frames)
         lost = len(self.packets) - len(came)
@@ -166,7 +166,7 @@ def spectrum(samples):
 
 
 def draw(path, title, samples, symbols):
-    """A picture of the spectrum on the channel and of the symbols behind the receiver's filter."""
+    """A picture of the spectrum on the channel and of the symbols after the receiver's filter."""
     import matplotlib
 
     matplotlib.use("Agg")
@@ -183,14 +183,14 @@ def draw(path, title, samples, symbols):
 
 
 def words_given(what, ratio, frames, most_lost, **more):
-    """The words of a flow graph; `more` are further options, whole numbers that are 0 without them, with their help."""
+    """The arguments of a flow graph; `more` are further options with their help, integers that are 0 by default."""
     words = argparse.ArgumentParser(description=what, formatter_class=argparse.RawDescriptionHelpFormatter)
     words.add_argument("rows", help="row file of rate 3/4, normal frames")
-    words.add_argument("--ratio", type=float, default=ratio, help=f"Es/N0 in dB, {ratio} without it")
-    words.add_argument("--frames", type=int, default=frames, help=f"frames that are sent, {frames} without it")
+    words.add_argument("--ratio", type=float, default=ratio, help=f"Es/N0 in dB, by default {ratio}")
+    words.add_argument("--frames", type=int, default=frames, help=f"number of frames to send, by default {frames}")
     words.add_argument("--seed", type=int, default=1, help="seed of packets and noise")
-    words.add_argument("--lost", type=int, default=most_lost, help=f"frames that may be lost at the ends, {most_lost} without it")
-    words.add_argument("--passes", type=int, default=96, help="passes of `s2 demod` that look for certificates, 96 without it")
+    words.add_argument("--lost", type=int, default=most_lost, help=f"number of frames that may be lost at the beginning and the end, by default {most_lost}")
+    words.add_argument("--passes", type=int, default=96, help="maximum number of passes of the search for a certificate, by default 96")
     words.add_argument("--picture", help="PNG of the spectrum and the symbols")
     for name, told in more.items():
         words.add_argument(f"--{name}", type=int, default=0, help=told)

@@ -1,6 +1,6 @@
 """Sends packets by `s2 mod` in root raised cosine pulses through noise, and receives them by a matched filter and `s2 demod`.
 
-Both ends run beside the flow graph, through pipes, and each frame is reported as it comes. All packets must come."""
+Both ends are child processes with pipes, and each frame is reported as it comes. All packets must be received."""
 from gnuradio import gr
 
 import flow

@@ -1,9 +1,9 @@
 """Sends packets by `s2 mod` through a channel with a fractional delay, a frequency offset, an unknown phase and noise, and receives
 them by GNU Radio's loops and `s2 demod`.
 
-A band edge loop takes the frequency off, symbol_sync finds the symbols' time through matched filters, a Costas loop takes the rest of
-the frequency and the phase off but for quarter turns, and these are told by the headers of the frames. The first frames are lost
-while the loops settle; behind the first packet that comes none may be missing."""
+A band edge loop corrects the frequency, symbol_sync recovers the symbol timing with matched filters, and a Costas loop corrects the rest of
+the frequency, and the phase up to a multiple of 90 degrees. The headers of the frames determine that multiple. The first frames are lost while
+the loops settle; after the first received packet none may be missing."""
 import os
 import random
 import sys
@@ -17,15 +17,15 @@ sys.dont_write_bytecode = True
 sys.path.append(os.path.join(os.path.dirname(os.path.abspath(__file__)), "../../bench/gnuradio"))
 from dummy import bpsk, header
 
-# The most that the carrier turns in a symbol.
+# The largest frequency offset, as a fraction of the symbol rate.
 MAX_OFFSET = 0.05
-# How many filters symbol_sync chooses from, for the time between two samples.
+# The number of filters of symbol_sync, for the times between two samples.
 FILTERS = 32
 
 
 class QuarterTurns(gr.sync_block):
-    """Finds the headers of a mode in symbols of amplitude 1 that are turned by quarters, or by other parts of a turn, and turns back what comes
-    from each on."""
+    """Finds the headers of a mode in symbols of amplitude 1 that are rotated by a multiple of 90 degrees, or of another part of a circle, and
+    derotates the symbols from each header on."""
 
     def __init__(self, modcod, frame_type, parts=4):
         gr.sync_block.__init__(self, "quarter turns", [numpy.complex64], [numpy.complex64])
@@ -35,7 +35,7 @@ class QuarterTurns(gr.sync_block):
 
     def work(self, input_items, output_items):
         symbols, out = input_items[0], output_items[0]
-        # Of each symbol that goes out the sum over the header that would begin there.
+        # For each output symbol the correlation with a header that begins there.
         sums = numpy.correlate(symbols, self.header, "valid") / len(self.header)
         begun = 0
         for start in [*numpy.flatnonzero(abs(sums) > 0.6), len(out)]:
@@ -48,7 +48,7 @@ class QuarterTurns(gr.sync_block):
 
 
 def spoilt(graph, samples, ratio, seed):
-    """Samples behind a channel whose delay, offset and phase the seed determines."""
+    """Samples after a channel with a delay, an offset and a phase from the seed."""
     draw = random.Random(seed)
     delay, offset, phase = draw.uniform(0, flow.SAMPLES), draw.uniform(-MAX_OFFSET, MAX_OFFSET), draw.random()
     told = f"delay {delay / flow.SAMPLES:.3f} symbols, offset {offset:.4f} of the symbol rate, phase {360 * phase:.0f} degrees"
@@ -62,8 +62,8 @@ def spoilt(graph, samples, ratio, seed):
 
 
 def recovered(graph, samples, quarters=0, rate=flow.SAMPLES, roll_off=flow.ROLL_OFF, psk=4, mode=(flow.MODCOD, flow.TYPE)):
-    """Symbols of samples at this rate, turned back by the headers of a mode, if they are known. The Costas loop holds one of as many phases as
-    the symbols have points; so many quarters are added to it."""
+    """Symbols of samples at this rate, derotated by the headers of a mode if it is known. The Costas loop locks to any of the phases between which
+    the constellation is the same; `quarters` rotates by multiples of 90 degrees more."""
     points = digital.constellation_qpsk().base()
     bank = flow.pulse(FILTERS, FILTERS * rate, roll_off)
     timing = digital.symbol_sync_cc(
@@ -77,7 +77,7 @@ def recovered(graph, samples, quarters=0, rate=flow.SAMPLES, roll_off=flow.ROLL_
 
 
 def main():
-    chosen = flow.words_given(__doc__, 7.0, 10, 3, quarters="quarter turns more behind the Costas loop, 0 without it")
+    chosen = flow.words_given(__doc__, 7.0, 10, 3, quarters="additional quarter turns after the Costas loop, by default 0")
     graph, link = gr.top_block(), flow.Link(chosen)
     shaped = flow.shaped()
     graph.connect(link.sent(graph), shaped)

@@ -1,7 +1,7 @@
 """Sends packets by GNU Radio's own DVB-S2 transmitter through noise, and receives them by a matched filter and `s2 demod`.
 
-The row file must be the standard's, which that transmitter has built in. The frame that is not full at the end is never sent, and of
-the last one that is the filters hold back some symbols."""
+The row file must be the standard's, which that transmitter has built in. An incomplete frame at the end is never sent, and the filters hold
+back some symbols of the last complete one."""
 from gnuradio import blocks, dtv, gr
 
 import flow
@@ -11,7 +11,7 @@ MODE = dtv.STANDARD_DVBS2, dtv.FECFRAME_NORMAL, dtv.C3_4
 
 def transmitter(graph, packets):
     """The symbols of GNU Radio's transmitter, amplitude 1."""
-    last = blocks.keep_m_in_n(gr.sizeof_gr_complex, 1, 2, 0)  # it puts a zero behind each symbol
+    last = blocks.keep_m_in_n(gr.sizeof_gr_complex, 1, 2, 0)  # it puts a zero after each symbol
     graph.connect(
         blocks.file_source(gr.sizeof_char, packets),
         dtv.dvb_bbheader_bb(*MODE, dtv.RO_0_35, dtv.INPUTMODE_NORMAL, dtv.INBAND_OFF, 168, 4000000),

@@ -1,6 +1,6 @@
 """`audit`, on a stream without noise: `cases` takes what `mod` made and what `demod --certificates` wrote of it.
 
-The lines that are wanted are worked out from the report and from the bytes of the certificates: the cost of a certificate's bits is
+The expected lines are computed from the report and from the bytes of the certificates: the cost of a certificate's bits is
 the sum of its soft values at the bits that are 1."""
 from cases.common import FAULT, LINK, NO, Case, fault
 
@@ -105,7 +105,7 @@ def cases(symbols, report, certificates):
     # a symbol of the header has no soft value
     at = 4 * first
     yield case(report, changed(symbols, at, symbols[at] ^ 0x80), certificates, 0, "".join(lines) + last(report))
-    # two certificates in each other's places, where their frames differ, and one missing, and one more
+    # two certificates exchanged (their frames differ), one missing, and one too many
     if each[0] != each[1]:
         yield case(report, symbols, each[1] + each[0] + b"".join(each[2:]), NO, failed(frames[0], "other values"))
     yield case(report, symbols, before, NO, ahead + failed(line, "no certificate"))
@@ -173,7 +173,7 @@ def tuned_cases(symbols, report, certificates):
 
 
 def likely_cases(symbols, report, certificates):
-    """Of frames of which one is most likely and not sole: called sole, it is not shown."""
+    """A report with a frame that is most likely and not sole: if the report says sole, its certificate does not show that."""
     each = apart(certificates)
     frames = certified(report)
     lines = shown(report, each)

@@ -12,7 +12,7 @@ def pair(place, amount):
     return front + place.to_bytes(2, "big") + amount.to_bytes(4, "big")
 
 
-# Moves of the pair, and what comes of them: rests of 3 and 1, 4 and 0, 5 and -1, 1 and 3, 0 and 4, -1 and 5; places past the two bits.
+# Moves of the pair, and the results: rests of 3 and 1, 4 and 0, 5 and -1, 1 and 3, 0 and 4, -1 and 5; places past the two bits.
 PAIRS = [
     (1, 7, 0, "sole cost -2\n"),
     (1, 6, 0, "yes cost -2\n"),
@@ -26,7 +26,7 @@ PAIRS = [
     (2, 7, NO, "no shape\n"),
     (65_535, 7, NO, "no shape\n"),
 ]
-# Certificates under the toy rows, and what comes of them.
+# Certificates under the toy rows, and the results.
 ANSWERS = [
     (WRONG_CERTIFICATE, 0, "yes cost 0\n"),
     (STORED_CERTIFICATE, 0, "sole cost -45\n"),
@@ -61,12 +61,12 @@ FAULTS = [
 
 
 def turned(file, at):
-    """A file with the highest bit of a byte turned."""
+    """A file with the highest bit of a byte inverted."""
     return file[:at] + bytes([file[at] ^ 0x80]) + file[at + 1 :]
 
 
 def on_turned(at, is_codeword):
-    """What comes of the wrong bit's certificate with a byte turned so, and of the codeword's: a fault, or a line."""
+    """The results for the wrong bit's certificate with a byte changed so, and for the codeword's: a fault, or a line."""
     if at in range(5):
         return "magic"
     if at in (5, 7, 9):
@@ -87,15 +87,15 @@ def on_turned_moves(at, is_codeword):
     """The same of version 2, which has no count of shares, and moves of six bytes from byte 56 on."""
     if at < 56:
         return on_turned(at if at < 13 else at + 4, is_codeword)
-    # a place where nothing is moved, or past the members; an amount of 2^31 and more
+    # a place without a move, or past the members; an amount of 2^31 and more
     if at in (56, 57) and not is_codeword:
         return "no shape\n"
     return "range" if (at - 56) % 6 < 3 else "no bound\n"
 
 
-# What is said of the wrong bit's certificates, and of the codeword's, and the ones of the codeword.
+# The lines for the wrong bit's certificates and for the codeword's, and the ones of the codeword.
 YES, ONES = ["yes cost 0\n", "sole cost -45\n"], [0, 8, 9, 10, 11, 16, 17, 18, 19]
-# With q 4 in the place of 3 the rows have 55 edges, not 47.
+# With q 4 instead of 3 the rows have 55 edges, not 47.
 OTHER_Q = with_byte(10, 4)[:17] + bytes(2 * 24 + 3 + 188)
 
 
@@ -108,7 +108,7 @@ def refused(certificate, text, rows="toy"):
 
 
 def answered(certificate, said):
-    """A case whose line is told, or the text of its fault."""
+    """A case with this line, or this text of its fault."""
     if not said.endswith("\n"):
         return refused(certificate, said)
     return checked(certificate, NO if said.startswith("no") else 0, said)
@@ -134,7 +134,7 @@ SEVERAL = [
     (ACCEPTED + bytes(1), FAULT, THREE, "magic"),
     (ACCEPTED + WRONG_MOVED[:11] + bytes(2) + WRONG_MOVED[13:], FAULT, THREE, "range"),
     (ACCEPTED + WRONG_MOVED[:5] + bytes(8), FAULT, THREE, "shape"),
-    # no code has so many bits, and no certificate so many shares: no more than the header is read
+    # no code has this number of bits, and no certificate this number of shares: only the header is read
     (ACCEPTED + WRONG_MOVED[:5] + 8 * b"\xff" + STORED_MOVED, FAULT, THREE, "shape"),
     (ACCEPTED + HEAD[:13] + 4 * b"\xff" + STORED_MOVED, FAULT, THREE, "range"),
     # the rows are those of the first certificate's shape
@@ -171,7 +171,7 @@ CASES = [
     checked(OTHER_Q, NO, "no shape\n"),
     Case("check short_rows out", NO, "no shape\n", reads={"short_rows": b"0 4 8\n0 1\n", "out": WRONG_CERTIFICATE}),
     Case("check normal normal_certificate", out="yes cost 0\n"),
-    # a byte behind the end is told before what else is wrong, and what lacks of the header before a shape
+    # a byte after the end is reported before other errors, and an incomplete header before a shape
     refused(turned(WRONG_MOVED, 13) + b"\x00", "extra"),
     refused(WRONG_MOVED[:5] + bytes(7), "cut"),
     refused(WRONG_MOVED[:5] + bytes(8), "shape"),

@@ -1,4 +1,4 @@
-"""What a case is, what it may be compared with, and what many commands read."""
+"""The type of a case, comparisons, and inputs of many commands."""
 from dataclasses import dataclass, field
 
 FINE, FAULT, NO = 0, 1, 2
@@ -37,13 +37,13 @@ TWO = ONE + "frame 2 at 8190 sole fixed 0\nend frames 2 delivered 2 packets 2 ba
 
 @dataclass(frozen=True)
 class Case:
-    """The words of a command, its exit, and what it prints on standard output and on standard error.
+    """The arguments of a command, its exit status, its standard output and its standard error.
 
-    It is run in a folder of its own, where stand those of the files that are common to all, or are told by `reads`, that its words
-    name. `writes` tells what it leaves in files that it makes or changes; each other file has to stay as it was. `given` is its
-    standard input, or the path of it. Where `to` is told, its standard output is that path, or a pipe that is `closed`. `links` tells
-    further names of files there, each by how it is linked, `hard` or `symbolic`, and to which. The note that its rows are not
-    the standard's is passed over unless it is `noted`."""
+    It runs in its own folder, with those of the common files, and of the files of `reads`, that its arguments name. `writes` has the
+    contents of the files that it makes or changes; each other file must be unchanged. `given` is its standard input, or the path of
+    it. If `to` is given, its standard output is that path, or a pipe that is `closed`. `links` has further names of files there, each
+    with its kind, `hard` or `symbolic`, and its target. The note that its rows are not the standard's is ignored unless `noted`
+    is true."""
 
     words: str
     code: int = FINE
@@ -58,12 +58,12 @@ class Case:
 
 
 def without_notes(errors):
-    """What stands on standard error, but for the note that rows are not the standard's, as no rows here are."""
+    """Standard error without the note that rows are not the standard's, as no rows here are."""
     return b"".join(line for line in errors.splitlines(True) if not line.startswith(b"s2: note: these rows are "))
 
 
 class Rule:
-    """Equal to what it holds of, where what is wanted is not told byte by byte."""
+    """Equal to every value for which it holds, for expectations that are not byte by byte."""
 
     def __init__(self, what, holds):
         self.what, self.holds = what, holds
@@ -79,7 +79,7 @@ ANY = Rule("any", lambda got: True)
 
 
 def option(word, text):
-    """Holds of help that tells this word in a line with this end."""
+    """Holds for help that has this word in a line with this end."""
 
     def told(got):
         return any(line.strip().startswith(word) and line.endswith(text) for line in got.decode().split("\n"))
@@ -136,7 +136,7 @@ def tuned(lost, frames):
 
 
 def fault(words, text, *notes, cause="No such file or directory", **more):
-    """A case that ends with the line of a fault, behind these notes, and prints nothing else. A file that cannot be opened is noted with its
+    """A case that ends with the line of a fault, after these notes, and prints nothing else. A file that cannot be opened is noted with its
     cause, and so is each folder that is read."""
     name, folder = text.removeprefix("cannot open "), ".: Is a directory"
     folders = [folder] * words.split().count(".") * (text != "cannot open .")
@@ -144,7 +144,7 @@ def fault(words, text, *notes, cause="No such file or directory", **more):
     return Case(words, FAULT, errors=noted(*folders, *notes, *causes) + f"s2: {text}\n", **more)
 
 
-# The commands, which have help of their own.
+# The commands, each with its own help.
 COMMANDS = "modes rows table judge check mod noise demod run scan join audit".split()
 
 

@@ -1,4 +1,4 @@
-"""What seeds determine, drawn once more: made rows and noise, as docs/formats.md tells them."""
+"""Made rows and noise, computed from their seeds independently of the program, as docs/formats.md describes them."""
 from decimal import Decimal
 
 
@@ -53,7 +53,7 @@ def moved(symbols, gains):
 
 
 def differences(seed, words):
-    """Sums of the bytes of so many words of a generator, less their mean."""
+    """Sums of the bytes of a number of words of a generator, less their mean."""
     generator = Pcg32(seed)
     while True:
         yield sum(sum(generator.next_word().to_bytes(4, "big")) for _ in range(words)) - 510 * words
@@ -74,6 +74,6 @@ def amplitude_of(decibels):
 
 
 def gaussian(symbols, seed, decibels):
-    """The bytes of symbols with Gaussian noise of an Es/N0, which is told as on the command line."""
+    """The bytes of symbols with Gaussian noise of an Es/N0, given as on the command line."""
     amplitude = amplitude_of(decibels)
     return moved(symbols, ((abs(it) * amplitude + 2**29) // 2**30 * (1 if it >= 0 else -1) for it in differences(seed, 16)))

@@ -1,5 +1,5 @@
-"""Certificates whose rests or local minima are 0, or miss that by one, in both versions; with wide checks, bits in 24 checks, amounts up to
-2^31 - 1, shares of -2^31, and sums beyond 32 bits. All are of the word of zeros. What is wanted of each is computed from its definition."""
+"""Certificates whose rests or local minima are 0, or miss that by one, in both versions. Some have wide checks, bits in 24 checks, amounts up to
+2^31 - 1, shares of -2^31, and sums beyond 32 bits. All are of the word of zeros. The expected line of each is computed from its definition."""
 import random
 
 from cases import plain_checker
@@ -14,7 +14,7 @@ LOW = (250, MAX_SOFT - 6)
 SCALED, LEAST_SHARE = MAX_SCALE * MAX_SOFT, -(2**31)
 # Amounts of two checks that make good what a bit of the least value lacks.
 MADE_GOOD = [(1 << 20, SCALED - (1 << 20)), ((1 << 20) + 1, SCALED - (1 << 20) - 1)]
-# Of so many bits of a shape at most is each kind of certificate made.
+# The largest numbers of bits of a shape for each kind of certificate.
 MOST_BITS = 90
 
 

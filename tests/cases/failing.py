@@ -1,4 +1,4 @@
-"""Reads, writes and cuts that fail in turn."""
+"""Reads, writes and cuts that fail, one after another."""
 from cases import audit, records
 from cases.common import LINK, LONG_ROWS, PAIR, TOY, TWO
 
@@ -11,20 +11,19 @@ NOTHING, FRAMES = [(0, 0)], [(188, 0), (376, 26), (376, 55)]
 
 
 def is_whole_symbols(moved, size, printed):
-    """Where a read fails, the symbols that came before stand."""
+    """If a read fails, the symbols read before are in the output."""
     return (size, printed) == (moved // 4 * 4, 0)
 
 
 def is_moved(moved, size, printed):
-    """Where a write fails, what was written before stands, and nothing more is written."""
+    """If a write fails, the bytes written before are kept, and nothing more is written."""
     return (size, printed) == (moved, 0)
 
 
-# Of each command and one file that it reads or writes: what it says where a call on that file fails, and how many bytes stand in
-# `out` and are printed by then, for the first call and those after it, where that changes; of `noise`, what is to hold of that and
-# of how many bytes of the file were moved. A frame of `mod` stands once its packets are in, and its line once all frames stand;
-# packets and lines of `demod` and `run` stand frame by frame. Rows are printed at once. Standard input is `given`, and standard
-# output `printed`.
+# For each command and one file that it reads or writes: the line after a failed call on that file, and the numbers of bytes in `out` and
+# `printed` by then. If they change, they are given for the first call and those after it. For `noise` it is a condition on these and on the number of bytes
+# of the file that were moved. `mod` writes a frame once it has its packets, and a frame's line after all frames; `demod` and `run` write
+# packets and lines frame by frame. Rows are printed at once. Standard input is `given`, and standard output `printed`.
 FAILING = [
     ("", "given", READ, NOTHING),
     ("", "printed", WRITE, NOTHING),
@@ -48,7 +47,7 @@ FAILING = [
     (DEMOD, "two", READ, [(0, 0), (188, 26), (376, 55)]),
     (DEMOD, "out", WRITE, [(0, 0), (188, 26)]),
     (DEMOD, "printed", WRITE, FRAMES),
-    # each frame stands with the dummy frame behind it
+    # each frame is written with the dummy frame after it
     (DUMMY, "packets", READ, [(0, 0), (46_080, 0)]),
     (DUMMY, "out", WRITE, [(0, 0), (46_080, 0)]),
     (DUMMY, "printed", WRITE, [(92_160, 0)]),
@@ -116,5 +115,5 @@ def failing(two):
 
 
 def recording(first):
-    """Where a write of a certificate fails, the bytes before it stand, and the line of the first frame if its certificate is whole."""
+    """If a write of a certificate fails, the bytes before it are kept, and the line of the first frame if its certificate is complete."""
     return lambda moved, size, printed: (size, printed) == (moved, 26 if moved >= first else 0)

@@ -1,5 +1,5 @@
-"""Tests of the parts of examples/gnuradio, for the Python that knows GNU Radio: tests/gnuradio starts it with the folder of the flow graphs.
-It prints a line for each part that fails, and ends with 1 then."""
+"""Tests of the parts of examples/gnuradio, for a Python with GNU Radio: tests/gnuradio starts it with the folder of the flow graphs.
+It prints a line for each part that fails, and then exits with 1."""
 import argparse
 import contextlib
 import io
@@ -26,19 +26,19 @@ def through(symbols, block):
 
 
 def turned_back(quarters):
-    """Whether the symbols of three frames, each turned by as many quarters as are told, come out as they were sent."""
+    """Whether the symbols of three frames, each rotated by its number of quarters, are received unchanged."""
     draw = numpy.random.default_rng(1)
     head = numpy.array(recovery.bpsk(recovery.header(flow.MODCOD, flow.TYPE))) / 2**0.5
     payloads = [numpy.exp(1j * numpy.pi * (0.25 + 0.5 * draw.integers(0, 4, 3000))) for _ in quarters]
     sent = [numpy.concatenate([head, payload]) for payload in payloads]
     came = through(numpy.concatenate([frame * 1j**turn for frame, turn in zip(sent, quarters)]), recovery.QuarterTurns(flow.MODCOD, flow.TYPE))
-    # the block waits for the rest of a header, and gives as many zeros first
+    # the block waits for the rest of a header, and returns the same number of zeros first
     held, wanted = len(head) - 1, numpy.concatenate(sent)
     return len(came) == len(wanted) and abs(came[held:] - wanted[:-held]).max() < 0.01
 
 
 def judged(places, most_lost):
-    """What `judge` makes of packets that came, told by their places; None is one that was not sent."""
+    """The result of `judge` for received packets, given by their places; None is one that was not sent."""
     link = flow.Link(argparse.Namespace(seed=1, frames=FRAMES))
     with open(link.place("received"), "wb") as file:
         file.write(b"".join(bytes(188) if place is None else link.packets[place] for place in places))
@@ -64,7 +64,7 @@ def judgements():
 
 
 def noise_is(ratio):
-    """Whether the noise of an Es/N0 has its power, for symbols of amplitude 1 and so many samples a symbol."""
+    """Whether the noise of an Es/N0 has its power, for symbols of amplitude 1 and this number of samples per symbol."""
     graph, out = gr.top_block(), blocks.vector_sink_c()
     silence = blocks.vector_source_c([0] * MANY)
     graph.connect(flow.noised(graph, silence, ratio, 1), out)
@@ -74,7 +74,7 @@ def noise_is(ratio):
 
 
 def offset_of(seed):
-    """The offset that the channel of a seed tells, and the one that its samples have."""
+    """The offset that the channel of a seed prints, and the one that its samples have."""
     graph, out = gr.top_block(), blocks.vector_sink_c()
     told = io.StringIO()
     with contextlib.redirect_stderr(told):

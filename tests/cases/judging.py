@@ -91,9 +91,9 @@ LEFT = [
     (FIVE, 2, MORE_LEFT, "sole cost 0\n", "sole cost 0\n", MORE_MOVED),
     (SIX, 0, THREE_LEFT, "sole cost 0\n", "sole cost 0\n", THREE_MOVED),
 ]
-# Codes of made rows of weight 3, by group, groups, q and seed, passes, and values of the word of zeros: in just so many passes settling
-# finds a certificate, or gives up in at most 60 (None), as `bench/settle/shares.py` computes it. With another number in the rule each
-# of these would end otherwise: the first pass before which it may give up, how many bits are few, how the reserve falls.
+# Codes of made rows of weight 3, by group, groups, q and seed, passes, and values of the word of zeros. Settling finds a certificate in
+# exactly this number of passes, or gives up in at most 60 (None), as `bench/settle/shares.py` computes it. With another number in the rule
+# each of these would end otherwise: the first pass before which it may give up, the number of bits that counts as few, the reserve.
 SETTLED = [
     ((14, 8, 7, 186), 8, (
         b"54 38 14 70 99 70 85 24 57 -25 14 61 86 20 43 91 57 -10 63 64 31 4 45 14 -9 103 49 76 63 52 18 17 60 100 64 76 15 9 -4 "
@@ -142,7 +142,7 @@ SETTLED = [
 
 
 def settled(numbers, passes, values):
-    """Cases with so many passes, and with one fewer."""
+    """Cases with this number of passes, and with one fewer."""
     group, groups, q, seed = numbers
     words, reads = f"judge --group {group} --groups {groups} --q {q}", {"rows": made_rows(group, groups, q, 3, seed), "values": values}
     ends = {60: False} if passes is None else {passes: True, passes - 1: False}
@@ -172,7 +172,7 @@ def uncertified(line):
 
 
 def cut(values):
-    """A value file of the same codeword, cut: what is left of its last value counts, unless it is a minus alone."""
+    """A value file of the same codeword, cut: the rest of its last value counts, unless it is only a minus sign."""
     words = [word for word in values.split() if word != b"-"]
     if len(words) == 20:
         return Case("", out=f"most-likely cost {sum(min(0, int(word)) for word in words)}\n", given=values)
@@ -186,7 +186,7 @@ SPLIT = [b"\n", b" ", b"\n\n# a frame\n \t", b"\r\n", b" \n#\n"]
 
 
 def each(values, count, code=0, text="", **more):
-    """`judge --each` on so many frames, in the order stored, wrong, stored and so on."""
+    """`judge --each` on this number of frames, in the order stored, wrong, stored and so on."""
     order = [FRAMES[at % 2] for at in range(count)]
     writes = {"certificates": b"".join(it[3] for it in order)} | more.pop("writes", {})
     errors = f"s2: {text}\n" if text else ""
@@ -199,7 +199,7 @@ def frames(count, between=b"\n"):
     return b"".join(FRAMES[at % 2][0] + between for at in range(count))
 
 
-# After two whole frames: what comes then, and the fault. The lines before it are there, and so are their certificates.
+# After two complete frames: the following input, and the fault. The lines before it are printed, and so are their certificates.
 BAD_EACH = [
     (b"7", "too few"),
     (19 * b"7 ", "too few"),
@@ -222,7 +222,7 @@ PAIRS_EACH = [
 
 EACH = [
     *(each(frames(count, between), count) for count in (1, 2, 3, 5) for between in SPLIT),
-    # each value in a line of its own
+    # each value on its own line
     each(frames(3).replace(b" ", b"\n"), 3),
     # many frames: the memory is that of one
     each(frames(3000), 3000),

@@ -45,7 +45,7 @@ def with_sync(packet, *places):
     return (packet - 1) * PACKET + bytes(made)
 
 
-# Streams of packets with more bytes, the first packet that is refused, and the size that its note tells.
+# Streams of packets with more bytes, the first packet that is refused, and the size in its note.
 SIZES = [
     (3 * (PACKET + bytes(16)), 2, 204),
     (3 * (bytes(4) + PACKET), 1, 192),
@@ -61,7 +61,7 @@ SIZES = [
 
 
 def beginning(place, distance, name):
-    """The note on where five sync bytes follow each other."""
+    """The note on the place at which five sync bytes follow each other."""
     return f"five sync bytes at distance {distance} begin at byte {place}: try {f'tail -c +{place + 1}' if distance == 188 else 'tools/strip'} {name}"
 
 
@@ -71,7 +71,7 @@ def refused(packets, fault_and_note, after="", words="mod --modcod 1 normal4 in 
     return Case(words, 1, errors=f"{noted(note)}s2: {text}\n{noted(after) if after else ''}", reads={"in": packets}, writes={"out": b""}, **more)
 
 
-# Streams whose first or second packet is refused, that one, the size that its note tells, and where five sync bytes follow each other at
+# Streams whose first or second packet is refused, that one, the size in its note, and the place at which five sync bytes follow each other at
 # which distance, if they do.
 BEGINNINGS = [
     (bytes(111) + 5 * PACKET, 1, 0, (111, 188)),
@@ -124,7 +124,7 @@ MOD = [
     *(fault("mod --modcod 1 --quiet normal4 in out", no_sync(at)[0], reads={"in": packets}, writes={"out": b""}) for packets, at, _ in SIZES),
     *(case for it in BEGINNINGS for case in begun(*it)),
     refused(bytes(111) + 5 * PACKET, no_sync(1), beginning(111, 188, "'it'\\''s'"), "mod --modcod 1 normal4 it's out", links={"it's": ("hard", "in")}),
-    # the frame that was full stands
+    # the full frame is written
     fault(f"mod {LINK} made in out", *no_sync(3), reads={"in": 2 * PACKET + b"\x48" + bytes(187)}, writes={"out": size(32_760)}),
     fault(f"mod {LINK} made in -", *no_sync(1), reads={"in": bytes(188)}),
     fault(f"mod {LINK} toy packets out", "rows: too few rows", WANTED, writes={"out": b""}),
@@ -154,13 +154,13 @@ def received(symbols, code, report, packets, words=f"{LINK} made", errors=""):
 
 
 def cut(frames, count):
-    """The exit and the report of whole short frames and so many symbols of one more."""
+    """The exit status and the report of complete short frames and a number of symbols of one more."""
     code, line = (NO, f"cut at {8190 * frames} symbols {count}\n") if count else (0, "")
     return code, f"{frames * ONE}{line}end frames {frames} delivered {frames} packets {frames} bad 0\n"
 
 
 def wrong_headers(two, count, frame=8190):
-    """The symbols with so many bits of the second header inverted, first those that all headers have in common."""
+    """The symbols with a number of bits of the second header inverted, first those that all headers have in common."""
     at = 4 * frame
     samples = [int.from_bytes(two[sample : sample + 2], "big", signed=True) for sample in range(at, at + 4 * count, 2)]
     negated = b"".join((-sample).to_bytes(2, "big", signed=True) for sample in samples)
@@ -185,7 +185,7 @@ def demod(two, single):
         # cut anywhere, also inside a symbol
         *(received(single[: 4 * count + count % 4], *cut(0, count), b"", "--modcod 1 normal4") for count in range(811, 32_490, 811)),
         *(received(symbols, 0, NONE, b"") for symbols in (b"", b"1", b"12", b"123", bytes(359))),
-        # behind its header the frame has lost its symbols: the word of zeros is decided, whose message is no header
+        # the frame has lost the symbols after its header: the word of zeros is decided, whose message is no header
         received(two[:360] + bytes(32_400), NO, lost, b"", errors=noted(refused_headers(1, 1))),
         received(two[:360] + bytes(32_400), NO, lost, b"", f"{LINK} --quiet made"),
         fault(f"demod {LINK} toy in out", "rows: too few rows", WANTED, reads={"in": two}, writes={"out": b""}),
@@ -202,12 +202,12 @@ def is_passed_over(notes):
 
 
 def losing(two):
-    """The cases of what is lost of the symbols of the two packets: notes of it, the exits of strict commands, and quiet ones."""
+    """The cases of losses in the symbols of the two packets: their notes, the exit statuses of strict commands, and quiet ones."""
     one, other, gap = two[:32_760], two[32_760:], bytes(400)
     first, torn = ONE + "frame 2 at 8290 sole fixed 0\nend frames 2 delivered 2 packets 1 bad 0\n", "1 packet torn"
     nothing = "100 symbols passed over in 1 place, the first at 0", "no frame of QPSK 1/4, short in 100 symbols: try s2 scan"
     cases = [
-        # before the frames, between them, behind them, and before a cut one
+        # before the frames, between them, after them, and before a cut one
         (gap + two, 0, TWO.replace("at 0 ", "at 100 ").replace("8190", "8290"), 2 * PACKET, ["100 symbols passed over in 1 place, the first at 0"]),
         (one + gap + other, 0, first, PACKET, ["100 symbols passed over in 1 place, the first at 8190", torn]),
         (two + gap, 0, TWO, 2 * PACKET, ["100 symbols passed over in 1 place, the first at 16380"]),
@@ -273,7 +273,7 @@ def amplitude(root, gain):
 
 
 def undelivered(said, *more):
-    """The notes on frames of which none is delivered: on their amplitude if one is given, and these; else on their headers."""
+    """The notes if no frame is delivered: on their amplitude if one is given, and these; otherwise on their headers."""
     return noted(amplitude(*said), *more) if said else noted(UNDECODED)
 
 
@@ -301,7 +301,7 @@ def strong(two):
         received(mixed, NO, ANY, PACKET, f"{LINK} {words} made", noted(torn, *notes))
         for words, notes in [("", [tuned(1, 2)]), ("--exit-by delivery", [tuned(1, 2)]), ("--tuned", []), ("--tuned --exit-by delivery", [])]
     ]
-    # the line of a lost frame is there also without its turn
+    # the line of a lost frame is printed also if --every does not select it
     for every, line, sums in ((5, "", ""), (1, ONE, "sum frames 1 delivered 1 certified 1\n{}sum frames 2 delivered 1 certified 1\n"), (2, "", "{}sum frames 2 delivered 1 certified 1\n")):
         report = f"every {every}\n{line}{sums or '{}'}".format("frame 2 at 8190 broken lost\n") + "end frames 2 delivered 1 packets 1 bad 0\n"
         cases.append(received(mixed, NO, report, PACKET, f"{LINK} --quiet --every {every} made"))
@@ -325,7 +325,7 @@ RUN = [
     run(f"{LINK} --rounds 200 --seed 1 --level 0 made", 0, TWO, 2 * PACKET),
     run(f"{LINK} --uncertified --seed 1 --level 500 made", NO, PARITY, 2 * PACKET),
     run(f"{LINK} --uncertified --seed 1 --level 0 made", 0, TWO, 2 * PACKET),
-    # best are 96 passes, unless others stand there, or none can
+    # --tuned sets 96 passes, unless the arguments have others, or none are possible
     run(f"{LINK} --tuned --seed 1 --level 500 made", 0, TWO, 2 * PACKET),
     run(f"{LINK} --tuned --passes 0 --seed 1 --level 500 made", NO, PARITY, 2 * PACKET),
     run(f"{LINK} --tuned --uncertified --seed 1 --level 500 made", NO, PARITY, 2 * PACKET),
@@ -347,7 +347,7 @@ RUN = [
 ]
 
 
-# A seed and a level behind which two rounds of min-sum leave another count of wrong bits by each divisor, and sizes of components
+# A seed and a level with which two rounds of min-sum leave a different count of wrong bits for each divisor. Sizes of components
 # around those from which on a soft value is not 0.
 NOISY, WEAK = (14, 670), (1, 2, 3, 5, 6, 11, 12, 23, 24)
 # A seed and a level for which only the second header has 13 to 30 wrong bits.
@@ -358,7 +358,7 @@ TURNED = (8, 600)
 GAUSSIAN = (1, 2.5)
 # By each of these factors it leaves another count, too.
 FACTORS = (12, 13, 14, 16)
-# Words that are best for QPSK 1/4, short, and those that win over them, also by what is their default: the divisor and the factor.
+# The options that --tuned sets for QPSK 1/4, short, and those that override them, also with their defaults: the divisor and the factor.
 TUNED = [
     ("--tuned", 16384, 14),
     ("--tuned --divisor 4096", 4096, 14),
@@ -375,8 +375,8 @@ def reporting(two, rows):
 
 
 def divided(two, report_by):
-    """The cases of divisors over the symbols of the two packets: with noise, without, and so weak that a large divisor leaves
-    nothing of them, which is the word of zeros; and with noise those of factors, and of what is best."""
+    """The cases of divisors over the symbols of the two packets: with noise, without, and so weak that a large divisor makes all values
+    zero, which is the word of zeros. With noise, also the cases of factors, and of --tuned."""
     noisy, noise = spoilt(two, *NOISY), "--rounds 2 --seed {} --level {}".format(*NOISY)
     lost = TWO.replace("sole fixed 0", "most-likely lost").replace("delivered 2 packets 2", "delivered 0 packets 0")
     usual, note = report_by(DIVISORS[0], 12), noted(refused_headers(2, 2))

@@ -1,4 +1,4 @@
-"""`modes`, and modes by name: what is wanted is computed here from the tables of the standard."""
+"""`modes`, and modes by name: the expected output is computed here from the tables of the standard."""
 from fractions import Fraction
 
 from cases.common import Case, fault, misuse, option
@@ -73,7 +73,7 @@ def no_rate(text):
     return f"--rate: {text} is not a whole number, 1 to 1000000000, also as 27.5M, 27.5e6 or 27500k"
 
 
-# What is no symbol rate: beyond the range, no whole number, and not written so.
+# Invalid symbol rates: out of range, not an integer, and in another notation.
 NO_RATES = "0 1000000001 x -1 27.5 0.5 1.5555k 1000.0000001M 1001M 1e10 .5M 5.M 27,5M 1G 1MM M 1e 1e-3 0x10".split()
 
 
@@ -82,7 +82,7 @@ def misused(name, words, text):
     return misuse(f"{name} {words} {REST[name]}", text)
 
 
-# What is no name, and what stands there.
+# Invalid names, and the text in the message.
 NO_NAMES = [
     ("qpsk7/8", QPSK),
     ("QPSK", QPSK),
@@ -142,7 +142,7 @@ CASES = [
     Case("judge --help", out=option("broken cost C check J", "this is no codeword")),
     Case("run --help", out=option("2  ", "a frame is lost, cut, parity or broken")),
 ]
-# Their files, where the first is not there.
+# Their files; the first does not exist.
 NONE_READ = {name: rest.replace("made", "none") for name, rest in REST.items()} | {"judge": "none stored", "join": "none out"}
 # Commands by a name, and by its number.
 ALIKE = [

@@ -1,9 +1,9 @@
-"""`mod` in all modes and with each word: its symbols beside those of a modulator written in C."""
+"""`mod` in all modes and with each option: its symbols are compared with those of a modulator written in C."""
 from cases.common import Case, digest
 from cases.drawn import made_rows
 
-# MODCOD, words, groups and q of the shape, and the digest of the symbols that the other program makes of the two packets on made
-# rows (weight 3, seed 1), with pilots, scrambling number 15000 times the MODCOD and the MODCOD modulo 3 as roll-off.
+# MODCOD, options, groups and q of the shape, and the digest of the symbols that the other program makes of the two packets on made
+# rows (weight 3, seed 1). Pilots are on, the scrambling number is 15000 times the MODCOD, and the roll-off is the MODCOD modulo 3.
 MODES = [
     (1, "", 45, 135, 0x35D059083614540A),
     (1, "--short", 9, 36, 0x147AA91A7D03A77A),

@@ -1,4 +1,4 @@
-"""Makes a recording with 4 samples per symbol, for the Python that knows GNU Radio: oversampled.py GRAPHS SYMBOLS RECORDING. It has a delay, a
+"""Makes a recording with 4 samples per symbol, for a Python with GNU Radio: oversampled.py GRAPHS SYMBOLS RECORDING. It has a delay, a
 frequency offset, a phase and noise, as recovery.py has them."""
 import sys
 

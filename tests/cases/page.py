@@ -1,4 +1,4 @@
-"""What docs/certificates.md says, beside what both programs print and what follows from the definitions."""
+"""Compares docs/certificates.md with the output of both programs and with the definitions."""
 import inspect
 import itertools
 import os
@@ -56,7 +56,7 @@ def commands(text):
 
 
 def by_commands(text, program, checker):
-    """Runs the commands of the page, in a folder where both programs have the names that it gives them."""
+    """Runs the commands of the page, in a folder in which both programs have the names of the page."""
     os.mkdir("examples")
     os.symlink(program, "s2")
     os.symlink(checker, "examples/check.py")
@@ -107,7 +107,7 @@ def by_moved(words, file):
 
 
 def by_bytes(text, first, moved):
-    """The table of bytes, and where the second certificate differs from the first."""
+    """The table of bytes, and the place at which the second certificate differs from the first."""
     rows = re.findall(r"^\| (\d+) \| ([0-9a-f ]+)(?:, repeated)? \|", text, re.M)
     parts = [(int(count), bytes.fromhex(part)) for count, part in rows]
     yield "its bytes", first, b"".join(part * (count // len(part)) for count, part in parts)
@@ -147,7 +147,7 @@ def by_sizes(text, program, checker):
 
 
 def by_text(words, top):
-    """Speeds, which stand in the page on figures, and how long the check is."""
+    """Speeds, which are also in bench/README.md, and the length of the check."""
     figures = " ".join(text_of(f"{top}/bench/README.md").split())
     for here, there in SPEEDS:
         yield here, (True, True), (here in words, there in figures)
@@ -156,7 +156,7 @@ def by_text(words, top):
 
 
 def comparisons(top, program, checker):
-    """All of it, in an empty folder: what is compared, what is wanted, and what came."""
+    """All comparisons, in an empty folder: their name, the expected value, and the actual one."""
     text = text_of(f"{top}/docs/certificates.md")
     words = " ".join(text.split())
     yield from by_commands(text, program, checker)

@@ -1,5 +1,5 @@
-"""The figures of a frame, computed once more from its symbols, its soft values and its decided word: docs/formats.md describes them, and EN 302 307-1
-the frame (5.3.3, 5.4, 5.5)."""
+"""The figures of a frame, computed independently from its symbols, its soft values and its decided word: docs/formats.md describes them, and
+EN 302 307-1 the frame (5.3.3, 5.4, 5.5)."""
 import functools
 from dataclasses import dataclass
 
@@ -46,7 +46,7 @@ def sequences():
 
 
 def quarter_turns(number, count):
-    """How far each symbol after a header is turned, in quarters."""
+    """The rotation of each symbol after a header, in quarters."""
     x, y = sequences()
     z = [x[(at + number) % len(x)] ^ y[at % len(y)] for start in (0, 131072) for at in range(start, start + count)]
     return [low + 2 * high for low, high in zip(z[:count], z[count:])]
@@ -71,7 +71,7 @@ class Frames:
         return [PSK[4 * one + 2 * two + three] for one, two, three in zip(*(columns[::-1] if self.mode.modcod == 12 else columns))]
 
     def sent(self, word):
-        """What was sent at each place of the frame, and whether it is known."""
+        """The sent point at each place of the frame, and whether it is known."""
         points, places = iter(self.points(word)), [(point, True) for point in self.header]
         for at, turn in enumerate(self.turns):
             known = self.mode.pilots and at % (BETWEEN * SLOT + PILOTS) >= BETWEEN * SLOT

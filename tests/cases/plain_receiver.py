@@ -1,5 +1,5 @@
-"""What a receiver makes of QPSK 1/4 in short frames behind noise, worked out once more from symbols, checks and members alone:
-soft values by a divisor, and min-sum, as docs/formats.md and docs/definitions.md tell them."""
+"""The results of a receiver for QPSK 1/4 in short frames with noise, computed independently from symbols, checks and members alone:
+soft values with a divisor, and min-sum, as docs/formats.md and docs/definitions.md describe them."""
 import struct
 
 from dummy import quarter_turns
@@ -53,7 +53,7 @@ def odd(checks, word):
 
 
 def repaired(checks, word):
-    """The word with each bit turned that is in two checks at least, all of them odd."""
+    """The word, with each bit inverted that is in at least two checks, all of them odd."""
     known, odds, alls = set(odd(checks, word)), [0] * len(word), [0] * len(word)
     for j, members in enumerate(checks):
         for i in members:
@@ -63,7 +63,7 @@ def repaired(checks, word):
 
 
 def messages(inputs, factor):
-    """To each member what the inputs of the others make: so many sixteenths of their least size, rounded up."""
+    """To each member the message from the inputs of the others: the factor in sixteenths of their least size, rounded up."""
     sent = []
     for own in range(len(inputs)):
         others = inputs[:own] + inputs[own + 1 :]
@@ -96,8 +96,8 @@ def decided(checks, noisy, divisor, rounds, factor=12, number=0):
 
 
 def broken(checks, sent, noisy, divisor, rounds, factor=12, number=0):
-    """The report of frames of which no step finds a codeword, where outer coding corrects all: how many of the first bits of
-    min-sum's last decision are not those sent."""
+    """The report of frames in which no step finds a codeword, and outer coding corrects all: the number of the first bits of
+    min-sum's last decision that differ from the sent ones."""
     lines = []
     for at, (clean, (_, words)) in enumerate(zip(payloads(sent, number), decided(checks, noisy, divisor, rounds, factor, number))):
         fixed = sum((value < 0) != bit for value, bit in list(zip(soft_values(clean, 1), words[-1]))[: GROUP * GROUPS])
@@ -107,7 +107,7 @@ def broken(checks, sent, noisy, divisor, rounds, factor=12, number=0):
 
 
 def weakened(symbols, size):
-    """The symbols with components of this size behind the headers, in the place of 700."""
+    """The symbols with components of this size, instead of 700, after the headers."""
     made = b""
     for at in range(0, len(symbols), 4 * FRAME):
         frame = symbols[at : at + 4 * FRAME]

@@ -1,5 +1,5 @@
 """The progress line, as docs/formats.md describes it. The numbers of each line must agree with each other and with the files. When the
-command has ended, and between the lines of a report, nothing of it may be left."""
+command has ended, and between the lines of a report, nothing of it may remain."""
 import re
 
 from cases.common import LINK, PACKET
@@ -19,7 +19,7 @@ WORDS = {
     "scan": "scan frames",
 }
 READS = {"mod": "many", "noise": "frames", "demod": "frames", "run": "many", "scan": "frames"}
-# Where many seeds are run, and how many.
+# A command with many seeds, and their number.
 SEEDED, RUNS = (f"run {LINK} --seeds 1..3 --level 0 made many out", 3)
 # Numbers that no line exceeds, besides those of bytes: of frames, and of packets in each run.
 FRAMES = PACKETS // 2 + 1
@@ -133,5 +133,5 @@ def is_possible(shown, length, size, runs=1):
 
 
 def most_readings(name, passing):
-    """The most readings of the clock for so many bytes."""
+    """The largest number of readings of the clock for a number of bytes."""
     return passing // PIECES[name] + 3

@@ -1,4 +1,4 @@
-"""The records of `demod`, `run` and `mod`: what is wanted is computed from the symbols sent, as docs/formats.md describes the files."""
+"""The records of `demod`, `run` and `mod`: the expected files are computed from the sent symbols, as docs/formats.md describes them."""
 import re
 
 from cases.common import ANY, LINK, NO, PACKET, TWO, WANTED, Case, fault, noted, refused_headers
@@ -19,7 +19,7 @@ def packed(bits):
 
 
 def scrambler():
-    """The sequence of the standard's baseband scrambler: 1 + x^14 + x^15, begun anew with each frame."""
+    """The sequence of the standard's baseband scrambler: 1 + x^14 + x^15, restarted with each frame."""
     register = [int(bit) for bit in "100101010000000"]
     while True:
         bit = register[13] ^ register[14]
@@ -61,7 +61,7 @@ def both(option, text, words, code, report, packets, errors="", **more):
 
 
 def alone(symbols, lost):
-    """The BBFRAMEs of frames without noise, each after so many lost ones."""
+    """The BBFRAMEs of frames without noise, each after a number of lost ones."""
     return b"".join(count * LOST + bbframe(word) for count, (_, word) in zip(lost, decided(symbols)))
 
 
@@ -91,7 +91,7 @@ def losses(two, dummy):
 
 
 def zeros(two):
-    """A frame that has lost its symbols behind its header: the word of zeros is decided, which is not delivered."""
+    """A frame that has lost the symbols after its header: the word of zeros is decided, which is not delivered."""
     n = 2 * (FRAME - 90)
     texts = {
         "--certificates": file_of((GROUP, GROUPS, Q), 1, [0] * n, [0] * n, [(0, 0)] * (GROUP * Q)),
@@ -150,7 +150,7 @@ def files(two):
         fault(f"demod {LINK} --values none/v --certificates none/c made in old", "cannot open none/c", reads=long),
     ]
     for option, text in texts.items():
-        # a record that cannot be written: nothing of its frame is told
+        # a record that cannot be written: nothing of its frame is reported
         cases += [fault(f"demod {LINK} {option} /dev/full made in out", "cannot write", reads=long, writes={"out": b""})]
         cases += [fault(f"{run} {option} /dev/full made packets out", "cannot write", writes={"out": b""})]
         # a record to standard output
@@ -213,7 +213,7 @@ def cases(two, dummy):
     return [*losses(two, dummy), *zeros(two), *uncertified(two), *files(two), *sending(two, dummy)]
 
 
-# What is received for the laws: words of `demod`, and what they say to `judge`.
+# The receptions for the laws: options of `demod`, and the same for `judge`.
 TUNINGS = [("", ""), ("--passes 96", "--passes 96"), ("--uncertified", "--uncertified"), ("--tuned", "--passes 96 --factor 14"), ("--factor 13", "--factor 13")]
 
 

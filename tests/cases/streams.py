@@ -1,4 +1,4 @@
-"""Outputs that stay whole, files that are used twice, and standard streams."""
+"""Outputs that stay unchanged, files that are used twice, and standard streams."""
 from cases.common import LINK, NO, PACKET, PAIR, STORED, STORED_MOVED, TOY, TWO, WANTED, Case, Rule, fault, size
 from cases.drawn import spoilt
 from cases.links import NONE, SAMPLES, SPOILT
@@ -12,7 +12,7 @@ def twice(words, name, **more):
     return fault(words, f"{name} is used twice", **more)
 
 
-# What existed is whole where the command ends before it begins to write, and is cut where it begins.
+# An existing file is unchanged if the command ends before it begins to write, and is cut when it begins.
 WHOLE = [
     fault(f"mod {LINK} toy packets old", TOO_FEW, WANTED),
     fault(f"{DEMOD} toy in old", TOO_FEW, WANTED, reads={"in": b""}),
@@ -120,7 +120,7 @@ def streams(two, rows):
         Case(f"judge {TOY} - stored", out="sole cost -45\n", given=b"0 4 8\n0 1 2\n"),
         Case("check - certificate", out="sole cost -45\n", given=b"0 4 8\n0 1 2\n"),
         *(Case(f"judge {TOY} --cert {name} toy stored", out=STORED_MOVED, errors="sole cost -45\n") for name in ("-", "/dev/stdout")),
-        # a fault stands behind the report
+        # a fault is after the report
         fault(f"mod {LINK} made in -", "packets: not a whole packet", reads={"in": b"\x47"}),
         fault(f"mod {LINK} toy packets -", TOO_FEW, WANTED),
         *(fault(words, "cannot write", to=to, **more) for to in ("/dev/full", "closed") for words, more in [
@@ -134,6 +134,6 @@ def streams(two, rows):
         Case(f"{RUN} made packets long", out=TWO, reads={"long": LONGER}, writes={"long": 2 * PACKET}),
         Case(f"judge {TOY} --cert long toy stored", out="sole cost -45\n", reads={"long": LONGER}, writes={"long": STORED_MOVED}),
         Case(f"judge {PAIR} --cert long pair odd", NO, "broken cost -5 check 0\n", reads={"long": LONGER}, writes={"long": b""}),
-        # what stands in standard output is not cut
+        # the existing contents of standard output are not cut
         Case(f"{NOISE} in -", reads={"in": SAMPLES, "long": LONG}, to="long", writes={"long": SPOILT + LONG[8:]}),
     ]

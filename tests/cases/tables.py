@@ -1,4 +1,4 @@
-"""`table`, and the note of rows that are not the standard's. Of the standard's rows there are none here: `bench/rows_sums --check`
+"""`table`, and the note on rows that are not the standard's. The standard's rows are not part of the repository: `bench/rows_sums --check`
 tries those that a user has."""
 from cases.common import ANY, LINK, NO, WANTED, Case, fault, first_line, misuse, option
 from cases.drawn import made_rows
@@ -9,7 +9,7 @@ RUN = "run --seed 1 --level 0"
 
 
 def noted(words, name, **more):
-    """A command that notes of rows that they are not the standard's, and tells nothing else on standard error."""
+    """A command with the note that rows are not the standard's, and nothing else on standard error."""
     return Case(words, out=ANY, errors=f"s2: note: these rows are not the standard's for {name}\n", noted=True, **more)
 
 
@@ -42,7 +42,7 @@ CASES = [
     misuse(f"table {LINK} --pilots made", "--pilots is not an option of table"),
     Case("table --help", out=first_line("Tells whether rows are the standard's")),
     Case("table --help", out=option("2  ", "other")),
-    # a note stands where no fault does, and in front of a report that goes to the errors
+    # a note is printed if there is no fault, and before a report on standard error
     noted(f"mod {LINK} made packets out", "QPSK 1/4, short", writes={"out": ANY}),
     noted("mod --modcod 4 normal packets out", "QPSK 1/2, normal", writes={"out": ANY}),
     noted(f"demod {LINK} made two out", "QPSK 1/4, short", writes={"out": ANY}),
@@ -57,7 +57,7 @@ CASES = [
     Case(f"{RUN} {LINK} --quiet made packets out", out=ANY, writes={"out": ANY}, noted=True),
     Case(f"table {LINK} --quiet made", NO, OTHER, noted=True),
 ]
-# What is one code, told twice: it has one table.
+# One code, given in two ways: it has one table.
 ALIKE = [
     tuple(Case(f"table --modcod {code} rows", NO, OTHER, reads={"rows": made_rows(360, 108, 72, 3, 1)}) for code in ("5", "8psk3/5")),
 ]

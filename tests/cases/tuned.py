@@ -6,7 +6,7 @@ from cases.modes import MODES
 
 LOCK, PASSES = 30, 96
 FACTORS, DIVISORS, ROUNDS = range(8, 17), (4096, 8192, 16384, 32768, 65536), (50, 100, 200)
-# Factor, divisor and rounds of MODCOD 1 to 17: normal frames, then short ones, of which there are none for 11 and 17.
+# Factor, divisor and rounds of MODCOD 1 to 17: normal frames, then short ones (none for 11 and 17).
 NORMAL = [
     (15, 16384, 200), (14, 16384, 200), (13, 16384, 100), (13, 8192, 100), (11, 32768, 50), (14, 8192, 100), (13, 8192, 100),
     (13, 8192, 100), (13, 8192, 100), (13, 8192, 100), (13, 8192, 100), (13, 4096, 100), (13, 4096, 100), (12, 4096, 100), (12, 4096, 100),
@@ -46,7 +46,7 @@ def words(best, passes=PASSES):
 
 
 def neighbours(best):
-    """Settings of which one is not the best, but the next."""
+    """Settings with one value that is not the best, but the next."""
     for place, values in enumerate((FACTORS, DIVISORS, ROUNDS)):
         at = values.index(best[place])
         for other in values[max(0, at - 1) : at + 2]:

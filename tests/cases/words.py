@@ -1,4 +1,4 @@
-"""The words of the command line, and the files that they name."""
+"""The arguments of the command line, and the files that they name."""
 import itertools
 
 from cases.common import ANY, DIVISORS, FAULT, LINK, NO, PACKET, PAIR, STORED, TOY, TWO, WANTED, Case, fault, first_line, misuse, noted, option, size
@@ -125,7 +125,7 @@ def no_ratio(text):
     return f"--esn0: {text} is not -10 to 40, with at most two digits after the point"
 
 
-# What is no Es/N0 that there is: beyond the range, by more than two decimals, and not written so.
+# Invalid Es/N0: out of range, with more than two decimals, and in another notation.
 RATIOS = ["-10.01", "40.01", "-11", "41", "655.36", "6.205", "6.", ".5", "6.2.1", "6,2", "1e1", "x", "+", "+-6", "6.-2", "6.+2", "99999999999"]
 # The options of demod and run that name a file for records, and what each file takes.
 RECORDS = {
@@ -135,14 +135,14 @@ RECORDS = {
     "--bbframes": "for the BBFRAMEs, as `join` reads them: zeros for a frame that is lost, and before one that follows a gap",
 }
 NOT_BOTH = "--uncertified cannot be used with --passes <P>"
-# What is no range of seeds.
+# Invalid ranges of seeds.
 RANGES = ["x", "1", "1..", "..2", "..", "2..1", "1.2", "1...2", "1..2..3", "1..=2", "-1..2", "1..-2", "0x1..2", f"1..{2**64}"]
 # The options of mod that name a file for records, and what each file takes.
 SENT = {
     "--codewords": "for the codeword of each frame, eight bits to a byte, the first one highest, as `demod --codewords` writes it",
     "--bbframes": "for the BBFRAME of each frame, not scrambled, as `join` reads it and `demod --bbframes` writes it",
 }
-# Words that no command has, and what is said of them.
+# Arguments that no command has, and the message.
 MISUSES = [
     ("send", "send is not a command"),
     ("help send", "send is not a command"),
@@ -279,7 +279,7 @@ NO_TEXTS = [
     ("\udcff", "\ufffd"),
     (f"scan {100 * 'long'}\udcff", f"{100 * 'long'}\ufffd"),
 ]
-# What is no divisor.
+# Invalid divisors.
 POSSIBLE = f"[possible values: {', '.join(map(str, DIVISORS))}]"
 NO_DIVISORS = ["4095", "0", "04096", "x", "131072"]
 # What may decide the exit of a reception, and what may not.
@@ -420,7 +420,7 @@ MARKED = {"made": made_rows(360, 9, 36, 3, 1), "toy": b"0 4 8\n0 1 2\n", "stored
 
 
 def marked(words, wanted, text, name):
-    """A command that reads a file of numbers behind a byte order mark."""
+    """A command that reads a file of numbers after a byte order mark."""
     after = "s2: note: marked: begins with a byte order mark: tail -c +4 removes it\n"
     return Case(words, FAULT, errors=f"{noted(wanted) if wanted else ''}s2: {text}\n{after}", reads={"marked": MARK + MARKED[name]})
 
@@ -538,7 +538,7 @@ CASES = [
     *(Case(f"{name} --help", out=option("--factor <F>", " [default: 12]")) for name in DECIDING),
     *(Case(f"{name} --help", out=option("--lock <H>", "12 to 40; elsewhere 12 may [default: 12]")) for name in STRICT),
     *(fault(words, f"cannot open {name}") for words, name in MISSING),
-    # the cause stands before it, also with --quiet
+    # the cause is before it, also with --quiet
     fault("mod --modcod 1 --quiet none packets old", "cannot open none"),
     fault("mod --modcod 1 made packets old/out", "cannot open old/out", cause="Not a directory", reads={"old": b"old"}),
     fault("scan old/out", "cannot open old/out", cause="Not a directory", reads={"old": b"old"}),

@@ -1,4 +1,4 @@
-"""Frames with wrong symbols: headers with many wrong bits right after a frame and elsewhere, under `--lock`; a frame without its payload between
+"""Frames with wrong symbols: headers with many wrong bits directly after a frame and elsewhere, under `--lock`; a frame without its payload between
 others; and wrong payload symbols that are repaired."""
 from cases import plain_checker
 from cases.common import ANY, LINK, NO, ONE, PACKET, TWO, Case
@@ -24,14 +24,14 @@ OUTER = ONE + f"frame 2 at {2 * FRAME} sole fixed 0\n" + END.format(2, 1)
 
 
 def negated(symbols, first, count):
-    """The symbols with so many negated, from a place on: in a header, each is a wrong bit."""
+    """The symbols with a number of them negated, from a place on: in a header, each is a wrong bit."""
     at, end = SYMBOL * first, SYMBOL * (first + count)
     samples = [int.from_bytes(symbols[it : it + 2], "big", signed=True) for it in range(at, end, 2)]
     return symbols[:at] + b"".join((-it).to_bytes(2, "big", signed=True) for it in samples) + symbols[end:]
 
 
 def with_headers(symbols, wrong, places):
-    """The symbols with so many wrong bits in the headers at these places."""
+    """The symbols with a number of wrong bits in the headers at these places."""
     for count, place in zip(wrong, places):
         symbols = negated(symbols, place, count)
     return symbols
@@ -42,8 +42,8 @@ def locked(symbols, lock, report, packets):
 
 
 def locks(three, among):
-    """Three frames of four packets, and two frames with a dummy frame after each. Right after a frame a header may have as many wrong bits as
-    `--lock` says. Elsewhere, also after a frame that was missed, it may have 12."""
+    """Three frames of four packets, and two frames with a dummy frame after each. Directly after a frame a header may have the number of wrong
+    bits that `--lock` gives. Elsewhere, also after a frame that was missed, it may have 12."""
     places, first = [FRAME * at for at in range(3)], FOUR[:188]
     cases = [
         ((12, 12, 12), 12, ALL_THREE, FOUR),
@@ -81,7 +81,7 @@ def are_scattered(checks_at, wrong):
 
 
 def scattered_symbols(count):
-    """The first payload symbols of QPSK, so many, whose bits may all be wrong."""
+    """The first payload symbols of QPSK, this number of them, whose bits may all be wrong."""
     rows = [list(map(int, line.split())) for line in HALF_ROWS.splitlines()]
     checks_at = [set() for _ in range(16_200)]
     for check, members in enumerate(plain_checker.members_of(SHAPE, rows)):
@@ -96,7 +96,7 @@ def scattered_symbols(count):
 
 
 def repaired(frame):
-    """A frame of a packet of zeros, of which one or three payload symbols are negated."""
+    """A frame of a packet of zeros, with one or three payload symbols negated."""
     found, cases = scattered_symbols(3), []
     for count in (1, 3):
         symbols = frame
