@@ -4,14 +4,15 @@
     panel.line("mean", [(x, y), ..], colour=0)                       a line; also dashes=picture.DOTTED, marker="circle"
     panel.points("sole", [(x, y), ..], colour=1, marker="circle")    markers alone; hollow=True draws their outlines
     panel.band("least, mean, greatest", [(x, least, mean, greatest), ..], colour=2)
-    panel.rule("ideal", x, colour=0)                                 a vertical dashed line
+    panel.rule("ideal", x, colour=0)                                 a vertical dashed line; name="1/4" is written above it
     panel.text(x, y, "text", colour=0)
     picture.write("link.svg", [panel, ..], "the picture's title", columns=2)
 
 The name's suffix decides: .svg or .png. An SVG follows the reader's light or dark colours; a PNG is light, or dark with dark=True.
 Each label has one entry in the legend of its panel, also without values. Without a label there is no entry. A value of None leaves a hole
-in a line. Colours are 0 to 6: they differ in brightness too, and markers (MARKERS) differ in shape, for readers who do not see all colours.
-An axis finds its own range; low and high fix its ends, log makes it logarithmic, and `form` makes the text of a tick's value.
+in a line. Colours are 0 to 6; they differ in brightness too. Markers (MARKERS) differ in shape, so that no difference is one of colour alone.
+An axis finds its own range; low and high fix its ends, log makes it logarithmic, and `form` makes the text of a tick's value. A value
+beyond an end is drawn at that end. Svg and Png draw single shapes, for pictures that are no plots.
 
 A script that runs with `python3 -I` adds the folder of this file to sys.path first."""
 import collections
@@ -27,6 +28,8 @@ COLOURS = {
     "ink": ("#1f2328", "#e6edf3"),
     "faint": ("#59636e", "#9198a1"),
     "grid": ("#d8dee4", "#30363d"),
+    "blue": ("#d6e6f5", "#16324f"),
+    "grey": ("#eceff2", "#262c36"),
     0: ("#0969b0", "#58a6ff"),
     1: ("#c44e00", "#ff9248"),
     2: ("#007a5c", "#33c99f"),
@@ -38,7 +41,8 @@ COLOURS = {
 DOTTED, DASHED = (1.5, 3.5), (7, 4)
 # The corners of each marker, around 0 with a radius of about 1.
 CIRCLE = [(math.cos(math.tau * at / 16), math.sin(math.tau * at / 16)) for at in range(16)]
-CROSS = [(0, -0.4), (0.7, -1.1), (1.1, -0.7), (0.4, 0), (1.1, 0.7), (0.7, 1.1), (0, 0.4), (-0.7, 1.1), (-1.1, 0.7), (-0.4, 0), (-1.1, -0.7), (-0.7, -1.1)]
+CROSS = [(0, -0.4), (0.7, -1.1), (1.1, -0.7), (0.4, 0), (1.1, 0.7), (0.7, 1.1), (0, 0.4)]
+CROSS += [(-0.7, 1.1), (-1.1, 0.7), (-0.4, 0), (-1.1, -0.7), (-0.7, -1.1)]
 MARKERS = {
     "circle": CIRCLE,
     "square": [(-0.9, -0.9), (0.9, -0.9), (0.9, 0.9), (-0.9, 0.9)],
@@ -66,7 +70,7 @@ def letters_of(text):
     """The dots of a text, as columns: each character has five and one empty column."""
     for character in text:
         at = 5 * (ord(character) - 32)
-        yield from LETTERS[at : at + 5] if 0 <= at < len(LETTERS) else LETTERS[155 : 160]
+        yield from LETTERS[at : at + 5] if 0 <= at < len(LETTERS) else LETTERS[155:160]
         yield 0
 
 
@@ -86,14 +90,14 @@ class Svg:
         return name
 
     def rectangle(self, place, size, colour, border=None, corner=0):
-        edge = f' stroke-width="1" class="f{self.colour(colour)} s{self.colour(border)}"' if border is not None else f' class="f{self.colour(colour)}"'
+        names = f"f{self.colour(colour)}" + (f" s{self.colour(border)}" if border is not None else "")
         x, y, width, height = map(near, (*place, *size))
-        self.parts.append(f'<rect x="{x}" y="{y}" width="{width}" height="{height}"{f" rx={chr(34)}{corner}{chr(34)}" * bool(corner)}{edge}/>')
+        self.parts.append(f'<rect x="{x}" y="{y}" width="{width}" height="{height}" rx="{corner}" class="{names}"/>')
 
     def path(self, places, colour, width=1.5, dashes=None, closed=False):
         style = f' stroke-dasharray="{" ".join(map(near, dashes))}"' if dashes else ""
-        points = " ".join(f"{near(x)},{near(y)}" for x, y in places)
-        self.parts.append(f'<path d="M{points}{"Z" * closed}" fill="none" stroke-width="{width:g}" stroke-linejoin="round"{style} class="s{self.colour(colour)}"/>')
+        points = " ".join(f"{near(x)},{near(y)}" for x, y in places) + "Z" * closed
+        self.parts.append(f'<path d="M{points}" fill="none" stroke-width="{width:g}"{style} class="s{self.colour(colour)}"/>')
 
     def shape(self, corners, colour, opacity=1):
         style = f' fill-opacity="{opacity:g}"' if opacity < 1 else ""
@@ -115,13 +119,14 @@ class Svg:
         self.parts.append(f'<text x="{near(place[0])}" y="{near(place[1])}"{style} class="f{self.colour(colour)}">{html.escape(text)}</text>')
 
     def styles(self, dark):
-        """The colours of what was drawn, as a style sheet."""
+        """The style sheet, with the colours that the drawing has."""
         names = [name for name in COLOURS if name in self.used]
         return "".join(f".f{name}{{fill:{COLOURS[name][dark]}}}.s{name}{{stroke:{COLOURS[name][dark]}}}" for name in names)
 
     def written(self):
         width, height = map(near, self.size)
-        head = f'<svg xmlns="http://www.w3.org/2000/svg" width="{width}" height="{height}" viewBox="0 0 {width} {height}" font-family="sans-serif" font-size="{SIZE}">'
+        head = f'<svg xmlns="http://www.w3.org/2000/svg" width="{width}" height="{height}" viewBox="0 0 {width} {height}"'
+        head += f' font-family="sans-serif" font-size="{SIZE}" stroke-linejoin="round">'
         style = f"<style>{self.styles(0)}@media(prefers-color-scheme:dark){{{self.styles(1)}}}</style>"
         lines = [head, f"<title>{html.escape(self.label)}</title>", style, '<rect width="100%" height="100%" class="fpaper"/>', *self.parts, "</svg>\n"]
         return "\n".join(lines).encode()
@@ -235,9 +240,10 @@ class Axis:
         low = self.low if self.low is not None else min(values, default=0.1 if self.log else 0)
         high = self.high if self.high is not None else max(values, default=1)
         if self.log:
-            return [10.0**power for power in range(math.floor(math.log10(low) + 1e-9), math.ceil(math.log10(high) - 1e-9) + 1)]
+            powers = range(math.floor(math.log10(low) + 1e-9), math.ceil(math.log10(high) - 1e-9) + 1)
+            return [10.0**power for power in powers]
         span = high - low or 1
-        step = min((it for it in (10.0**power * by for power in range(-12, 15) for by in (1, 2, 5)) if span / it <= 8))
+        step = min(it for it in (10.0**power * by for power in range(-12, 15) for by in (1, 2, 5)) if span / it <= 8)
         return [round(step * at, 12) for at in range(math.floor(low / step + 1e-9), math.ceil(high / step - 1e-9) + 1)]
 
     def ends(self, values):
@@ -245,7 +251,7 @@ class Axis:
         return ticks[0] if self.low is None else self.low, ticks[-1] if self.high is None else self.high
 
     def placed(self, ends, value):
-        """Where a value is on the axis, from 0 to 1."""
+        """The place of a value on the axis, from 0 to 1."""
         low, high, value = (math.log10(it) for it in (*ends, value)) if self.log else (*ends, value)
         return (value - low) / ((high - low) or 1)
 
@@ -253,7 +259,7 @@ class Axis:
 class Panel:
     """A plot with its axes and its legend. The size is that of the part between the axes."""
 
-    LEFT, ABOVE, BELOW, ROW = 52, 40, 42, 18
+    LEFT, ABOVE, BELOW, ROW = 52, 56, 42, 18
 
     def __init__(self, title, across, up, width=700, height=240):
         self.title, self.across, self.up, self.width, self.height = title, across, up, width, height
@@ -273,8 +279,8 @@ class Panel:
     def band(self, label, values, colour=0):
         self.add("band", label, values, {"colour": colour})
 
-    def rule(self, label, x, colour=0):
-        self.add("rule", label, [] if x is None else [(x,)], {"colour": colour})
+    def rule(self, label, x, colour=0, name=""):
+        self.add("rule", label, [] if x is None else [(x,)], {"colour": colour, "name": name})
 
     def text(self, x, y, text, colour="ink", anchor="middle"):
         self.drawn.append(("text", [(x, y)], {"colour": colour, "text": text, "anchor": anchor}))
@@ -294,7 +300,7 @@ class Panel:
         return self.LEFT + self.width + MARGIN, self.ABOVE + self.height + self.BELOW + self.ROW * len(self.entries())
 
     def place(self, x, y):
-        """Where a value is drawn. Those beyond an end of the axis are drawn at that end."""
+        """The place of a value on the canvas."""
         right = min(1, max(0, self.across.placed(self.limits[0], x)))
         up = min(1, max(0, self.up.placed(self.limits[1], y)))
         return self.left + right * self.width, self.top + (1 - up) * self.height
@@ -324,7 +330,7 @@ class Panel:
                 canvas.path([(self.left, y), (right, y)], "grid", 1)
                 canvas.text((self.left - 6, y + 4), self.up.form(value), "faint", anchor="end")
         canvas.path([(self.left, self.top), (self.left, below), (right, below)], "faint", 1)
-        canvas.text((self.left, self.top - 8), self.up.name)
+        canvas.text((self.left - self.LEFT, self.top - 22), self.up.name)
         canvas.text((self.left + self.width / 2, below + 34), self.across.name, anchor="middle")
 
     def draw_line(self, canvas, values, colour, dashes, marker, hollow):
@@ -344,9 +350,11 @@ class Panel:
             canvas.shape([self.place(it[0], it[1]) for it in values] + [self.place(it[0], it[-1]) for it in reversed(values)], colour, 0.25)
             self.draw_line(canvas, [(it[0], it[2]) for it in values if len(it) > 3], colour, None, None, False)
 
-    def draw_rule(self, canvas, values, colour):
+    def draw_rule(self, canvas, values, colour, name):
         for (x,) in values:
-            canvas.path([self.place(x, end) for end in self.limits[1]], colour, 1, DASHED)
+            ends = [self.place(x, end) for end in self.limits[1]]
+            canvas.path(ends, colour, 1, DASHED)
+            canvas.text((ends[1][0], ends[1][1] - 5), name, colour, anchor="middle", bold=True)
 
     def draw_text(self, canvas, values, colour, text, anchor):
         x, y = self.place(*values[0])
@@ -380,7 +388,7 @@ def laid_out(panels, columns):
 
 
 def write(path, panels, title, columns=1, dark=False):
-    """Draws panels, in rows of so many columns, to a file whose name ends with .svg or .png."""
+    """Draws panels, in this number of columns, to a file whose name ends with .svg or .png."""
     kind = {".svg": Svg, ".png": Png}.get(path[-4:].lower())
     if not kind:
         raise ValueError(f"{path}: a picture's name ends with .svg or .png")
