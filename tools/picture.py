@@ -36,7 +36,7 @@ COLOURS = {
     3: ("#a1307f", "#ec9ecb"),
     4: ("#7d5c00", "#e3c04b"),
     5: ("#24292f", "#f0f3f6"),
-    6: ("#3aa3dc", "#a5d8ff"),
+    6: ("#7a45d6", "#bc9cff"),
 }
 DOTTED, DASHED = (1.5, 3.5), (7, 4)
 # The corners of each marker, around 0 with a radius of about 1.
