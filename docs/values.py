@@ -62,14 +62,15 @@ def minimal_polynomials(definition, known):
 
 
 def generators(definition, known):
-    """The products of the first t minimal polynomials, for each t of a mode."""
-    factors = numbers(known(definition.name.replace("generator", "minimal")))
-    wanted, rows, product = (8, 10, 12) if definition.name == "generator_16" else (12,), [], 1
-    for t, factor in enumerate(factors, 1):
-        product = times(product, factor)
-        if t in wanted:
-            rows.append([t, len(exponents(product)), " ".join(map(str, exponents(product)))])
-    return table(["t", "Terms", "Exponents of g(x)"], *rows)
+    """The generators: the products of the first t minimal polynomials, for each t of a mode."""
+    rows = []
+    for frames, name, wanted in (("normal", "minimal_16", (8, 10, 12)), ("short", "minimal_14", (12,))):
+        product = 1
+        for t, factor in enumerate(numbers(known(name)), 1):
+            product = times(product, factor)
+            if t in wanted:
+                rows.append([frames, t, len(exponents(product)), " ".join(map(str, exponents(product)))])
+    return table(["Frames", "t", "Terms", "Exponents of g(x)"], *rows)
 
 
 def code_rows(definition, known):
@@ -101,8 +102,7 @@ PRINTERS = {
     ("s2_map", "Mapping", "psk_points"): points,
     ("s2_bch", "Generators", "minimal_16"): minimal_polynomials,
     ("s2_bch", "Generators", "minimal_14"): minimal_polynomials,
-    ("s2_bch", "Generators", "generator_16"): generators,
-    ("s2_bch", "Generators", "generator_14"): generators,
+    ("s2_bch", "Generators", "generator_of"): generators,
     ("s2_plframe", "Header", "generator"): code_rows,
     ("s2_mode", "Table", "rates"): code_rates,
     ("s2_mode", "Table", "modcods"): modcods,
