@@ -5,23 +5,23 @@ from cases.common import ANY, DIVISORS, FAULT, LINK, NO, PACKET, PAIR, STORED, T
 from cases.drawn import made_rows
 
 HELP = """A DVB-S2 modem with maximum-likelihood certificates. \
-Without a command it judges the 20 soft values of standard input under a toy code
+Without a command it decides on 20 soft values of a toy code, read from standard input
 
 Usage: s2 [COMMAND]
 
 Commands:
+  demod  Demodulates symbols into a transport stream
+  scan   Finds the modes in a recording, and how to receive it
+  mod    Modulates a transport stream into symbols
+  run    Sends a transport stream through a noisy channel and receives it
+  noise  Adds noise generated from a seed to symbols
   modes  Lists the modes
-  rows   Prints a row file that a seed determines
-  table  Tells whether rows are the standard's
-  judge  Decides on soft values
-  check  Checks a certificate that its word is most likely
-  mod    Makes the symbols of packets
-  noise  Adds noise that a seed determines to symbols
-  demod  Receives the packets of symbols
-  run    Sends packets, adds noise, and receives them
-  scan   Tells which modes a recording has, and how to receive it
-  join   Joins the packets of BBFRAMEs
-  audit  Checks a report by the certificates of its frames, without decoding
+  rows   Prints a row file generated from a seed
+  table  Checks whether a row file is the standard's table
+  judge  Decodes soft values
+  check  Verifies a certificate
+  audit  Checks a report against its certificates, without decoding
+  join   Reassembles packets from BBFRAMEs
   help   Print this message or the help of the given subcommand(s)
 
 Options:
@@ -29,14 +29,14 @@ Options:
   -V, --version  Print version
 
 Files:
-  -    standard input where it is read, standard output where it is written: a report then stands on standard error
+  -    standard input for a file that is read, standard output for one that is written: the report then goes to standard error
 
-Exits:
-  0  all went well
-  1  a usage fault, or a fault that standard error tells
-  2  the answer is no, or something was lost: each command's help tells what
+Exit status:
+  0  success
+  1  a usage error, or an error reported on standard error
+  2  the answer is no, or data was lost: see the command's help
 """
-CHECK_HELP = """Checks a certificate that its word is most likely
+CHECK_HELP = """Verifies a certificate
 
 Usage: s2 check [OPTIONS] <ROWS> <CERT>
 
@@ -45,60 +45,60 @@ Arguments:
   <CERT>  Certificate file
 
 Options:
-      --each   Certificates of any number of frames, one after the other: a line of the report for each
+      --each   Read any number of certificates, one after another: a line of the report per certificate
       --quiet  No notes on standard error
   -h, --help   Print help
 
-The report, a line for each certificate:
-  sole cost C           accepted: the word costs C, every other codeword costs more
-  yes cost C            accepted: the word costs C, no codeword costs less
-  no shape              the certificate is of other rows: give those that it was made by
-  no check J            the word is no codeword: check J, from 0 on, does not hold
-  no bound              the certificate proves less than the word's cost: make it anew
+The report, a line per certificate:
+  sole cost C           accepted: the word costs C, and every other codeword costs more
+  yes cost C            accepted: the word costs C, and no codeword costs less
+  no shape              the certificate belongs to other rows: pass the ones it was made with
+  no check J            the word is not a codeword: check J, counted from 0, fails
+  no bound              the bound that the certificate proves is below the word's cost: it proves nothing
 
-Exits:
+Exit status:
   0  sole or yes: the certificate is accepted
-  1  a usage fault, or a fault that standard error tells
-  2  no: it is not accepted; with --each one of them is not
+  1  a usage error, or an error reported on standard error
+  2  no: it is not accepted; with --each, at least one is not accepted
 
 Example:
   s2 check rows certificate
   s2 check --each rows certificates
 """
-SCAN_HELP = """Tells which modes a recording has, and how to receive it
+SCAN_HELP = """Finds the modes in a recording, and how to receive it
 
 Usage: s2 scan [OPTIONS] <SYMBOLS>
 
 Arguments:
-  <SYMBOLS>  Recording, four bytes a symbol: I and Q, signed, in either byte order
+  <SYMBOLS>  Recording, four bytes per symbol: I and Q, signed 16 bits each, in either byte order
 
 Options:
-      --first <N>  Symbols that are looked at, 1 to 4294967295; without it all
-      --quiet      No notes on standard error, and no progress but by --progress
-      --progress   Progress on standard error, also where that is no terminal: a line that is rewritten once a second
+      --first <N>  Examine only the first N symbols, 1 to 4294967295; by default all
+      --quiet      No notes on standard error, and no progress without --progress
+      --progress   Show progress on standard error even if it is not a terminal: a line that is rewritten once a second
   -h, --help       Print help
 
-The report, a line for each mode, the likeliest first:
-  MODE LENGTH PILOTS         the mode, as qpsk3/4; normal or short; pilots or no-pilots
-  seen N first S             headers that were found, and the symbol of the first, from 0 on
-  every D                    the usual distance from one to the next
-  turn K conjugate yes|no    the symbols were multiplied by the K-th power of i, and then conjugated, or not
+The report, a line per mode, the most probable first:
+  MODE LENGTH PILOTS         the mode, for example qpsk3/4; normal or short; pilots or no-pilots
+  seen N first S             number of headers found, and the symbol of the first, counted from 0
+  every D                    the most frequent distance between two headers, in symbols
+  turn K conjugate yes|no    rotation: the symbols were multiplied by i to the power of K, then conjugated if yes
   bytes big|little           the byte order
-  amplitude A                of the N headers, without their noise; `mod` sends 990
+  amplitude A                of the N headers, without noise; `mod` sends 990
 
 The line before the last:
-  number N                          the scrambling number, by the pilots of the likeliest frames that have some
-  number not looked for: no pilots  the command of the last line takes 0: try others with --number
+  number N                          the scrambling number, found from the pilots of the most probable mode that has pilots
+  number not looked for: no pilots  the command of the last line assumes 0: try others with --number
 
 The last line:
-  tools/convert .. | ./s2 demod ..    receives the first mode of the list that `demod` takes; rows is the mode's row file
-  ./s2 demod ..                       the same, where nothing is to be converted: an amplitude of 833 to 1177 needs no gain
-  s2 demod receives none of these     16APSK, 32APSK or dummy frames alone
-  nothing found                       no header came twice at its frame's distance: try a longer recording
+  tools/convert .. | ./s2 demod ..    a command that receives the first mode in the list that `demod` supports; rows is that mode's row file
+  ./s2 demod ..                       the same without conversion; amplitudes of 833 to 1177 need no gain
+  s2 demod receives none of these     only 16APSK, 32APSK or dummy frames were found
+  nothing found                       no header is repeated one frame later: try a longer recording
 
-Exits:
-  0  some header came twice at its frame's distance
-  1  a usage fault, or a fault that standard error tells
+Exit status:
+  0  a header is repeated one frame later
+  1  a usage error, or an error reported on standard error
   2  nothing found
 
 Example:
@@ -286,16 +286,16 @@ NO_DIVISORS = ["4095", "0", "04096", "x", "131072"]
 BYS = "[possible values: certainty, delivery]"
 NO_BYS = ["deliver", "Delivery", "0", "certainty,delivery"]
 ABOUTS = {
+    "demod": "Demodulates symbols into a transport stream",
+    "mod": "Modulates a transport stream into symbols",
+    "run": "Sends a transport stream through a noisy channel and receives it",
+    "noise": "Adds noise generated from a seed to symbols",
     "modes": "Lists the modes",
-    "rows": "Prints a row file that a seed determines",
-    "table": "Tells whether rows are the standard's",
-    "judge": "Decides on soft values",
-    "mod": "Makes the symbols of packets",
-    "noise": "Adds noise that a seed determines to symbols",
-    "demod": "Receives the packets of symbols",
-    "run": "Sends packets, adds noise, and receives them",
-    "join": "Joins the packets of BBFRAMEs",
-    "audit": "Checks a report by the certificates of its frames, without decoding",
+    "rows": "Prints a row file generated from a seed",
+    "table": "Checks whether a row file is the standard's table",
+    "judge": "Decodes soft values",
+    "audit": "Checks a report against its certificates, without decoding",
+    "join": "Reassembles packets from BBFRAMEs",
 }
 RECEIVING = ("demod --modcod 1", RUN)
 ENDS = {
