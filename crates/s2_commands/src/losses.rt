@@ -78,7 +78,7 @@ fn skipped_note(totals: Totals) -> Line
 {
     let mut line = Line::new();
     push_counted(&mut line, "s2: note: ", totals.skipped, " symbol");
-    push_counted(&mut line, " passed over in ", totals.places, " place");
+    push_counted(&mut line, " skipped in ", totals.places, " place");
     line.push_number(", the first at ", totals.first);
     line.push("\n");
     line
@@ -91,7 +91,7 @@ fn incomplete_note(totals: Totals) -> Line
 {
     let mut line = Line::new();
     push_counted(&mut line, "s2: note: ", totals.incomplete, " packet");
-    line.push(" torn\n");
+    line.push(" incomplete\n");
     line
 }
 
