@@ -1,4 +1,4 @@
-//! Usage errors. Each is one line: what is wrong, the accepted values, and the command that prints the help.
+//! Usage errors. Each is one line with the mistake, the accepted values, and the command that prints the help.
 use crate::arguments::Form;
 use crate::decibels::read_esn0;
 use crate::misuse::{Misuse, misuse_of};

@@ -75,8 +75,8 @@ pub enum CodeWords {
     Mode { modcod: u8, short: bool },
 }
 
-/// `judge`: a code, whether there are several frames, whether the values are hard bits, whether notes are suppressed, the
-/// passes and the factor, whether there is no search for certificates after min-sum, and the files.
+/// `judge`: a code, whether there are several frames, whether the values are hard bits, whether notes are suppressed,
+/// the passes and the factor, whether there is no search for certificates after min-sum, and the files.
 #[derive(Clone, Copy)]
 pub struct JudgeWords<'a> {
     pub code: CodeWords,
@@ -151,8 +151,8 @@ pub enum ExitBy {
     Delivery,
 }
 
-/// The notes and the exit status of a reception: what the status depends on, whether it also depends on losses, whether
-/// the best settings are in use (then no note proposes them), and whether notes are suppressed.
+/// The notes and the exit status of a reception: what the status depends on, and whether it also depends on losses. If
+/// the best settings are in use already, no note proposes them. Notes can be suppressed.
 #[derive(Clone, Copy)]
 pub struct NoteWords {
     pub exit_by: ExitBy,
@@ -184,8 +184,8 @@ impl<'a> RecordWords<'a> {
     }
 }
 
-/// `demod`: a link, the tuning, the notes, N if every N-th frame has a line (0: each frame has one), whether progress is
-/// shown, the records, and the files.
+/// `demod`: a link, the tuning, the notes, N if every N-th frame has a line (0: each frame has one), whether progress
+/// is shown, the records, and the files.
 #[derive(Clone, Copy)]
 pub struct DemodWords<'a> {
     pub link: LinkWords,
@@ -199,9 +199,9 @@ pub struct DemodWords<'a> {
     pub packets: &'a str,
 }
 
-/// `run`: a link, the number of frames between dummy frames (0 for none), the tuning, a channel, and the range of seeds if
-/// there are several runs (the channel then has the first of them). Also the notes, N if every N-th frame has a line (0:
-/// each frame has one), whether progress is shown, the records, and the files.
+/// `run`: a link, the number of frames between dummy frames (0 for none), the tuning, a channel, and the range of seeds
+/// if there are several runs (the channel then has the first of them). Also the notes, N if every N-th frame has a line
+/// (0: each frame has one), whether progress is shown, the records, and the files.
 #[derive(Clone, Copy)]
 pub struct RunWords<'a> {
     pub link: LinkWords,

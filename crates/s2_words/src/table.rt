@@ -27,7 +27,8 @@ pub(crate) enum Name {
     Audit,
 }
 
-/// A command, its name and its first line of help. Its options and the rest of its help are separate, so that no proof contains all texts.
+/// A command, its name and its first line of help. Its options and the rest of its help are separate, so that no proof
+/// contains all texts.
 #[derive(Clone, Copy)]
 pub(crate) struct Entry {
     pub command: Name,
