@@ -65,7 +65,7 @@ incomplete_note t = (codes "s2: note: " ++ counted t.incomplete (codes " packet"
 abbrev pub note_if : Bool → List ℕ → List ℕ
 note_if so note = if so then note else []
 
--- the notes of what was lost of a stream
+-- the notes on the losses of a stream
 abbrev pub loss_notes : Mode → Received → List ℕ
 loss_notes m r = note_if (not (nat_eq r.totals.skipped 0)) (skipped_note r.totals) ++ note_if (no_sync r) (no_sync_note m r.symbols) ++ note_if (not (nat_eq r.totals.incomplete 0)) (incomplete_note r.totals)
 

@@ -161,7 +161,7 @@ fn write_incomplete<W: CountedWrite>(totals: Totals, out: &mut W) -> Result<(), 
     write_full(out, incomplete_note(totals).as_bytes())
 }
 
-/// Writes the notes of what was lost of a stream.
+/// Writes the notes on the losses of a stream.
 #[tactic(auto, using(crate::proofs::NoteLemmas::both_empty))]
 fn write_loss_notes<W: CountedWrite>(
     mode: &Mode,
