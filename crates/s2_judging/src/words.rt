@@ -141,7 +141,7 @@ impl Word {
     }
 }
 
-/// Where a text goes on.
+/// How a text continues.
 #[derive(Clone, Copy)]
 pub(crate) enum Place {
     /// Before the first word of a line.
