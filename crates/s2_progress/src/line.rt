@@ -1,4 +1,4 @@
-//! The words of a line.
+//! The text of a line.
 ghost use Rattle.std.specs.Prelude.{◌≡◌, ◌+◌, ◌≤◌, ◌++◌, length, decimal};
 ghost use Rattle.s2_console.specs.Lines.{line_room};
 
@@ -82,7 +82,8 @@ fn fits(numbers: Numbers) -> bool {
     line_of(numbers).as_bytes().len() <= COLUMNS
 }
 
-/// The numbers that are shown: without frames if the line is too long, and also without packets if it is still too long.
+/// The numbers that are shown: without frames if the line is too long, and also without packets if it is still too
+/// long.
 fn fitted(numbers: Numbers) -> Numbers {
     let few = Numbers {
         frames: None,
