@@ -1,4 +1,4 @@
--- The note of rows that are refused (own).
+-- The note on refused rows (own).
 use Rattle.std.specs.Prelude.{◌≡◌, ℕ, Bool, if◌then◌else◌, Option, List, [], ◌++◌, codes, decimal, Result, Ok, Err}
 use Rattle.s2_mode.specs.Mode.{Mode, shape_in}
 use Rattle.s2_mode.specs.Shape.{Shape, check_count}

@@ -34,7 +34,7 @@ fn write_wanted<W: CountedWrite>(mode: &Mode, out: &mut W) -> Result<(), WriteFa
     write_note(out, "s2: note: ", mode, ending.as_bytes())
 }
 
-/// Writes the note of a fault, unless notes are left out. One that cannot be written is lost.
+/// Writes the note of a fault, unless notes are suppressed. One that cannot be written is lost.
 fn note_fault<W: CountedWrite>(quiet: bool, mode: &Mode, fault: &Fault<'_>, out: &mut W)
     requires { CanCount (W.count out.old) }
     ensures bytes { W.count out.new ≡ W.count out.old → Appends (W.contents out.old) (W.contents out.new) (if quiet then [] else fault_note mode.now fault.now) }
@@ -49,7 +49,7 @@ fn note_fault<W: CountedWrite>(quiet: bool, mode: &Mode, fault: &Fault<'_>, out:
     }
 }
 
-/// Reports a fault, and before it the note on refused rows, unless notes are left out.
+/// Reports a fault, and before it the note on refused rows, unless notes are suppressed.
 pub fn report_noted<O: CountedWrite, E: CountedWrite>(
     quiet: bool,
     mode: &Mode,
