@@ -497,10 +497,7 @@ pub(crate) const SYMBOLS: Argument = file!(
 
 pub(crate) const PACKETS_MADE: Argument = file!("PACKETS", "Output file for the packets");
 
-pub(crate) const PACKETS_RECEIVED: Argument = file!(
-    "OUT",
-    "Output file for the received packets"
-);
+pub(crate) const PACKETS_RECEIVED: Argument = file!("OUT", "Output file for the received packets");
 
 pub(crate) const RECORDING: Argument = file!(
     "SYMBOLS",
