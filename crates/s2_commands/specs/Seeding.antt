@@ -1,4 +1,4 @@
--- `run --seeds`: sent symbols are received once for each seed of a range (own).
+-- `run --seeds`: sent symbols are received once per seed of a range (own).
 use Rattle.std.specs.Prelude.{◌≡◌, ◌⊎◌, ℕ, zero, suc, ◌+◌, ◌<◌, List, Option, Some, Result, Ok, Err}
 use Rattle.std.specs.Io.KnownBytes.{Appends}
 use Rattle.s2_mode.specs.Pieces.{AppendsPart}
