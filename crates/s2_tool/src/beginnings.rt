@@ -21,7 +21,7 @@ fn write_note<W: CountedWrite>(errors: &mut W, note: &[u8])
     let _ = write_full(errors, note);
 }
 
-/// Whether a file can be read once more by its name: a regular file can.
+/// Whether a file can be read again by its name: a regular file can.
 fn is_again<R: Disk>(rt: &R, name: &str) -> bool {
     match fs::metadata(rt, name) {
         Ok(metadata) => metadata.is_file() && !is_standard(Role::Input, name),

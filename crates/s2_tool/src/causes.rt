@@ -123,7 +123,7 @@ fn note<R: Disk + AllocGlobal>(rt: &R, terminal: &Terminal<'_, R>, name: &str, w
     }
 }
 
-/// Notes why a file cannot be opened, if the host still says so.
+/// Notes why a file cannot be opened, if the system still reports an error.
 pub(crate) fn note_cause<R: Disk + AllocGlobal>(
     rt: &R,
     terminal: &Terminal<'_, R>,
@@ -184,7 +184,7 @@ fn has_mark<R: Disk>(rt: &R, name: &str) -> bool {
     file.read_exact(&mut start).is_ok() && start == [0xEF, 0xBB, 0xBF]
 }
 
-/// Whether this is a regular file, which can be read once more.
+/// Whether this is a regular file, which can be read again.
 fn is_kept<R: Disk>(rt: &R, name: &str) -> bool {
     match fs::metadata(rt, name) {
         Ok(metadata) => metadata.is_file() && !is_standard(Role::Input, name),

@@ -113,7 +113,7 @@ fn show_of<'t, 'r, R: Disk + Clock>(
     show
 }
 
-/// How often symbols are received: once, or once for each seed of a range.
+/// The number of receptions: one, or one per seed of a range.
 fn runs_of(seeds: Option<Seeds>) -> u64 {
     match seeds {
         Some(seeds) => seeds.last.saturating_sub(seeds.first).saturating_add(1),

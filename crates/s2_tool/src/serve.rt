@@ -43,7 +43,7 @@ pub(crate) enum Words {
     NoMemory,
 }
 
-/// The most bytes of an argument, with its NUL: Linux allows 32 pages of 4096 bytes.
+/// The maximum length of an argument in bytes, with its NUL: Linux allows 32 pages of 4096 bytes.
 const ARGUMENT_ROOM: usize = 131_072;
 
 /// The first argument that is not text. It is empty if there is none.
