@@ -27,7 +27,7 @@ use Rattle.s2_judging.specs.HardNotes.{is_bit, look_hard, exit_in, Concludes}
 use Rattle.s2_inputs.specs.Inputs.{rows_in}
 use Rattle.s2_judging.specs.Judging.{IsJudged}
 
--- the most frames of one run, 2^32 - 1
+-- the maximum number of frames of one run, 2^32 - 1
 abbrev pub max_frames : ℕ
 max_frames = 4294967295
 

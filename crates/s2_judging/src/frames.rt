@@ -14,7 +14,7 @@ use std::alloc::{AllocError, Global};
 /// The bytes of the buffer.
 const CHUNK: usize = 4096;
 
-/// The most bytes of a value file that is read frame by frame.
+/// The maximum length in bytes of a value file that is read frame by frame.
 const MAX_TEXT: u64 = 281_474_976_710_656;
 
 /// The state of reading a value file: the position in its text, the unread bytes of the buffer, and how many more
