@@ -111,7 +111,7 @@ abbrev pub last_of : Result Exit Fault → Result (Option Exit) Fault
 last_of (Ok exit) = Ok (Some exit)
 last_of (Err f) = Err f
 
--- Some lines were audited, and the audit ends with the next one. Or they are the most lines that one audit takes
+-- Some lines were audited, and the audit ends with the next one. Or one audit takes no more lines than these
 pub record AuditsToEnd (t : Terms) (report report_new : Option (List ℕ)) (old new : Evidence) (out out_new : Option (List ℕ)) (result : Result Exit Fault) : Type 0 where
   pub lines : List (List ℕ)
   pub place : ℕ
@@ -123,6 +123,6 @@ pub record AuditsToEnd (t : Terms) (report report_new : Option (List ℕ)) (old 
   pub last : LineIs t (length lines + 1) (standing place (counts_of lines)) behind report_between report_new between new out_between out_new (last_of result)
       ⊎ ((result ≡ Err faults.Read) × (length lines ≡ max_lines) × (out_new ≡ out_between))
 
--- the lines that were read are the most that one audit takes
+-- one audit takes no more lines than these
 abbrev pub ReachesLimit : Option (List ℕ) → Option (List ℕ) → Type 0
 ReachesLimit report report_new = (lines : List (List ℕ)) × (length lines ≡ max_lines) × Consumes report report_new (text_of lines)

@@ -30,7 +30,7 @@ pub record JudgesBlock (t : Terms) (place behind : ℕ) (before after : Option (
   pub found : Finds t.rows (frame_soft t symbols) frame.verdict block finding
   pub behind_it : behind ≡ frame.at + symbols_in t.mode
 
--- the recording lacks the symbols of a frame
+-- the symbols of a frame are not in the recording
 abbrev pub LacksSymbols : Terms → (place : ℕ) → Option (List ℕ) → Option (List ℕ) → Frame → Finding → Type 0
 LacksSymbols t place before after frame finding =
     (finding ≡ Failed reasons.NoSymbols) × LacksFrame t.mode place before after frame.at
@@ -64,7 +64,7 @@ abbrev pub LacksCertificate : Evidence → Evidence → Finding → Type 0
 LacksCertificate old new finding =
     (finding ≡ Failed reasons.NoCertificate) × Consumes old.certificates new.certificates [] × IsAtEnd new.certificates
 
--- the next certificate was read, and then the recording lacks the symbols of a frame
+-- the next certificate was read, and then the symbols of a frame are not in the recording
 pub record LacksOnlySymbols (t : Terms) (place : ℕ) (old new : Evidence) (frame : Frame) (finding : Finding) : Type 0 where
   pub block : List ℕ
   pub long : length block ≡ certificate_bytes t.mode

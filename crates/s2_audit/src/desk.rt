@@ -227,7 +227,7 @@ impl<'a> Desk<'a> {
         certificate_bytes(self.mode)
     }
 
-    /// Reads the frame that begins at a symbol, and finds its soft values. False if the recording lacks it.
+    /// Reads the frame that begins at a symbol, and finds its soft values. False if it is not in the recording.
     pub(crate) fn read_frame<R: CountedRead>(
         &mut self,
         reader: &mut R,
