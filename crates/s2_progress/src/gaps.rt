@@ -32,7 +32,7 @@ impl Gaps {
         self.frame.set(frame);
     }
 
-    /// Counts bytes that were read. Returns the symbol since which no frame came, once for each gap, if the next frame
+    /// Counts bytes that were read. Returns the symbol since which no frame came, once per gap, if the next frame
     /// begins a frame's length after it or later: then another frame's length has been read.
     pub(crate) fn took(&self, bytes: usize) -> Option<u64> {
         self.taken
