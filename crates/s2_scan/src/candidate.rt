@@ -6,8 +6,8 @@ ghost use Rattle.s2_scan.specs.Inside.{AreWithin, IsWithin};
 ghost use Rattle.s2_scan.specs.Pilots as by;
 
 use crate::pilots::{PILOTS, pilot_place};
-use crate::sequences::{HALF, PERIOD};
 use crate::sums::{NO_SUM, Sum, energy, plus, turned_back};
+use s2_scramble::tables::{HALF, PERIOD};
 
 /// How many scrambling numbers there are.
 const NUMBERS: usize = 262_142;
@@ -23,7 +23,7 @@ pub(crate) struct Candidate {
 #[inline(always)]
 fn quarter(x_bits: &[bool], y_bits: &[bool], number: usize, i: usize) -> u8
     requires x_bits { HoldsFirst x 262143 x_bits.now }
-    requires y_bits { HoldsFirst y 134114 y_bits.now }
+    requires y_bits { HoldsFirst y 164264 y_bits.now }
     requires number { number < 262142 }
     requires i { i < 3042 }
     ensures { result ≡ quarter_turns number i }
@@ -37,7 +37,7 @@ fn quarter(x_bits: &[bool], y_bits: &[bool], number: usize, i: usize) -> u8
 fn descrambled(pilots: &[Sum], x_bits: &[bool], y_bits: &[bool], number: usize) -> Sum
     requires pilots { AreWithin pilots.now }
     requires x_bits { HoldsFirst x 262143 x_bits.now }
-    requires y_bits { HoldsFirst y 134114 y_bits.now }
+    requires y_bits { HoldsFirst y 164264 y_bits.now }
     requires number { number < 262142 }
     ensures is { result ≡ by.descrambled pilots.now number }
     ensures within { IsWithin 37748736 result }
@@ -54,7 +54,7 @@ fn descrambled(pilots: &[Sum], x_bits: &[bool], y_bits: &[bool], number: usize) 
 fn tried(pilots: &[Sum], x_bits: &[bool], y_bits: &[bool], number: usize) -> Candidate
     requires pilots { AreWithin pilots.now }
     requires x_bits { HoldsFirst x 262143 x_bits.now }
-    requires y_bits { HoldsFirst y 134114 y_bits.now }
+    requires y_bits { HoldsFirst y 164264 y_bits.now }
     requires number { number < 262142 }
     ensures { result ≡ by.tried pilots.now number }
 {
@@ -79,7 +79,7 @@ fn better(best: Candidate, other: Candidate) -> Candidate
 pub(crate) fn best_of(pilots: &[Sum], x_bits: &[bool], y_bits: &[bool]) -> Candidate
     requires pilots { AreWithin pilots.now }
     requires x_bits { HoldsFirst x 262143 x_bits.now }
-    requires y_bits { HoldsFirst y 134114 y_bits.now }
+    requires y_bits { HoldsFirst y 164264 y_bits.now }
     ensures { result ≡ by.best_below pilots.now by.numbers }
 {
     let mut best = tried(pilots, x_bits, y_bits, 0);

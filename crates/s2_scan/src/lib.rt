@@ -28,7 +28,6 @@ mod passes;
 mod pilots;
 mod ranking;
 mod reading;
-mod sequences;
 mod shell;
 mod sighting;
 mod sums;

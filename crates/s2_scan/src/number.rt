@@ -8,9 +8,9 @@ use crate::distances::picked;
 use crate::lines::has_pilots;
 use crate::passes::Pass;
 use crate::pilots::pilot_sums;
-use crate::sequences::{x_table, y_table};
 use crate::sighting::Sighting;
 use crate::sums::Sum;
+use s2_scramble::tables::{x_table, y_table};
 use std::alloc::{AllocError, Global};
 
 /// The most frames whose pilots are used.
