@@ -12,3 +12,5 @@ pub mod Runs
 pub mod Orientations
 pub mod Beginnings
 pub mod SumLemmas
+pub mod BestLemmas
+pub mod Numbers

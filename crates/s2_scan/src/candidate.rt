@@ -1,5 +1,5 @@
 //! Scrambling numbers, tried on pilots.
-ghost use Rattle.std.specs.Prelude.{◌≡◌, ◌<◌};
+ghost use Rattle.std.specs.Prelude.{◌≡◌, ◌<◌, nat_lt, if◌then◌else◌};
 ghost use Rattle.s2_scramble.specs.Gold.{quarter_turns, x, y};
 ghost use Rattle.s2_scramble.specs.Sequence.{HoldsFirst};
 ghost use Rattle.s2_scan.specs.Inside.{AreWithin, IsWithin};
@@ -14,9 +14,9 @@ const NUMBERS: usize = 262_142;
 
 /// A scrambling number, and the energy of the pilots that it rotates back, added up.
 #[derive(Clone, Copy)]
-pub(crate) struct Candidate {
-    pub(crate) number: usize,
-    pub(crate) energy: u64,
+struct Candidate {
+    number: usize,
+    energy: u64,
 }
 
 /// R(i) of a scrambling number: by how many quarter turns symbol i after the header is rotated.
@@ -51,12 +51,14 @@ fn descrambled(pilots: &[Sum], x_bits: &[bool], y_bits: &[bool], number: usize) 
 }
 
 /// A scrambling number, tried on pilots.
+#[tactic(auto, unfolding(crate::specs::Pilots::energy_under))]
 fn tried(pilots: &[Sum], x_bits: &[bool], y_bits: &[bool], number: usize) -> Candidate
     requires pilots { AreWithin pilots.now }
     requires x_bits { HoldsFirst x 262143 x_bits.now }
     requires y_bits { HoldsFirst y 164264 y_bits.now }
     requires number { number < 262142 }
-    ensures { result ≡ by.tried pilots.now number }
+    ensures number { result.number ≡ number }
+    ensures energy { result.energy ≡ by.energy_under pilots.now number }
 {
     Candidate {
         number,
@@ -66,7 +68,7 @@ fn tried(pilots: &[Sum], x_bits: &[bool], y_bits: &[bool], number: usize) -> Can
 
 /// The one with more energy; the first of equal ones.
 fn better(best: Candidate, other: Candidate) -> Candidate
-    ensures { result ≡ by.better best other }
+    ensures { result ≡ (if nat_lt best.energy other.energy then other else best) }
 {
     if best.energy < other.energy {
         other
@@ -75,16 +77,16 @@ fn better(best: Candidate, other: Candidate) -> Candidate
     }
 }
 
-/// The scrambling number that rotates pilots back best.
-pub(crate) fn best_of(pilots: &[Sum], x_bits: &[bool], y_bits: &[bool]) -> Candidate
+/// The scrambling number that rotates pilots back best, of equally good ones the least.
+pub(crate) fn best_of(pilots: &[Sum], x_bits: &[bool], y_bits: &[bool]) -> usize
     requires pilots { AreWithin pilots.now }
     requires x_bits { HoldsFirst x 262143 x_bits.now }
     requires y_bits { HoldsFirst y 164264 y_bits.now }
-    ensures { result ≡ by.best_below pilots.now by.numbers }
+    ensures { by.IsBest pilots.now by.numbers result }
 {
     let mut best = tried(pilots, x_bits, y_bits, 0);
-    for number in 0..NUMBERS {
+    for number in 1..NUMBERS {
         best = better(best, tried(pilots, x_bits, y_bits, number));
     }
-    best
+    best.number
 }

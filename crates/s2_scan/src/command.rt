@@ -3,10 +3,7 @@ ghost use Rattle.std.specs.Prelude.{◌≡◌, ◌≢◌, ◌+◌, Err, IfErr, I
 ghost use Rattle.s2_mode.specs.Counts.{CanCount};
 ghost use Rattle.s2_console.specs.Exits.{CommandRuns, CommandCounts, CommandExits};
 ghost use Rattle.s2_console.specs.Screens.{CanShow};
-ghost use Rattle.s2_scan.specs.Lines.{scan_exit, scan_text};
-ghost use Rattle.s2_scan.specs.Pilots.{number_of};
-ghost use Rattle.s2_scan.specs.Sightings.{sightings_of};
-ghost use Rattle.s2_scan.specs.Scanning.{IsRecording, IsScanned, MayFail, SaysScan};
+ghost use Rattle.s2_scan.specs.Scanning.{IsRecording, IsScanned, MayFail, SaysScan, SaysSeen};
 
 use crate::number::number_of;
 use crate::passes::Pass;
@@ -31,8 +28,7 @@ impl Drop for Report {
 
 /// The text and the exit for the passes and the first bytes of the file of this name.
 fn report_by(alloc: Global, name: &str, passes: &[Pass], front: &[u8]) -> Result<Report, AllocError>
-    ensures exit { IfOk result (λ s. s.exit ≡ scan_exit (sightings_of passes.now)) }
-    ensures text { IfOk result (λ s. s.text.items ≡ scan_text name.now (number_of front.now passes.now (sightings_of passes.now)) (sightings_of passes.now)) }
+    ensures { IfOk result (λ s. SaysSeen name.now passes.now front.now s.exit s.text.items) }
 {
     let sightings = sightings_of(alloc, passes)?;
     let number = number_of(alloc, front, passes, &sightings)?;

@@ -1,5 +1,5 @@
 //! The scrambling number of a recording.
-ghost use Rattle.std.specs.Prelude.{◌≡◌, IfOk};
+ghost use Rattle.std.specs.Prelude.{◌≡◌, ◌+◌, ◌*◌, ◌/◌, ◌<◌, ◌≤◌, length, IfOk};
 ghost use Rattle.s2_scan.specs.Inside.{AreWithin};
 ghost use Rattle.s2_scan.specs.Pilots as by;
 
@@ -37,22 +37,21 @@ fn pilots_of(
 /// The scrambling number that rotates pilots back best.
 fn best_number(alloc: Global, pilots: &[Sum]) -> Result<u64, AllocError>
     requires { AreWithin pilots.now }
-    ensures { IfOk result (λ n. n ≡ (by.best_below pilots.now by.numbers).number) }
+    ensures { IfOk result (by.IsBest pilots.now by.numbers) }
 {
     let x_bits = x_table(alloc)?;
     let y_bits = y_table(alloc)?;
-    Ok(best_of(pilots, &x_bits, &y_bits).number as u64)
+    Ok(best_of(pilots, &x_bits, &y_bits) as u64)
 }
 
 /// The scrambling number by the pilots of a sighting, if those of its first frame are kept.
-#[tactic(auto, unfolding(crate::specs::Pilots::number_by))]
 fn number_by(
     alloc: Global,
     bytes: &[u8],
     passes: &[Pass],
     sighting: &Sighting,
 ) -> Result<Option<u64>, AllocError>
-    ensures { IfOk result (λ n. n ≡ by.number_by bytes.now passes.now sighting.now) }
+    ensures { IfOk result (by.IsNumberBy bytes.now passes.now sighting.now) }
 {
     if bytes.len() as u64 / 4 < sighting.first.saturating_add(PILOTED) {
         return Ok(None);
@@ -75,7 +74,7 @@ pub(crate) fn number_of(
     passes: &[Pass],
     sightings: &[Sighting],
 ) -> Result<Option<u64>, AllocError>
-    ensures { IfOk result (λ n. n ≡ by.number_of bytes.now passes.now sightings.now) }
+    ensures { IfOk result (by.IsNumber bytes.now passes.now sightings.now) }
 {
     for k in 0..sightings.len() {
         if is_piloted(sightings[k].header) {

@@ -1,6 +1,9 @@
 use Rattle.std.proofs.Common.{◌≡◌}
-use Rattle.s2_scan.specs.Pilots.{best_below}
+use Rattle.s2_scan.specs.Pilots.{IsBest, energy_under}
 use Rattle.s2_scan.proofs.candidate.best_of.Given as goal
 
 abbrev pub invariant-loop-number : goal.invariant-loop-number
-invariant-loop-number l = l.best ≡ best_below l.pilots l.number
+invariant-loop-number l = record {
+  best : IsBest l.pilots l.number l.best.number;
+  energy : l.best.energy ≡ energy_under l.pilots l.best.number;
+}
