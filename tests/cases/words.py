@@ -3,6 +3,7 @@ import itertools
 
 from cases.common import ANY, DIVISORS, FAULT, LINK, NO, PACKET, PAIR, STORED, TOY, TWO, WANTED, Case, fault, first_line, misuse, noted, option, size
 from cases.drawn import made_rows
+from cases.strength import nothing_found
 
 HELP = """A DVB-S2 modem with maximum-likelihood certificates. \
 Without a command it judges the 20 soft values of standard input under a toy code
@@ -407,7 +408,7 @@ ENDED = {
     "run": {"out": TWO, "writes": {"out": 2 * PACKET}},
     "audit": {"out": "audit frames 0 sole 0 most-likely 0\n", "reads": {"empty": b""}},
     "join": {"out": "end frames 0 delivered 0 packets 0 bad 0\n", "reads": {"empty": b""}, "writes": {"out": b""}},
-    "scan": {"code": NO, "out": "nothing found\n"},
+    "scan": {"code": NO, "out": nothing_found(2 * PACKET)},
 }
 
 

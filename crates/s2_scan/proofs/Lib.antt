@@ -5,7 +5,7 @@ pub mod NoPasses
 pub mod Blocks
 pub mod Feeds
 pub mod Gaps
-pub mod Roots
+pub mod Totals
 pub mod Tallies
 pub mod Pieces
 pub mod Runs

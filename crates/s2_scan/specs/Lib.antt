@@ -1,4 +1,5 @@
 pub mod Forms
+pub mod Strength
 pub mod Passing
 pub mod Sightings
 pub mod Lines

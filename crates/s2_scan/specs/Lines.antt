@@ -3,6 +3,7 @@ use Rattle.std.specs.Prelude.{ℕ, ◌+◌, ◌-◌, ◌*◌, ◌/◌, ◌%◌, 
 use Rattle.s2_console.specs.declared.exit.Exit.{Exit}
 use Rattle.s2_console.specs.declared.exit.Exit.TheVariants as exits
 use Rattle.s2_scan.specs.Forms.{is_little, way_of}
+use Rattle.s2_scan.specs.Strength.{nothing_text}
 use Rattle.s2_scan.specs.declared.sighting.Sighting.{Sighting}
 
 -- the names of MODCOD 0 to 28
@@ -164,10 +165,10 @@ unfoldable pub number_line : Option ℕ → List ℕ
 number_line None = codes "number not looked for: no pilots\n"
 number_line (Some number) = (codes "number " ++ decimal number) ++ codes "\n"
 
--- all that is printed
-abbrev pub scan_text : List ℕ → Option ℕ → List Sighting → List ℕ
-scan_text name number [] = codes "nothing found\n"
-scan_text name number (s ∷ ss) = lines_of (s ∷ ss) ++ (number_line number ++ advice_of name number (s ∷ ss))
+-- all that is printed of sightings in the file of this name and these first bytes
+abbrev pub scan_text : List ℕ → List ℕ → Option ℕ → List Sighting → List ℕ
+scan_text name front number [] = nothing_text front
+scan_text name front number (s ∷ ss) = lines_of (s ∷ ss) ++ (number_line number ++ advice_of name number (s ∷ ss))
 
 -- exit 0 if there is a sighting, else 2
 abbrev pub scan_exit : List Sighting → Exit

@@ -41,7 +41,7 @@ MayFail known f = IsOutside f
 pub record SaysSeen (name : List ℕ) (passes : List Pass) (front : List ℕ) (exit : Exit) (text : List ℕ) : Type 0 where
   pub number : Option ℕ
   pub found : IsNumber front passes (sightings_of passes) number
-  pub line : text ≡ scan_text name number (sightings_of passes)
+  pub line : text ≡ scan_text name front number (sightings_of passes)
   pub ends : exit ≡ scan_exit (sightings_of passes)
 
 -- `scan` prints this of a recording in the file of this name

@@ -1,9 +1,10 @@
 -- What the passes of a recording are evidence of: each header in each form that occurs at its frame's distance (own).
-use Rattle.std.specs.Prelude.{ℕ, zero, suc, ◌+◌, ◌-◌, ◌*◌, ◌/◌, ◌%◌, ◌^◌, ◌==◌, ◌&&◌, ◌||◌, Bool, nat_lt, nat_le, min, List, [], ◌∷◌, length, if◌then◌else◌}
+use Rattle.std.specs.Prelude.{ℕ, ◌+◌, ◌-◌, ◌*◌, ◌/◌, ◌%◌, ◌^◌, ◌==◌, ◌&&◌, ◌||◌, Bool, nat_lt, min, List, [], ◌∷◌, length, if◌then◌else◌}
 use Rattle.std.specs.List.{flat_map, filter}
 use Rattle.s2_mode.specs.Limits.{header_symbols, dummy_symbols}
 use Rattle.s2_scan.specs.Forms.{forms}
 use Rattle.s2_scan.specs.Passing.{headers}
+use Rattle.s2_scan.specs.Strength.{amplitude_by}
 use Rattle.s2_scan.specs.declared.passes.Pass.{Pass}
 use Rattle.s2_scan.specs.declared.tally.Tally.{Tally}
 use Rattle.s2_scan.specs.declared.sighting.Sighting.{Sighting}
@@ -76,19 +77,6 @@ usual_distance ds = (most_frequent (tally_of ds []) no_tally).distance
 abbrev pub energy_in : List Pass → ℕ
 energy_in [] = 0
 energy_in (p ∷ passes) = p.energy + energy_in passes
-
--- how many of the first n numbers k have (k + 1/2)^2 at most the mean
-unfoldable pub roots_below : ℕ → ℕ → ℕ
-roots_below mean zero = 0
-roots_below mean (suc k) = roots_below mean k + (if nat_le ((2 * k + 1) * (2 * k + 1)) (4 * mean) then 1 else 0)
-
--- the largest amplitude, that of (-32768, -32768)
-abbrev pub max_amplitude : ℕ
-max_amplitude = 46341
-
--- the root of the mean of I * I + Q * Q over symbols, rounded, by their energy
-abbrev pub amplitude_by : ℕ → ℕ → ℕ
-amplitude_by energy symbols = roots_below (energy / symbols) max_amplitude
 
 -- the amplitude over the headers that passed, without their noise
 abbrev pub amplitude_of : List Pass → ℕ

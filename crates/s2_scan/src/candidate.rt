@@ -1,5 +1,5 @@
 //! Scrambling numbers, tried on pilots.
-ghost use Rattle.std.specs.Prelude.{◌≡◌, ◌<◌, nat_lt, if◌then◌else◌};
+ghost use Rattle.std.specs.Prelude.{◌≡◌, ◌<◌};
 ghost use Rattle.s2_scramble.specs.Gold.{quarter_turns, x, y};
 ghost use Rattle.s2_scramble.specs.Sequence.{HoldsFirst};
 ghost use Rattle.s2_scan.specs.Inside.{AreWithin, IsWithin};
@@ -66,17 +66,6 @@ fn tried(pilots: &[Sum], x_bits: &[bool], y_bits: &[bool], number: usize) -> Can
     }
 }
 
-/// The one with more energy; the first of equal ones.
-fn better(best: Candidate, other: Candidate) -> Candidate
-    ensures { result ≡ (if nat_lt best.energy other.energy then other else best) }
-{
-    if best.energy < other.energy {
-        other
-    } else {
-        best
-    }
-}
-
 /// The scrambling number that rotates pilots back best, of equally good ones the least.
 pub(crate) fn best_of(pilots: &[Sum], x_bits: &[bool], y_bits: &[bool]) -> usize
     requires pilots { AreWithin pilots.now }
@@ -86,7 +75,10 @@ pub(crate) fn best_of(pilots: &[Sum], x_bits: &[bool], y_bits: &[bool]) -> usize
 {
     let mut best = tried(pilots, x_bits, y_bits, 0);
     for number in 1..NUMBERS {
-        best = better(best, tried(pilots, x_bits, y_bits, number));
+        let other = tried(pilots, x_bits, y_bits, number);
+        if best.energy < other.energy {
+            best = other;
+        }
     }
     best.number
 }

@@ -32,7 +32,7 @@ fn report_by(alloc: Global, name: &str, passes: &[Pass], front: &[u8]) -> Result
 {
     let sightings = sightings_of(alloc, passes)?;
     let number = number_of(alloc, front, passes, &sightings)?;
-    let text = scan_text(alloc, name, number, &sightings)?;
+    let text = scan_text(alloc, name, front, number, &sightings)?;
     Ok(Report {
         exit: scan_exit(&sightings),
         text,

@@ -30,6 +30,7 @@ mod ranking;
 mod reading;
 mod shell;
 mod sighting;
+mod strength;
 mod sums;
 mod tally;
 mod text;

@@ -5,6 +5,7 @@ ghost use Rattle.s2_scan.specs.Lines as lines;
 use crate::advice::push_advice;
 use crate::lines::push_line;
 use crate::sighting::Sighting;
+use crate::strength::push_nothing;
 use crate::texts::{push, push_number};
 use s2_console::Exit;
 use std::alloc::{AllocError, Global};
@@ -31,18 +32,19 @@ fn push_number_line(text: &mut Vec<u8>, number: Option<u64>) -> Result<(), Alloc
     push(text, "\n")
 }
 
-/// All that is printed of sightings in the file of this name, under a scrambling number.
+/// All that is printed of sightings in the file of this name and these first bytes, under a scrambling number.
 pub(crate) fn scan_text(
     alloc: Global,
     name: &str,
+    front: &[u8],
     number: Option<u64>,
     sightings: &[Sighting],
 ) -> Result<Vec<u8>, AllocError>
-    ensures { IfOk result (λ text. text.items ≡ lines.scan_text name.now number sightings.now) }
+    ensures { IfOk result (λ text. text.items ≡ lines.scan_text name.now front.now number sightings.now) }
 {
     let mut text = Vec::new(alloc);
     if sightings.is_empty() {
-        push(&mut text, "nothing found\n")?;
+        push_nothing(&mut text, front)?;
         return Ok(text);
     }
     push_lines(&mut text, sightings)?;
