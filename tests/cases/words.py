@@ -97,6 +97,12 @@ The last line:
   s2 demod receives none of these     16APSK, 32APSK or dummy frames alone
   nothing found                       no header came twice at its frame's distance: try a longer recording
 
+After nothing found, a line for each byte order:
+  symbols N                  the symbols of which the next numbers are: all, or the first 4194304
+  rms R                      the root of their mean power; `mod` sends 990
+  clipped C                  how many have a component of 32767 or more, without its sign: the receiver's input may be too strong
+  bytes big|little           the byte order
+
 Exits:
   0  some header came twice at its frame's distance
   1  a usage fault, or a fault that standard error tells
