@@ -1,9 +1,7 @@
 -- The best scrambling number, tried one after the other.
-use Rattle.std.proofs.Common.{◌≡◌, ℕ, ◌+◌, ◌<◌, ◌≤◌, List, ap, subst, inl, inr, arith}
-use Rattle.std.specs.Prelude.{nat_lt, if◌then◌else◌}
-use Rattle.std.proofs.lemmas.Bool.{cases_lt, lt-ltb, le-ltb}
+use Rattle.std.proofs.Common.{◌≡◌, ℕ, ◌+◌, ◌<◌, ◌≤◌, List, ap, inl, inr, arith}
+use Rattle.std.proofs.lemmas.Bool.{cases_lt}
 use Rattle.s2_scan.specs.Pilots.{IsBest, energy_under}
-use Rattle.s2_scan.specs.declared.candidate.Candidate.{Candidate}
 use Rattle.s2_scan.specs.declared.sums.Sum.{Sum}
 
 -- number 0 is the best of itself
@@ -18,7 +16,7 @@ best_first pilots number is = record {
 }
 
 -- the next number has no more energy
-best_kept : (pilots : List Sum) (n best : ℕ) → IsBest pilots n best → energy_under pilots n ≤ energy_under pilots best → IsBest pilots (n + 1) best
+pub best_kept : (pilots : List Sum) (n best : ℕ) → IsBest pilots n best → energy_under pilots n ≤ energy_under pilots best → IsBest pilots (n + 1) best
 best_kept pilots n best known le = record {
   there = omega (arith, known.there);
   most = λ other lt. elim (cases_lt other n) [
@@ -32,7 +30,7 @@ best_kept pilots n best known le = record {
 }
 
 -- it has more
-best_taken : (pilots : List Sum) (n best : ℕ) → IsBest pilots n best → energy_under pilots best < energy_under pilots n → IsBest pilots (n + 1) n
+pub best_taken : (pilots : List Sum) (n best : ℕ) → IsBest pilots n best → energy_under pilots best < energy_under pilots n → IsBest pilots (n + 1) n
 best_taken pilots n best known less = record {
   there = omega arith;
   most = λ other lt. elim (cases_lt other n) [
@@ -44,18 +42,3 @@ best_taken pilots n best known less = record {
   ];
   least = λ other lt. let le = known.most other lt in omega (arith, le, less);
 }
-
--- the better one of the best so far and the next number
-pub best_more : (pilots : List Sum) (n : ℕ) (a b : Candidate) → IsBest pilots n a.number → a.energy ≡ energy_under pilots a.number → b.number ≡ n → b.energy ≡ energy_under pilots n
-    → IsBest pilots (n + 1) (if nat_lt a.energy b.energy then b else a).number
-best_more pilots n a b known energy next energy' = elim (cases_lt a.energy b.energy) [
-  | inl less ↦ rw (lt-ltb a.energy b.energy less) (rw next (best_taken pilots n a.number known (omega (arith, energy, energy', less))))
-  | inr more ↦ rw (le-ltb a.energy b.energy more) (best_kept pilots n a.number known (omega (arith, energy, energy', more)))
-]
-
-pub energy_more : (pilots : List Sum) (n : ℕ) (a b : Candidate) → a.energy ≡ energy_under pilots a.number → b.number ≡ n → b.energy ≡ energy_under pilots n
-    → (if nat_lt a.energy b.energy then b else a).energy ≡ energy_under pilots (if nat_lt a.energy b.energy then b else a).number
-energy_more pilots n a b energy next energy' = elim (cases_lt a.energy b.energy) [
-  | inl less ↦ rw (lt-ltb a.energy b.energy less) (rw next energy')
-  | inr more ↦ rw (le-ltb a.energy b.energy more) energy
-]
