@@ -11,7 +11,7 @@ loop-place-init c = record { is = refl; most = omega arith }
 pub loop-place-preserved : goal.loop-place-preserved
 loop-place-preserved c = record {
   is =
-      let one = c.one_if.ensures.is ∙ ap (λ b. if b then 1 else 0) c.is_clipped.ensures in
+      let one = c.one_if-count.ensures.is ∙ ap (λ b. if b then 1 else 0) c.is_clipped.ensures in
       (λ t. c.loop-place.invariant.is t + one t) ∙ count_more (is_clipped c.args.little c.args.bytes.now) c.loop-place.place;
   most = omega arith;
 }

@@ -10,7 +10,7 @@ loop-k-init c = record { is = refl; most = omega arith }
 pub loop-k-preserved : goal.loop-k-preserved
 loop-k-preserved c = record {
   is =
-      let one = c.from.ensures ∙ c.energy_at.ensures in
+      let one = c.from-energy.ensures ∙ c.energy_at.ensures in
       (λ t. c.loop-k.invariant.is t + one t) ∙ total_more (energy_at c.args.little c.args.bytes.now) c.loop-k.k;
   most = omega arith;
 }
