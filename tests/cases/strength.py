@@ -3,7 +3,7 @@ describes them."""
 import math
 import struct
 
-# The symbols that are looked at, and the components of which a symbol is clipped.
+# How many symbols are looked at. A symbol is clipped if it has one of these components.
 LOOKED, LIMITS = 1 << 22, (32767, -32767, -32768)
 
 
