@@ -1,5 +1,5 @@
 pub mod Ranges
-pub mod Ways
+pub mod UndoLemmas
 pub mod Held
 pub mod NoPasses
 pub mod Blocks

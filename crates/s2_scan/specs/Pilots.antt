@@ -5,10 +5,10 @@ use Rattle.std.specs.List.{filter, range_with_len}
 use Rattle.s2_scramble.specs.Gold.{quarter_turns}
 use Rattle.s2_scan.specs.Forms.{is_little, symbol_in}
 use Rattle.s2_scan.specs.Lines.{has_pilots, is_conjugate}
-use Rattle.s2_scan.specs.Sightings.{is_of}
-use Rattle.s2_scan.specs.Sums.{energy, no_sum, righted, sum_below, turned_back}
+use Rattle.s2_scan.specs.Candidates.{is_of}
+use Rattle.s2_scan.specs.Sums.{energy, no_sum, conjugated_if, sum_below, turned_back}
 use Rattle.s2_scan.specs.declared.passes.Pass.{Pass}
-use Rattle.s2_scan.specs.declared.sighting.Sighting.{Sighting}
+use Rattle.s2_scan.specs.declared.candidate.Candidate.{Candidate}
 use Rattle.s2_scan.specs.declared.sums.Sum.{Sum}
 
 -- ---- pilots
@@ -33,9 +33,9 @@ frame_count = 16
 abbrev pub pilot_place : ℕ → ℕ
 pilot_place k = 1440 + 1476 * (k / 36) + k % 36
 
--- symbol k of a recording in a form, conjugated if that sets it right; nothing past the end
+-- symbol k of a recording in a form, conjugated if that undoes the form; nothing past the end
 abbrev pub symbol_at : ℕ → List ℕ → ℕ → Sum
-symbol_at form bytes k = if nat_lt k (length bytes / 4) then righted (is_conjugate form) (symbol_in (is_little form) bytes k) else no_sum
+symbol_at form bytes k = if nat_lt k (length bytes / 4) then conjugated_if (is_conjugate form) (symbol_in (is_little form) bytes k) else no_sum
 
 -- the position of a frame
 abbrev pub position_at : List Pass → ℕ → ℕ
@@ -71,12 +71,12 @@ pub record IsBest (pilots : List Sum) (n number : ℕ) : Type 0 where
 
 -- ---- a recording
 
--- the frames whose pilots are used: the first ones of a sighting
-abbrev pub frames_of : Sighting → List Pass → List Pass
+-- the frames whose pilots are used: the first ones of a candidate
+abbrev pub frames_of : Candidate → List Pass → List Pass
 frames_of s passes = take frame_count (filter (is_of s.form s.header) passes)
 
--- this is the scrambling number by the pilots of a sighting; none, if those of its first frame are not kept
-abbrev pub IsNumberBy : List ℕ → List Pass → Sighting → Option ℕ → Type 0
+-- this is the scrambling number by the pilots of a candidate; none, if those of its first frame are not kept
+abbrev pub IsNumberBy : List ℕ → List Pass → Candidate → Option ℕ → Type 0
 IsNumberBy bytes passes s None = length bytes / 4 < s.first + 3042
 IsNumberBy bytes passes s (Some number) = (s.first + 3042 ≤ length bytes / 4) × IsBest (pilot_sums s.form bytes (frames_of s passes)) numbers number
 
@@ -84,15 +84,15 @@ IsNumberBy bytes passes s (Some number) = (s.first + 3042 ≤ length bytes / 4) 
 abbrev pub is_piloted : ℕ → Bool
 is_piloted header = nat_le 4 header && has_pilots header
 
--- the sightings of frames with pilots
-abbrev pub piloted : List Sighting → List Sighting
+-- the candidates of frames with pilots
+abbrev pub piloted : List Candidate → List Candidate
 piloted = filter (λ s. is_piloted s.header)
 
 -- this is the scrambling number by the first of these; none, if there is none
-abbrev pub IsNumberOf : List ℕ → List Pass → List Sighting → Option ℕ → Type 0
+abbrev pub IsNumberOf : List ℕ → List Pass → List Candidate → Option ℕ → Type 0
 IsNumberOf bytes passes [] found = found ≡ None
 IsNumberOf bytes passes (s ∷ ss) found = IsNumberBy bytes passes s found
 
 -- this is the scrambling number by the likeliest frames with pilots
-abbrev pub IsNumber : List ℕ → List Pass → List Sighting → Option ℕ → Type 0
-IsNumber bytes passes sightings = IsNumberOf bytes passes (piloted sightings)
+abbrev pub IsNumber : List ℕ → List Pass → List Candidate → Option ℕ → Type 0
+IsNumber bytes passes candidates = IsNumberOf bytes passes (piloted candidates)

@@ -2,7 +2,7 @@
 use Rattle.std.specs.Prelude.{ℕ, ◌+◌, ◌*◌, ◌/◌, ◌||◌, Bool, false, true, nat_le, max, unsigned_abs, List, ◌++◌, length, codes, decimal, if◌then◌else◌}
 use Rattle.std.specs.List.{count_by, range_with_len, sum_by}
 use Rattle.s2_scan.specs.Forms.{symbol_in}
-use Rattle.s2_scan.specs.Sums.{energy, righted}
+use Rattle.s2_scan.specs.Sums.{energy, conjugated_if}
 
 -- ---- the root of a mean
 
@@ -30,7 +30,7 @@ symbols_in bytes = length bytes / 4
 
 -- the energy of a symbol: I * I + Q * Q
 unfoldable pub energy_at : Bool → List ℕ → ℕ → ℕ
-energy_at little bytes k = energy (righted false (symbol_in little bytes k))
+energy_at little bytes k = energy (conjugated_if false (symbol_in little bytes k))
 
 -- the root of the mean of I * I + Q * Q over all symbols, rounded; 0 if there is none
 unfoldable pub rms_of : Bool → List ℕ → ℕ

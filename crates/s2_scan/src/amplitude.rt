@@ -1,7 +1,7 @@
 //! The amplitude of passes.
 ghost use Rattle.std.specs.Prelude.{◌≡◌, ◌*◌, ◌^◌, ◌<◌, ◌≤◌, length, if◌then◌else◌};
 ghost use Rattle.s2_mode.specs.Limits.{header_symbols};
-ghost use Rattle.s2_scan.specs.Sightings.{energy_in, amplitude_of};
+ghost use Rattle.s2_scan.specs.Candidates.{energy_in, amplitude_of};
 ghost use Rattle.s2_scan.specs.Strength.{root_of, amplitude_by};
 
 use crate::passes::Pass;

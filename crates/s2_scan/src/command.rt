@@ -7,7 +7,7 @@ ghost use Rattle.s2_scan.specs.Scanning.{IsRecording, IsScanned, MayFail, SaysSc
 
 use crate::number::number_of;
 use crate::passes::Pass;
-use crate::ranking::sightings_of;
+use crate::ranking::candidates_of;
 use crate::reading::read_seen;
 use crate::text::{scan_exit, scan_text};
 use s2_console::{Console, Exit, Fault, print};
@@ -30,11 +30,11 @@ impl Drop for Report {
 fn report_by(alloc: Global, name: &str, passes: &[Pass], front: &[u8]) -> Result<Report, AllocError>
     ensures { IfOk result (λ s. SaysSeen name.now passes.now front.now s.exit s.text.items) }
 {
-    let sightings = sightings_of(alloc, passes)?;
-    let number = number_of(alloc, front, passes, &sightings)?;
-    let text = scan_text(alloc, name, front, number, &sightings)?;
+    let candidates = candidates_of(alloc, passes)?;
+    let number = number_of(alloc, front, passes, &candidates)?;
+    let text = scan_text(alloc, name, front, number, &candidates)?;
     Ok(Report {
-        exit: scan_exit(&sightings),
+        exit: scan_exit(&candidates),
         text,
     })
 }

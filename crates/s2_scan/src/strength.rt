@@ -6,7 +6,7 @@ ghost use Rattle.s2_scan.specs.Strength as by;
 use crate::amplitude::{one_if, rounded_root};
 use crate::forms::symbol_in;
 use crate::lines::choose;
-use crate::sums::{energy, righted};
+use crate::sums::{conjugated_if, energy};
 use crate::texts::{push, push_number};
 use std::alloc::AllocError;
 
@@ -29,7 +29,7 @@ fn energy_at(little: bool, bytes: &[u8], k: usize) -> u64
     requires { 4 * k + 4 ≤ length bytes.now }
     ensures { result ≡ by.energy_at little bytes.now k }
 {
-    energy(righted(false, symbol_in(little, bytes, k)))
+    energy(conjugated_if(false, symbol_in(little, bytes, k)))
 }
 
 /// The energy of all symbols.

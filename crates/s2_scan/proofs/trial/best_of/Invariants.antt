@@ -1,6 +1,6 @@
 use Rattle.std.proofs.Common.{◌≡◌}
 use Rattle.s2_scan.specs.Pilots.{IsBest, energy_under}
-use Rattle.s2_scan.proofs.candidate.best_of.Given as goal
+use Rattle.s2_scan.proofs.trial.best_of.Given as goal
 
 abbrev pub invariant-loop-number : goal.invariant-loop-number
 invariant-loop-number l = record {

@@ -1,7 +1,7 @@
 use Rattle.std.proofs.Common.{ap, sym, subst, ◌≡◌, ◌∙◌, arith}
 use Rattle.s2_scan.specs.Pilots.{IsBest, energy_under}
 use Rattle.s2_scan.proofs.BestLemmas.{best_first}
-use Rattle.s2_scan.proofs.candidate.best_of.Goals as goal
+use Rattle.s2_scan.proofs.trial.best_of.Goals as goal
 
 pub loop-number-init : goal.loop-number-init
 loop-number-init c = record {

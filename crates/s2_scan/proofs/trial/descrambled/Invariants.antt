@@ -3,7 +3,7 @@ use Rattle.s2_scramble.specs.Gold.{quarter_turns}
 use Rattle.s2_scan.specs.Inside.{IsWithin}
 use Rattle.s2_scan.specs.Pilots.{pilot_place}
 use Rattle.s2_scan.specs.Sums.{no_sum, sum_below, turned_back}
-use Rattle.s2_scan.proofs.candidate.descrambled.Given as goal
+use Rattle.s2_scan.proofs.trial.descrambled.Given as goal
 
 abbrev pub invariant-loop-k : goal.invariant-loop-k
 invariant-loop-k l = record {

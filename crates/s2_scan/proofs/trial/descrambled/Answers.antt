@@ -5,7 +5,7 @@ use Rattle.s2_scan.specs.Pilots.{descrambled, pilot_place}
 use Rattle.s2_scan.specs.Sums.{no_sum, plus, sum_below, turned_back}
 use Rattle.s2_scan.specs.declared.sums.Sum.{Sum}
 use Rattle.s2_scan.proofs.SumLemmas.{none_within, sum_none, sum_more, turned_within, within_more, within_plus}
-use Rattle.s2_scan.proofs.candidate.descrambled.Goals as goal
+use Rattle.s2_scan.proofs.trial.descrambled.Goals as goal
 
 pub loop-k-init : goal.loop-k-init
 loop-k-init c = record {

@@ -7,7 +7,7 @@ use Rattle.s2_scan.specs.Passing.{headers}
 use Rattle.s2_scan.specs.Strength.{amplitude_by}
 use Rattle.s2_scan.specs.declared.passes.Pass.{Pass}
 use Rattle.s2_scan.specs.declared.tally.Tally.{Tally}
-use Rattle.s2_scan.specs.declared.sighting.Sighting.{Sighting}
+use Rattle.s2_scan.specs.declared.candidate.Candidate.{Candidate}
 
 -- ---- the frames (EN 302 307-1, 5.5)
 
@@ -82,7 +82,7 @@ energy_in (p ∷ passes) = p.energy + energy_in passes
 abbrev pub amplitude_of : List Pass → ℕ
 amplitude_of passes = amplitude_by (energy_in passes) (header_symbols * length passes)
 
--- ---- sightings
+-- ---- candidates
 
 -- whether a pass is of this header in this form
 abbrev pub is_of : ℕ → ℕ → Pass → Bool
@@ -94,8 +94,8 @@ first_of [] = 0
 first_of (p ∷ passes) = p.position
 
 -- a header in a form, by its passes
-abbrev pub sighting_by : ℕ → ℕ → List Pass → Sighting
-sighting_by form header passes = record {
+abbrev pub candidate_by : ℕ → ℕ → List Pass → Candidate
+candidate_by form header passes = record {
   form = form;
   header = header;
   seen = length passes;
@@ -105,39 +105,39 @@ sighting_by form header passes = record {
   amplitude = amplitude_of passes;
 }
 
--- a sighting, if two passes have the frame's distance
-abbrev pub sighted : ℕ → ℕ → List Pass → List Sighting
-sighted form header passes =
-    if occurrences (frame_length header) (distances passes) == 0 then [] else sighting_by form header passes ∷ []
+-- a candidate, if two passes have the frame's distance
+abbrev pub candidate_of : ℕ → ℕ → List Pass → List Candidate
+candidate_of form header passes =
+    if occurrences (frame_length header) (distances passes) == 0 then [] else candidate_by form header passes ∷ []
 
--- the sighting of a header in a form among all passes
-unfoldable pub sighted_in : List Pass → ℕ → ℕ → List Sighting
-sighted_in passes form header = sighted form header (filter (is_of form header) passes)
+-- the candidate of a header in a form among all passes
+unfoldable pub candidates_in : List Pass → ℕ → ℕ → List Candidate
+candidates_in passes form header = candidate_of form header (filter (is_of form header) passes)
 
--- the sightings of all headers in a form
-unfoldable pub sighted_as : List Pass → ℕ → List Sighting
-sighted_as passes form = flat_map (sighted_in passes form) headers
+-- the candidates of all headers in a form
+unfoldable pub candidates_as : List Pass → ℕ → List Candidate
+candidates_as passes form = flat_map (candidates_in passes form) headers
 
--- all sightings, by form and header
-unfoldable pub all_sighted : List Pass → List Sighting
-all_sighted passes = flat_map (sighted_as passes) forms
+-- all candidates, by form and header
+unfoldable pub all_candidates : List Pass → List Candidate
+all_candidates passes = flat_map (candidates_as passes) forms
 
 -- ---- the likeliest first
 
--- a sighting is likelier than another if it has more pairs, or the same number and a smaller amplitude
-abbrev pub is_likelier : Sighting → Sighting → Bool
+-- a candidate is likelier than another if it has more pairs, or the same number and a smaller amplitude
+abbrev pub is_likelier : Candidate → Candidate → Bool
 is_likelier s t = nat_lt t.pairs s.pairs || ((s.pairs == t.pairs) && nat_lt s.amplitude t.amplitude)
 
--- a sighting put in front of the first one that it is likelier than
-abbrev pub put_in : Sighting → List Sighting → List Sighting
+-- a candidate put in front of the first one that it is likelier than
+abbrev pub put_in : Candidate → List Candidate → List Candidate
 put_in s [] = s ∷ []
 put_in s (t ∷ ts) = if is_likelier s t then s ∷ t ∷ ts else t ∷ put_in s ts
 
--- sightings put in one after the other
-abbrev pub put_all : List Sighting → List Sighting → List Sighting
+-- candidates put in one after the other
+abbrev pub put_all : List Candidate → List Candidate → List Candidate
 put_all [] ranked = ranked
 put_all (s ∷ ss) ranked = put_all ss (put_in s ranked)
 
--- the sightings of a recording's passes, the likeliest first
-abbrev pub sightings_of : List Pass → List Sighting
-sightings_of passes = put_all (all_sighted passes) []
+-- the candidates of a recording's passes, the likeliest first
+abbrev pub candidates_of : List Pass → List Candidate
+candidates_of passes = put_all (all_candidates passes) []
