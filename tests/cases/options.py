@@ -11,6 +11,7 @@ from cases.drawn import gaussian, made_rows, spoilt
 from cases.judging import HARD_NOTE, LEFT
 from cases.links import NOISY, NONE, PARITY, SAMPLES, wrong_headers
 from cases.modes import PACKETS, WORDS
+from cases.strength import nothing_found
 from cases.words import WANTED_NORMAL
 
 
@@ -126,7 +127,7 @@ def few_effects():
 def scan_effects(two):
     """Two frames: the second header ends with symbol 8279."""
     found = ended(Rule("qpsk1/4 short, and its command", lambda got: got.startswith(b"qpsk1/4 short no-pilots seen 2 ") and b" rows in received.ts\n" in got))
-    ends = {"": found} | each("--first", (8279, 8280, 16380, 4294967295), (ended("nothing found\n", NO), *3 * [found]))
+    ends = {"": found} | each("--first", (8279, 8280, 16380, 4294967295), (ended(nothing_found(two[: 4 * 8279]), NO), *3 * [found]))
     yield Effect("--first", "scan {} in", ends, {"reads": {"in": two}})
 
 

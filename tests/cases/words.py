@@ -3,6 +3,7 @@ import itertools
 
 from cases.common import ANY, DIVISORS, FAULT, LINK, NO, PACKET, PAIR, STORED, TOY, TWO, WANTED, Case, fault, first_line, misuse, noted, option, size
 from cases.drawn import made_rows
+from cases.strength import nothing_found
 
 HELP = """A DVB-S2 modem with maximum-likelihood certificates. \
 Without a command it decides on 20 soft values of a toy code, read from standard input
@@ -95,6 +96,12 @@ The last line:
   ./s2 demod ..                       the same without conversion; amplitudes of 833 to 1177 need no gain
   s2 demod receives none of these     only 16APSK, 32APSK or dummy frames were found
   nothing found                       no header is repeated one frame later: try a longer recording
+
+After nothing found, a line for each byte order:
+  symbols N                  number of symbols examined: all, or the first 4194304
+  rms R                      the root of their mean power; `mod` sends 990
+  clipped C                  number of symbols with a component of -32768, -32767 or 32767: the receiver's input may be too strong
+  bytes big|little           the byte order
 
 Exit status:
   0  a header is repeated one frame later
@@ -407,7 +414,7 @@ ENDED = {
     "run": {"out": TWO, "writes": {"out": 2 * PACKET}},
     "audit": {"out": "audit frames 0 sole 0 most-likely 0\n", "reads": {"empty": b""}},
     "join": {"out": "end frames 0 delivered 0 packets 0 bad 0\n", "reads": {"empty": b""}, "writes": {"out": b""}},
-    "scan": {"code": NO, "out": "nothing found\n"},
+    "scan": {"code": NO, "out": nothing_found(2 * PACKET)},
 }
 
 

@@ -6,7 +6,7 @@ use Rattle.s2_names.specs.Names.{mode_words}
 use Rattle.s2_receive.specs.declared.report.Received.{Received}
 use Rattle.s2_receive.specs.declared.report.Totals.{Totals}
 use Rattle.s2_scan.specs.Lines.{gain_of, is_usual}
-use Rattle.s2_scan.specs.Sightings.{amplitude_by}
+use Rattle.s2_scan.specs.Strength.{amplitude_by}
 use Rattle.s2_words.specs.declared.request.ExitBy.{ExitBy}
 use Rattle.s2_words.specs.declared.request.ExitBy.TheVariants as deciders
 use Rattle.s2_words.specs.declared.request.NoteWords.{NoteWords}

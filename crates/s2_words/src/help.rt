@@ -243,6 +243,12 @@ The last line:
   s2 demod receives none of these     only 16APSK, 32APSK or dummy frames were found
   nothing found                       no header is repeated one frame later: try a longer recording
 
+After nothing found, a line for each byte order:
+  symbols N                  number of symbols examined: all, or the first 4194304
+  rms R                      the root of their mean power; `mod` sends 990
+  clipped C                  number of symbols with a component of -32768, -32767 or 32767: the receiver's input may be too strong
+  bytes big|little           the byte order
+
 Exit status:
   0  a header is repeated one frame later
   1  a usage error, or an error reported on standard error
