@@ -123,10 +123,10 @@ module _ {F : Type 0} (field : Operations F) (L : FieldLaws field) where
       (mv : IsMultiple g v) (e : length r ≡ length v) (h : length v ≤ bound) (near : differences (length r) r v ≤ t)
       (syndromes : (j : ℕ) → j < t + t → get_or S' j field.zero ≡ value field L r (power a (suc j)))
       (H : S.Shortest field (t + t) d f b delta (S.sequence_of field.zero S')) where
-    error : List Bool
+    abbrev error : List Bool
     error = added r v
 
-    xs : List F
+    abbrev xs : List F
     xs = places a error
 
     locates : S.Shortest field (t + t) d f b delta (S.power_sum field xs (λ x. x))

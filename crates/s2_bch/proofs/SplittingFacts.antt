@@ -1,7 +1,7 @@
 -- Remainders by their values at the roots of a polynomial, and polynomials with as many roots as their degree.
-use Rattle.std.specs.Prelude.{ℕ, zero, suc, ◌≡◌, ◌+◌, ◌^◌, ◌<◌, ◌≤◌, refl, Bool, true, false, Option, Some, None, IfSome, is_some, List, [], ◌∷◌, ◌++◌, length, take, drop, set}
+use Rattle.std.specs.Prelude.{ℕ, zero, suc, ◌≡◌, ◌+◌, ◌-◌, ◌^◌, ◌<◌, ◌≤◌, refl, Bool, true, false, Option, Some, None, IfSome, is_some, List, [], ◌∷◌, ◌++◌, length, take, drop, set}
 use Rattle.std.proofs.Common.{sym, ◌∙◌, ap, ap₂, subst, arith, get_or, add-one, drop-cons, drop_of_length-le, take_all, length-take-le, append-nil, pow-suc}
-use Rattle.core.specs.List.{copy_within}
+use Rattle.std.specs.List.{copy_within}
 use Rattle.s2_field.specs.Operations.{Operations}
 use Rattle.s2_field.specs.Laws.{FieldLaws}
 use Rattle.s2_field.specs.Polynomials as P
@@ -18,7 +18,10 @@ pub moved_on : {X : Type 0} (old new : List X) (n : ℕ) (x : X) → length old 
 moved_on [] new n x h e = absurd (omega arith)
 moved_on (c ∷ f) new n x h e =
     let none : drop (1 + n) (c ∷ f) ≡ [] = drop_of_length-le (c ∷ f) (omega arith) in
-    ap (λ u. set u 0 x) (e ∙ ap (λ u. (c ∷ take n (c ∷ f)) ++ u) none) ∙ ap (λ u. x ∷ u) (append-nil (take n (c ∷ f)))
+    let all : n - 0 ≡ n = omega arith in
+    ap (λ u. set u 0 x)
+    (e ∙ ap (λ k. (c ∷ take k (c ∷ f)) ++ drop (1 + k) (c ∷ f)) all ∙ ap (λ u. (c ∷ take n (c ∷ f)) ++ u) none)
+    ∙ ap (λ u. x ∷ u) (append-nil (take n (c ∷ f)))
 
 -- a polynomial of zeros has no degree
 pub without_degree : {F : Type 0} (nil : F) (f : List F) (d : Option ℕ) → IfSome d (λ n. IsDegree nil n f)
@@ -115,28 +118,29 @@ module _ {F : Type 0} (field : Operations F) (L : FieldLaws field) where
 
   -- ---- as many roots as coefficients
 
+  cons-zeros : (c : F) (f : List F) → c ≡ field.zero → ((i : ℕ) → get_or f i field.zero ≡ field.zero)
+      → (i : ℕ) → get_or (c ∷ f) i field.zero ≡ field.zero
+  cons-zeros c f h rest zero = h
+  cons-zeros c f h rest (suc i) = rest i
+
   -- all rests have the value zero at z only if all coefficients are zero
   rests-vanish : (z : F) (f : List F) → ((i : ℕ) → get_or (rests field L z f) i field.zero ≡ field.zero) → (i : ℕ) → get_or f i field.zero ≡ field.zero
-  rests-vanish z [] h i = refl
-  rests-vanish z (c ∷ g) h = at
-    where
-      tail : (i : ℕ) → get_or g i field.zero ≡ field.zero
-      tail = rests-vanish z g (λ i. h (suc i))
-
-      at : (i : ℕ) → get_or (c ∷ g) i field.zero ≡ field.zero
-      at zero = sym (ap (field.sum c) (ap (field.product z) (eval_zeros g z (λ i _. tail i)) ∙ mul-zero field L z) ∙ add_zero c) ∙ h zero
-      at (suc i) = tail i
+  rests-vanish z [] h = λ i. refl
+  rests-vanish z (c ∷ g) h =
+      let zeros : (i : ℕ) → get_or g i field.zero ≡ field.zero = rests-vanish z g (λ i. h (suc i)) in
+      cons-zeros c g
+      (sym (ap (field.sum c) (ap (field.product z) (eval_zeros g z (λ i _. zeros i)) ∙ mul-zero field L z) ∙ add_zero c) ∙ h zero)
+      zeros
 
   -- a polynomial with as many different roots as coefficients has only zeros
   roots-vanish : (f xs : List F) → length f ≤ length xs → AllDiffer xs → Each (λ x. evaluate f x ≡ field.zero) xs
       → (i : ℕ) → get_or f i field.zero ≡ field.zero
-  roots-vanish [] xs h d r i = refl
-  roots-vanish (c ∷ g) [] h d r i = absurd (omega arith)
-  roots-vanish (c ∷ g) (z ∷ xs) h d r = rests-vanish z (c ∷ g) at
-    where
-      at : (i : ℕ) → get_or (rests field L z (c ∷ g)) i field.zero ≡ field.zero
-      at zero = r.0
-      at (suc i) = roots-vanish (rests field L z g) xs (omega (arith, length-rests field L z g)) d.1 (rests-roots field L z c g xs r.0 d.0 r.1) i
+  roots-vanish [] xs h d r = λ i. refl
+  roots-vanish (c ∷ g) [] h d r = absurd (omega arith)
+  roots-vanish (c ∷ g) (z ∷ xs) h d r =
+      rests-vanish z (c ∷ g)
+      (cons-zeros (evaluate (c ∷ g) z) (rests field L z g) r.0
+      (roots-vanish (rests field L z g) xs (omega (arith, length-rests field L z g)) d.1 (rests-roots field L z c g xs r.0 d.0 r.1)))
 
   -- if the polynomial splits, the remainder of x^q is x
   pub split_remainder : (q : ℕ) (low f xs : List F) → splitting.AreItsRoots field q low xs → length f ≡ length low

@@ -88,12 +88,11 @@ impl<F: Field> FieldWorkspace<F> {
         if degree > self.t {
             return 0;
         }
-        let low = &self.locator[..degree];
         if !may_split(
-            low,
+            &self.locator[..degree],
             m,
-            &mut self.auxiliary[..degree],
-            &mut self.next[..degree],
+            &mut self.auxiliary,
+            &mut self.next,
         ) {
             return 0;
         }

@@ -5,7 +5,7 @@
 //! takes m squares, far less than a search for the roots.
 //!
 //! A polynomial here is x^d + `low`, and a remainder has d coefficients, the constant first.
-ghost use Rattle.std.specs.Prelude.{◌≡◌, ◌<◌, ◌^◌, List, false, length};
+ghost use Rattle.std.specs.Prelude.{◌≡◌, ◌<◌, ◌≤◌, ◌^◌, List, false, length};
 ghost use Rattle.s2_field.specs.Polynomials.{eval};
 ghost use Rattle.s2_bch.specs.Splitting.{IsRoot, AreItsRoots};
 
@@ -68,9 +68,8 @@ fn square<F: Field>(remainder: &mut [F], low: &[F], room: &mut [F])
     remainder.copy_from_slice(room);
 }
 
-/// Whether x^(2^m) is x modulo x^d + `low`. If not, this polynomial has fewer than d different roots
-/// in the field of 2^m elements. `remainder` and `room` are for d coefficients each.
-pub(crate) fn may_split<F: Field>(low: &[F], m: u32, remainder: &mut [F], room: &mut [F]) -> bool
+/// Whether x^(2^m) is x modulo x^d + `low`. `remainder` and `room` are for d coefficients each.
+fn power_is_x<F: Field>(low: &[F], m: u32, remainder: &mut [F], room: &mut [F]) -> bool
     requires remainder { length remainder.old ≡ length low.now }
     requires room { length room.old ≡ length low.now }
     ensures { result ≡ false → (xs : List F) → AreItsRoots F.field (2 ^ m) low.now xs → ⊥ }
@@ -85,4 +84,15 @@ pub(crate) fn may_split<F: Field>(low: &[F], m: u32, remainder: &mut [F], room: 
     }
     remainder[1] = remainder[1].add(F::one());
     degree(remainder).is_none()
+}
+
+/// False only if x^d + `low` has fewer than d different roots in the field of 2^m elements.
+/// `remainder` and `room` are for d coefficients each.
+pub(crate) fn may_split<F: Field>(low: &[F], m: u32, remainder: &mut [F], room: &mut [F]) -> bool
+    requires remainder { length low.now ≤ length remainder.old }
+    requires room { length low.now ≤ length room.old }
+    ensures { result ≡ false → (xs : List F) → AreItsRoots F.field (2 ^ m) low.now xs → ⊥ }
+{
+    let d = low.len();
+    power_is_x(low, m, &mut remainder[..d], &mut room[..d])
 }

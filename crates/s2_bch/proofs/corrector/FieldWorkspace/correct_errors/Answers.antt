@@ -69,15 +69,15 @@ returns-then-not-may_split-clause-only g c G v some roots m e near =
     c.shortest_locator-degree.ensures.2
     m e (omega (arith, c.requires.short)) (omega (arith, near, c.self.view_is))
     (2 ^ c.args.m) g.met.F.Field.order c.requires.field in
-    let low : take degree (take (degree + 1) locator) ≡ take degree c.deref-low.result.now =
+    let low : take degree (take (degree + 1) locator) ≡ take degree c.deref-2.result.now =
     take-take degree (degree + 1) locator (omega arith)
-    ∙ sym (ap (take degree) (c.deref-low.ensures.value ∙ whole _ locator _ (omega (arith, c.deref-low.ensures.len, c.shortest_locator-degree.auto.locator)))) in
+    ∙ sym (ap (take degree) (c.deref-2.ensures.value ∙ whole _ locator _ (omega (arith, c.deref-2.ensures.len, c.shortest_locator-degree.auto.locator)))) in
     absurd (c.may_split.ensures c.if-not-may_split.true places.0
     (subst (λ u. AreItsRoots f.field (2 ^ c.args.m) u places.0) low places.1))
 
 pub chien_search-requires : goal.chien_search-requires
 chien_search-requires g c = record {
-  few = omega (arith, c.if-degree-self.false, c.self.invariant.few, length-take (c.shortest_locator-degree.result + 1) c.deref-2.result.now);
+  few = omega (arith, c.if-degree-self.false, c.self.invariant.few, length-take (c.shortest_locator-degree.result + 1) c.deref-3.result.now);
   room = omega (arith, c.self.invariant.terms_fit);
   lanes = omega (arith, c.self.invariant.values_fit);
   short = c.requires.few;
@@ -105,4 +105,4 @@ returns-clause-only g c G v some roots m e near =
     c.shortest_locator-degree.ensures.2
     m e (omega (arith, c.requires.short)) (omega (arith, near, c.self.view_is))
     c.chien_search.new.word
-    (subst (λ l. FlipsRoots f.field f.alpha (take (degree + 1) l) c.args.word.now c.chien_search.new.word) (c.deref-2.ensures.value ∙ whole _ c.shortest_locator-degree.new.locator _ (omega (arith, c.deref-2.ensures.len, c.shortest_locator-degree.auto.locator))) c.chien_search.ensures.flips)
+    (subst (λ l. FlipsRoots f.field f.alpha (take (degree + 1) l) c.args.word.now c.chien_search.new.word) (c.deref-3.ensures.value ∙ whole _ c.shortest_locator-degree.new.locator _ (omega (arith, c.deref-3.ensures.len, c.shortest_locator-degree.auto.locator))) c.chien_search.ensures.flips)

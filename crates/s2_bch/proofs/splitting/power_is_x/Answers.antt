@@ -1,9 +1,9 @@
-use Rattle.std.proofs.Common.{arith, sym, ap, ap₂, ◌∙◌, ◌≡◌, ◌^◌, ℕ, length, set, not, true≢false}
+use Rattle.std.proofs.Common.{arith, sym, ap, ap₂, ◌∙◌, ◌≡◌, ◌^◌, ℕ, length, set, length-set, not, true≢false}
 use Rattle.std.proofs.lemmas.List.{get_or_read}
 use Rattle.s2_field.specs.Polynomials.{pow, eval}
 use Rattle.s2_bch.proofs.LocatorTheory.{zero-add as nil-add}
 use Rattle.s2_bch.proofs.SplittingFacts.{eval_added, next_power, split_remainder, without_degree}
-use Rattle.s2_bch.proofs.splitting.may_split.Goals as goal
+use Rattle.s2_bch.proofs.splitting.power_is_x.Goals as goal
 
 pub loop-init : goal.loop-init
 loop-init g c =
@@ -13,7 +13,7 @@ loop-init g c =
     let size : length zeros ≡ length c.args.low.now = omega (arith, c.clear.auto.polynomial, c.requires.remainder) in
     let read = get_or_read zeros 1 c.index-remainder-1.result (omega (arith, size)) c.index-remainder-1.is f.field.zero in
     record {
-      size = omega (arith, size);
+      size = length-set zeros 1 c.add.result ∙ size;
       room = c.requires.room;
       value = λ y root.
           ap (λ u. eval f.field (set zeros 1 u) y) (c.add.ensures ∙ ap₂ f.field.sum read c.one.ensures)
@@ -35,7 +35,7 @@ loop-preserved g c =
     }
 
 pub returns : goal.returns
-returns g c no xs roots =
+returns g c refused xs roots =
     let f = g.F.Field in
     let laws = g.met.F.Field.laws in
     let v = c.loop.invariant in
@@ -44,8 +44,8 @@ returns g c no xs roots =
     let end : c.loop.counter ≡ c.args.m = omega arith in
     let read = get_or_read now 1 c.index-remainder-1-2.result (omega (arith, size)) c.index-remainder-1-2.is f.field.zero in
     let last = set now 1 c.add-2.result in
-    let zeros = split_remainder f.field laws (2 ^ c.args.m) c.args.low.now last xs roots (omega (arith, size))
+    let zeros = split_remainder f.field laws (2 ^ c.args.m) c.args.low.now last xs roots (length-set now 1 c.add-2.result ∙ size)
     (λ y root. ap (λ u. eval f.field (set now 1 u) y) (c.add-2.ensures ∙ ap₂ f.field.sum read c.one-2.ensures)
     ∙ eval_added f.field laws now 1 f.field.one y (omega (arith, size))
     ∙ ap (λ u. f.field.sum u (f.field.product f.field.one (pow f.field y 1))) (v.value y root ∙ ap (λ k. pow f.field y (2 ^ k)) end)) in
-    true≢false (sym (c.is_none.ensures ∙ ap not no) ∙ without_degree f.field.zero last c.degree.result c.degree.ensures.some zeros)
+    true≢false (sym (c.is_none.ensures ∙ ap not refused) ∙ without_degree f.field.zero last c.degree.result c.degree.ensures.some zeros)

@@ -1,7 +1,7 @@
 use Rattle.std.proofs.Common.{◌≡◌, ◌^◌, length}
 use Rattle.s2_field.specs.Polynomials.{pow, eval}
 use Rattle.s2_bch.specs.Splitting.{IsRoot}
-use Rattle.s2_bch.proofs.splitting.may_split.Given as goal
+use Rattle.s2_bch.proofs.splitting.power_is_x.Given as goal
 
 abbrev pub invariant-loop : goal.invariant-loop
 invariant-loop g l =
