@@ -48,8 +48,9 @@ fn times_x<F: Field>(remainder: &mut [F], low: &[F])
     add_multiple(remainder, low, top);
 }
 
-/// Squares the remainder, modulo x^d + `low`. The square of a sum is the sum of the squares here, so
-/// it has the squares of the coefficients at x^0, x^2, x^4 and so on. `room` is for the result.
+/// Squares the remainder, modulo x^d + `low`. The square of a sum is the sum of the squares in this
+/// field. So the square has the coefficients' squares at x^0, x^2, x^4 and so on, and Horner's rule
+/// in x^2 adds them up. `room` is for the result.
 fn square<F: Field>(remainder: &mut [F], low: &[F], room: &mut [F])
     requires same_size { length low.now ≡ length remainder.old }
     requires room { length room.old ≡ length remainder.old }
