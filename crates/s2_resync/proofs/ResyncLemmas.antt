@@ -18,7 +18,7 @@ alike a b g l p =
 sync_front : (xs ys : List ℕ) (k : ℕ) → k < length xs → has_sync (xs ++ ys) k ≡ has_sync xs k
 sync_front xs ys k inside =
     let both : nat_lt k (length (xs ++ ys)) ≡ nat_lt k (length xs) =
-        lt-ltb k (length (xs ++ ys)) (omega (arith, inside, length-append xs ys)) ∙ sym (lt-ltb k (length xs) inside) in
+    lt-ltb k (length (xs ++ ys)) (omega (arith, inside, length-append xs ys)) ∙ sym (lt-ltb k (length xs) inside) in
     ap₂ (λ (a : Bool) (byte : ℕ). a && (byte == 71)) both (get_or_append_left xs ys 0 k inside)
 
 pub five_front : (xs ys : List ℕ) → 753 ≤ length xs → begins false (xs ++ ys) ≡ begins false xs
@@ -122,6 +122,7 @@ sync_later x xs k = ap (λ (a : Bool). a && (get_or xs k 0 == 71)) refl
 pub barren_without : (n : ℕ) (xs ys : List ℕ) → n ≤ length xs → ((k : ℕ) → k < n → has_sync xs k ≡ false) → Barren n (xs ++ ys)
 barren_without zero xs ys le none = tt
 barren_without (suc n) [] ys le none = absurd (omega (arith, le))
-barren_without (suc n) (x ∷ xs) ys le none =
-    (no_sync_no_five (x ∷ (xs ++ ys)) (sync_front (x ∷ xs) ys 0 (omega arith) ∙ none 0 (omega arith)),
-     barren_without n xs ys (omega (arith, le)) (λ k less. sym (sync_later x xs k) ∙ none (suc k) (omega (arith, less))))
+barren_without (suc n) (x ∷ xs) ys le none = (
+  no_sync_no_five (x ∷ (xs ++ ys)) (sync_front (x ∷ xs) ys 0 (omega arith) ∙ none 0 (omega arith)),
+  barren_without n xs ys (omega (arith, le)) (λ k less. sym (sync_later x xs k) ∙ none (suc k) (omega (arith, less))),
+)

@@ -132,7 +132,11 @@ pub(crate) fn seek<R: CountedRead>(
             return Ok(false);
         }
         let is_last = ahead.len() < wanted;
-        let count = if is_last { ahead.len() } else { next_sync(ahead) };
+        let count = if is_last {
+            ahead.len()
+        } else {
+            next_sync(ahead)
+        };
         leave_out(step, ahead, count)?;
         if is_last {
             return Ok(false);

@@ -109,12 +109,14 @@ The report, at the end:
 Exits:
   0  all packets are sent
   1  a usage fault, or a fault that standard error tells: the frames before a packet that is refused stand in SYMBOLS
+  2  with --resync: bytes were left out
 
 Notes, on standard error:
   these rows are not the standard's for MODE           no other modem receives this, but one that has the same rows
   MODE wants N rows of addresses below M               the row file that is refused is to have these
   packet I begins at byte B                            the packet that is refused, and what to strip of packets of 192 or 204 bytes
   five sync bytes at distance D begin at byte B        where the packets of a file begin whose first or second is refused, and what to try
+  N bytes left out in M places                         with --resync: wrong sync bytes and what follows, up to the next five sync bytes
 
 Files:
   --codewords and --bbframes write records of the frames, and none of a dummy frame. Each takes `-` too.
@@ -217,6 +219,7 @@ const RUN_MORE: &str = report!(
 ",
     "  packet I begins at byte B                            the packet that is refused, and what to strip of packets of 192 or 204 bytes
   five sync bytes at distance D begin at byte B        where the packets of a file begin whose first or second is refused, and what to try
+  N bytes left out in M places                         with --resync: wrong sync bytes and what follows, up to the next five; the exit is 2
 ",
     ", and the packets",
     "  s2 run --modcod qpsk1/2 --pilots --seed 1 --level 100 rows packets.ts received.ts

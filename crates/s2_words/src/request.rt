@@ -119,12 +119,13 @@ pub enum Progress {
     Hidden,
 }
 
-/// `mod`: a link, the number of frames between dummy frames (0 for none), whether notes are left out, whether
-/// progress is shown, the records (codewords and BBFRAMEs), and the files.
+/// `mod`: a link, the number of frames between dummy frames (0 for none), whether it goes on after a wrong sync byte, whether
+/// notes are left out, whether progress is shown, the records (codewords and BBFRAMEs), and the files.
 #[derive(Clone, Copy)]
 pub struct ModWords<'a> {
     pub link: LinkWords,
     pub dummy: u16,
+    pub resync: bool,
     pub quiet: bool,
     pub progress: Progress,
     pub records: RecordWords<'a>,
@@ -199,13 +200,14 @@ pub struct DemodWords<'a> {
     pub packets: &'a str,
 }
 
-/// `run`: a link, the number of frames between dummy frames (0 for none), the tuning, a channel, the seeds of its runs
+/// `run`: a link, the number of frames between dummy frames (0 for none), whether it goes on after a wrong sync byte, the tuning, a channel, the seeds of its runs
 /// if there are many (the channel's seed is then the first of them), the notes, of how many frames one has its line (0 if
 /// each has it), whether progress is shown, the records, and the files.
 #[derive(Clone, Copy)]
 pub struct RunWords<'a> {
     pub link: LinkWords,
     pub dummy: u16,
+    pub resync: bool,
     pub tuning: TuningWords,
     pub channel: ChannelWords,
     pub seeds: Option<Seeds>,
