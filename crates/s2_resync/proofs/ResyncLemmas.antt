@@ -1,6 +1,7 @@
 -- What is made of damaged streams.
-use Rattle.std.proofs.Common.{◌≡◌, ⊤, ⊥, ℕ, zero, suc, ◌+◌, ◌-◌, ◌<◌, ◌≤◌, ◌==◌, ◌&&◌, nat_lt, nat_le, Bool, true, false, List, [], ◌∷◌, ◌++◌, length, take, drop, get_or, Option, None, Some, refl, sym, ap, ap₂, ◌∙◌, length-append, lt-ltb, le-ltb, le-leb, arith}
-use Rattle.std.specs.Prelude.{if◌then◌else◌}
+use Rattle.std.proofs.Common.{◌≡◌, ℕ, zero, suc, ◌+◌, ◌-◌, ◌<◌, ◌≤◌, inl, inr, ◌==◌, ◌&&◌, nat_lt, nat_le, Bool, true, false, List, [], ◌∷◌, ◌++◌, length, take, drop, get_or, Option, None, Some, refl, sym, ap, ap₂, ◌∙◌, length-append, lt-ltb, le-ltb, le-leb, arith}
+use Rattle.std.specs.Prelude.{⊤, if◌then◌else◌}
+use Rattle.std.proofs.lemmas.Bool.{cases_lt}
 use Rattle.std.proofs.lemmas.List.{get_or_append_left}
 use Rattle.s2_resync.specs.Syncs.{has_sync, has_five}
 use Rattle.s2_resync.specs.Packets.{Resynced, after_losses, after_packet, begins, resync, with_byte, without_byte}
@@ -114,9 +115,15 @@ barren_few zero xs few = tt
 barren_few (suc n) [] few = tt
 barren_few (suc n) (x ∷ xs) few = (few_are_none (x ∷ xs) few, barren_few n xs (omega (arith, few)))
 
+later : (k n : ℕ) → nat_lt (suc k) (suc n) ≡ nat_lt k n
+later k n = elim (cases_lt k n) [
+  | inl less ↦ lt-ltb (suc k) (suc n) (omega (arith, less)) ∙ sym (lt-ltb k n less)
+  | inr more ↦ le-ltb (suc k) (suc n) (omega (arith, more)) ∙ sym (le-ltb k n more)
+]
+
 -- a place of the tail is the next one of the whole
 sync_later : (x : ℕ) (xs : List ℕ) (k : ℕ) → has_sync (x ∷ xs) (suc k) ≡ has_sync xs k
-sync_later x xs k = ap (λ (a : Bool). a && (get_or xs k 0 == 71)) refl
+sync_later x xs k = ap (λ (a : Bool). a && (get_or xs k 0 == 71)) (later k (length xs))
 
 -- those without a sync byte are
 pub barren_without : (n : ℕ) (xs ys : List ℕ) → n ≤ length xs → ((k : ℕ) → k < n → has_sync xs k ≡ false) → Barren n (xs ++ ys)

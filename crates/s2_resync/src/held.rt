@@ -12,6 +12,7 @@ pub(crate) const MOST_HELD: usize = 753;
 pub(crate) fn remove_front(bytes: &mut Vec<u8>, count: usize)
     requires { count ≤ vec_len bytes.old }
     ensures rest { bytes.new.items ≡ drop count bytes.old.items }
+    ensures fewer { vec_len bytes.new ≤ vec_len bytes.old }
     ensures room { vec_capacity bytes.new ≡ vec_capacity bytes.old }
 {
     let left = bytes.len() - count;

@@ -1,11 +1,11 @@
 //! A reader that gives the packets of a damaged stream.
 ghost use Rattle.std.specs.Prelude.{◌≡◌, ◌+◌, ◌<◌, ◌≤◌, ◌==◌, ◌^◌, true, false, [], Some, IfOk, OnOk, length, vec_len, if◌then◌else◌};
 ghost use Rattle.std.specs.Io.KnownBytes.{IsAtEnd, ReadConsumes};
-ghost use Rattle.s2_mode.specs.Counts.{CanCount, CountsFault};
+ghost use Rattle.s2_mode.specs.Counts.{CanCount, CountsFault, counted_with};
 ghost use Rattle.s2_resync.specs.Packets.{KeepsLosses, given_by, outcome};
 
 use crate::held::{MOST_HELD, give};
-use crate::seek::{Step, begin_packet, seek};
+use crate::seek::{Step, refill};
 use s2_bbframe::PACKET_BYTES;
 use s2_mode::{Counted, CountedRead, ReadFault};
 use std::alloc::{AllocError, Global};
@@ -68,7 +68,7 @@ impl<R: CountedRead> PacketReader<R> {
         R: Drop,
         ensures coming { IfOk result (λ p. (p.packet ≡ []) × (p.coming ≡ R.remaining inner) × (p.in_step ≡ true)) }
         ensures none { IfOk result (λ p. (p.left_out ≡ 0) × (p.places ≡ 0)) }
-        ensures failed { IfOk result (λ p. p.failed ≡ R.count inner) }
+        ensures failed { IfOk result (λ p. p.failed ≡ counted_with (R.count inner) 0) }
     {
         let packet = Vec::with_capacity(alloc, PACKET_BYTES)?;
         let ahead = Vec::with_capacity(alloc, MOST_HELD)?;
@@ -115,9 +115,12 @@ impl<R: CountedRead> CountedRead for PacketReader<R> {
         ensures end { IfOk result (λ n. n ≡ 0 → 0 < length buf.new → IsAtEnd self.new.coming) }
         ensures losses { KeepsLosses (outcome self.old) (outcome self.new) }
     {
-        if self.packet.is_empty() && seek(&mut self.inner, &mut self.ahead, &mut self.step)? {
-            begin_packet(&mut self.packet, &mut self.ahead, &mut self.step);
-        }
+        refill(
+            &mut self.inner,
+            &mut self.packet,
+            &mut self.ahead,
+            &mut self.step,
+        )?;
         Ok(give(&mut self.packet, buf))
     }
 }

@@ -1,10 +1,10 @@
 //! The search for the place where the next packet begins.
-ghost use Rattle.std.specs.Prelude.{◌≡◌, ◌+◌, ◌<◌, ◌≤◌, ℕ, true, false, [], IfOk, IfSome, OnOk, OnErr, length, take, drop, vec_len, vec_capacity, if◌then◌else◌};
+ghost use Rattle.std.specs.Prelude.{◌≡◌, ◌+◌, ◌^◌, ◌<◌, ◌≤◌, ℕ, true, false, [], IfOk, IfSome, OnOk, OnErr, length, take, drop, vec_len, vec_capacity, if◌then◌else◌};
 ghost use Rattle.std.specs.Io.KnownBytes.{IsAtEnd, prepend_known};
 ghost use Rattle.s2_mode.specs.Counts.{CanCount, CountsFault, counted_with};
 ghost use Rattle.s2_resync.specs.Syncs.{has_sync};
 ghost use Rattle.s2_resync.specs.Packets as packets;
-ghost use Rattle.s2_resync.specs.Steps.{Begins, Leads, after_gap, step_outcome};
+ghost use Rattle.s2_resync.specs.Steps.{Begins, Leads, after_gap, packet_outcome, step_outcome};
 
 use crate::held::{MOST_HELD, hold, remove_front};
 use crate::syncs::{has_five, has_sync};
@@ -37,7 +37,8 @@ impl Step {
 
     /// The step after bytes that are left out. `None` if the counts are at their limit.
     fn after_gap(self, count: usize) -> Option<Step>
-        ensures { IfSome result (λ step. step ≡ after_gap count self) }
+        ensures gap { IfSome result (λ step. step ≡ after_gap count self) }
+        ensures fits { IfSome result (λ step. step.left_out < 2 ^ 64) }
     {
         Some(Step {
             in_step: false,
@@ -81,12 +82,30 @@ fn next_sync(bytes: &[u8]) -> usize
     bytes.len()
 }
 
+/// How many of the bytes that are held are left out, if no packet begins with the first: all if they are the last ones of the
+/// stream, or else those before the next sync byte.
+fn gap_in(is_last: bool, bytes: &[u8]) -> usize
+    requires { 0 < length bytes.now }
+    ensures further { 0 < result }
+    ensures inside { result ≤ length bytes.now }
+    ensures last { is_last ≡ true → result ≡ length bytes.now }
+    ensures none { is_last ≡ false → (place : ℕ) → 0 < place → place < result → has_sync bytes.now place ≡ false }
+{
+    if is_last {
+        bytes.len()
+    } else {
+        next_sync(bytes)
+    }
+}
+
 /// Leaves out the first of the bytes that are held.
 fn leave_out(step: &mut Step, ahead: &mut Vec<u8>, count: usize) -> Result<(), ReadFault>
     requires there { count ≤ vec_len ahead.old }
     requires refused { CanCount step.old.refused }
     ensures gap { OnOk result (step.new ≡ after_gap count step.old) }
     ensures rest { OnOk result (ahead.new.items ≡ drop count ahead.old.items) }
+    ensures fits { OnOk result (step.new.left_out < 2 ^ 64) }
+    ensures fewer { vec_len ahead.new ≤ vec_len ahead.old }
     ensures full { OnErr result (step.new ≡ record step.old { refused = step.old.refused + 1 }) }
     ensures kept { OnErr result (ahead.new ≡ ahead.old) }
     ensures room { vec_capacity ahead.new ≡ vec_capacity ahead.old }
@@ -105,7 +124,7 @@ fn leave_out(step: &mut Step, ahead: &mut Vec<u8>, count: usize) -> Result<(), R
 }
 
 /// Leaves out bytes until a packet begins with those that are held, or there are no more. Returns whether one begins.
-pub(crate) fn seek<R: CountedRead>(
+fn seek<R: CountedRead>(
     reader: &mut R,
     ahead: &mut Vec<u8>,
     step: &mut Step,
@@ -144,13 +163,37 @@ pub(crate) fn seek<R: CountedRead>(
     }
 }
 
+/// Moves on to the next packet, unless bytes of a packet are left. After that no bytes are left only if there is none.
+pub(crate) fn refill<R: CountedRead>(
+    reader: &mut R,
+    packet: &mut Vec<u8>,
+    ahead: &mut Vec<u8>,
+    step: &mut Step,
+) -> Result<(), ReadFault>
+    requires count { CanCount (counted_with (R.count reader.old) step.old.refused) }
+    requires held { vec_len ahead.old ≤ 753 }
+    requires room { (188 ≤ vec_capacity packet.old) × (753 ≤ vec_capacity ahead.old) }
+    ensures leads { Leads (packet_outcome packet.old.items step.old (prepend_known ahead.old.items (R.remaining reader.old)))
+        (packet_outcome packet.new.items step.new (prepend_known ahead.new.items (R.remaining reader.new))) }
+    ensures end { OnOk result (vec_len packet.new ≡ 0 → IsAtEnd (prepend_known ahead.new.items (R.remaining reader.new))) }
+    ensures held { vec_len ahead.new ≤ 753 }
+    ensures room { (188 ≤ vec_capacity packet.new) × (753 ≤ vec_capacity ahead.new) }
+    ensures cause { CountsFault (counted_with (R.count reader.old) step.old.refused) (counted_with (R.count reader.new) step.new.refused) result }
+{
+    if packet.is_empty() && seek(reader, ahead, step)? {
+        begin_packet(packet, ahead, step);
+    }
+    Ok(())
+}
+
 /// Moves the packet that begins with the first byte out of the bytes that are held.
-pub(crate) fn begin_packet(packet: &mut Vec<u8>, ahead: &mut Vec<u8>, step: &mut Step)
+fn begin_packet(packet: &mut Vec<u8>, ahead: &mut Vec<u8>, step: &mut Step)
     requires whole { 188 ≤ vec_len ahead.old }
     requires none { vec_len packet.old ≡ 0 }
     requires room { 188 ≤ vec_capacity packet.old }
     ensures packet { packet.new.items ≡ take 188 ahead.old.items }
     ensures rest { ahead.new.items ≡ drop 188 ahead.old.items }
+    ensures fewer { vec_len ahead.new ≤ vec_len ahead.old }
     ensures step { step.new ≡ record step.old { in_step = true } }
     ensures room { 188 ≤ vec_capacity packet.new }
     ensures ahead { vec_capacity ahead.new ≡ vec_capacity ahead.old }

@@ -63,7 +63,7 @@ pub(crate) fn errors_of<'t, 'r, R: Disk>(terminal: &'t Terminal<'r, R>) -> Error
 
 /// The output of a command. Its report goes to standard error if one of its files takes standard output. Of `every`
 /// frames only one has its line there; if this is 0, each has it.
-pub(crate) fn screen_beside<'t, 'r, R: Disk>(
+pub(crate) fn screen_beside<'t, 'r, R: Disk + AllocGlobal>(
     terminal: &'t Terminal<'r, R>,
     taken: bool,
     every: u32,
@@ -239,7 +239,8 @@ fn source_of<'a, R: CountedRead + Drop>(
     reader: R,
     resync: bool,
 ) -> Result<PacketSource<R, PacketReader<R>>, Fault<'a>>
-    ensures { IfOk result (λ source. either R.count (λ p. p.failed) source.reader ≡ R.count reader) }
+    requires { R.count reader ≡ 0 }
+    ensures { IfOk result (λ source. either R.count (λ p. p.failed) source.reader ≡ 0) }
 {
     if !resync {
         return Ok(PacketSource::plain(reader));

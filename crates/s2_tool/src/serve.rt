@@ -88,7 +88,7 @@ pub(crate) fn request_of<'a>(alloc: Global, words: &'a Words) -> Result<Request<
 
 /// Reports why there is no request: prints help on standard output, or a usage fault on standard error, or reports that
 /// memory ran out.
-pub(crate) fn explain<R: Disk + Print + Eprint>(
+pub(crate) fn explain<R: Disk + AllocGlobal + Print + Eprint>(
     rt: &R,
     terminal: &Terminal<'_, R>,
     unread: &Unread,
