@@ -122,7 +122,7 @@ later k n = elim (cases_lt k n) [
 ]
 
 -- a place of the tail is the next one of the whole
-sync_later : (x : ℕ) (xs : List ℕ) (k : ℕ) → has_sync (x ∷ xs) (suc k) ≡ has_sync xs k
+pub sync_later : (x : ℕ) (xs : List ℕ) (k : ℕ) → has_sync (x ∷ xs) (suc k) ≡ has_sync xs k
 sync_later x xs k = ap (λ (a : Bool). a && (get_or xs k 0 == 71)) (later k (length xs))
 
 -- those without a sync byte are

@@ -6,7 +6,7 @@ use Rattle.std.specs.Io.KnownBytes.{Consumes, IsAtEnd, Keeps, prepend_known}
 use Rattle.std.proofs.lemmas.Bool.{cases_lt, ltb-false}
 use Rattle.std.proofs.lemmas.List.{drop-append-le, take-append-le, take-append-drop}
 use Rattle.s2_resync.specs.Syncs.{has_sync}
-use Rattle.s2_resync.specs.Packets.{Resynced, KeepsLosses, after_losses, after_packet, begins, resync}
+use Rattle.s2_resync.specs.Packets.{Packets, Resynced, KeepsLosses, after_losses, after_packet, begins, given_by, outcome, resync}
 use Rattle.s2_resync.specs.Steps.{Begins, Leads, after_gap, packet_outcome, step_makes, step_outcome}
 use Rattle.s2_resync.specs.declared.seek.Step.{Step}
 use Rattle.s2_resync.proofs.ResyncLemmas.{Barren, barren_few, barren_without, begins_front, begun, few_are_none, gap, sync_later}
@@ -182,15 +182,21 @@ given_on (Some x) s None packet bs rest led is = absurd led
 given_on (Some x) s (Some ys) packet bs rest led is =
     let made = step_makes s ys in (
       sym (ap (λ (r : Resynced). r.given) led) ∙ ap (λ l. l ++ made.given) is ∙ append_assoc bs rest made.given,
-      ap (λ (r : Resynced). r.left_out) led,
-      ap (λ (r : Resynced). r.places) led,
+      (ap (λ (r : Resynced). r.left_out) led, ap (λ (r : Resynced). r.places) led),
     )
+
+-- the same of a reader of packets
+pub reads : (p : Packets) (s0 s : Step) (c0 c : Option (List ℕ)) (packet0 packet bs rest : List ℕ) → outcome p ≡ packet_outcome packet0 s0 c0
+    → Leads (packet_outcome packet0 s0 c0) (packet_outcome packet s c) → packet ≡ bs ++ rest → Consumes (given_by p) (option_map (λ r. r.given) (packet_outcome rest s c)) bs
+reads p s0 s c0 c packet0 packet bs rest is led parts =
+    subst (λ (o : Option Resynced). Consumes (option_map (λ r. r.given) o) (option_map (λ r. r.given) (packet_outcome rest s c)) bs) (sym is)
+    (given_on (packet_outcome packet0 s0 c0) s c packet bs rest led parts).0
 
 -- nothing is given
 pub given_still : (o o' : Option Resynced) → Leads o o' → Keeps (option_map (λ r. r.given) o) (option_map (λ r. r.given) o') × KeepsLosses o o'
 given_still None o' led = (tt, tt)
 given_still (Some x) None led = absurd led
-given_still (Some x) (Some y) led = (ap (λ (r : Resynced). r.given) led, ap (λ (r : Resynced). r.left_out) led, ap (λ (r : Resynced). r.places) led)
+given_still (Some x) (Some y) led = (ap (λ (r : Resynced). r.given) led, (ap (λ (r : Resynced). r.left_out) led, ap (λ (r : Resynced). r.places) led))
 
 no_bytes : (in_step : Bool) → (resync in_step 0 []).given ≡ []
 unfolding resync

@@ -4,14 +4,14 @@ use Rattle.std.specs.Option.{option_map}
 use Rattle.s2_bbframe.specs.Limits.{packet_bytes}
 use Rattle.s2_resync.specs.Syncs.{has_sync, has_five}
 
--- what is made of a stream: the bytes of its packets, how many bytes are left out, and at how many places
+-- the result of a stream: the bytes of its packets, the number of bytes left out, and the number of their places
 pub record Resynced : Type 0 where
   pub given : List ℕ
   pub left_out : ℕ
   pub places : ℕ
 
--- Whether a packet begins with the first of these bytes. Where a packet is expected (`in_step`), at the beginning of a
--- stream and after a packet, a sync byte is enough, if 188 bytes are there. Elsewhere it takes five sync bytes at
+-- Whether a packet begins with the first of these bytes. At the beginning of a stream and after a packet, a packet is
+-- expected (`in_step`): then a sync byte is enough, if 188 bytes are there. Otherwise it takes five sync bytes at
 -- distance 188
 abbrev pub begins : Bool → List ℕ → Bool
 begins in_step bytes = if in_step then has_sync bytes 0 && nat_le packet_bytes (length bytes) else has_five bytes 0 packet_bytes
@@ -20,20 +20,20 @@ begins in_step bytes = if in_step then has_sync bytes 0 && nat_le packet_bytes (
 abbrev pub with_byte : ℕ → Resynced → Resynced
 with_byte byte r = record r { given = byte ∷ r.given }
 
--- one more byte that is left out: at a place of its own if a packet was expected there
+-- one more byte is left out; it begins a place if a packet was expected there
 abbrev pub without_byte : Bool → Resynced → Resynced
 without_byte in_step r = record r { left_out = r.left_out + 1; places = r.places + (if in_step then 1 else 0) }
 
--- What is made of bytes, of which the first ones, `left` in number, belong to a packet that has begun. After a packet the
--- next one is expected. If none begins there, bytes are left out up to the place where one begins
+-- The result of bytes. The first `left` bytes belong to a packet that has begun. After a packet the next one is expected. If
+-- none begins there, bytes are left out until one begins
 unfoldable pub resync : Bool → ℕ → List ℕ → Resynced
 resync in_step left [] = record { given = []; left_out = 0; places = 0 }
 resync in_step (suc left) (byte ∷ bytes) = with_byte byte (resync in_step left bytes)
 resync in_step zero (byte ∷ bytes) =
     if begins in_step (byte ∷ bytes) then with_byte byte (resync true 187 bytes) else without_byte in_step (resync false 0 bytes)
 
--- A reader of packets: what is left of the packet that it gives, the bytes after that, if they are known, whether a packet
--- is expected there, what it has left out so far, and its failed calls
+-- A reader of packets: the rest of its packet; the bytes after that, if they are known, and whether a packet is expected
+-- there; the bytes left out so far, and their places; and its failed calls
 pub record Packets : Type 0 where
   pub packet : List ℕ
   pub coming : Option (List ℕ)
@@ -42,7 +42,7 @@ pub record Packets : Type 0 where
   pub places : ℕ
   pub failed : ℕ
 
--- what is made of bytes, after so many were left out at so many places
+-- the result of bytes, after others were left out
 abbrev pub after_losses : ℕ → ℕ → Resynced → Resynced
 after_losses left_out places r = record r { left_out = left_out + r.left_out; places = places + r.places }
 
@@ -50,7 +50,7 @@ after_losses left_out places r = record r { left_out = left_out + r.left_out; pl
 abbrev pub after_packet : List ℕ → Resynced → Resynced
 after_packet packet r = record r { given = packet ++ r.given }
 
--- what a reader of packets makes of the bytes after its packet
+-- the result of a reader of packets, by the bytes after its packet
 abbrev pub made_of : Packets → List ℕ → Resynced
 made_of p bytes = after_packet p.packet (after_losses p.left_out p.places (resync p.in_step 0 bytes))
 

@@ -4,7 +4,7 @@ use Rattle.std.specs.Option.{option_map}
 use Rattle.s2_resync.specs.declared.seek.Step.{Step}
 use Rattle.s2_resync.specs.Packets.{Resynced, after_losses, after_packet, begins, resync}
 
--- what is made of bytes from a step on
+-- the result of bytes from a step on
 abbrev pub step_makes : Step → List ℕ → Resynced
 step_makes s bytes = after_losses s.left_out s.places (resync s.in_step 0 bytes)
 

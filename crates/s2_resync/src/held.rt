@@ -20,7 +20,7 @@ pub(crate) fn remove_front(bytes: &mut Vec<u8>, count: usize)
     bytes.truncate(left);
 }
 
-/// Moves bytes from the front into a buffer, as many as both have. Returns how many.
+/// Moves bytes from the front into a buffer, until one is empty or the other is full. Returns their number.
 pub(crate) fn give(bytes: &mut Vec<u8>, buf: &mut [u8]) -> usize
     ensures count { result ≡ min (vec_len bytes.old) (length buf.old) }
     ensures moved { bytes.old.items ≡ take result buf.new ++ bytes.new.items }
@@ -33,7 +33,7 @@ pub(crate) fn give(bytes: &mut Vec<u8>, buf: &mut [u8]) -> usize
     count
 }
 
-/// Reads on until so many bytes are held, or the reader is at its end.
+/// Reads until `wanted` bytes are held, or the reader is at its end.
 pub(crate) fn hold<R: CountedRead>(
     reader: &mut R,
     held: &mut Vec<u8>,

@@ -11,7 +11,7 @@ use s2_mode::{Counted, CountedRead, ReadFault};
 use std::alloc::{AllocError, Global};
 use std::marker::Model;
 
-/// What a reader of packets has left out: the number of bytes, and the number of places where they were.
+/// The bytes that a reader of packets has left out: their number, and the number of their places.
 #[derive(Clone, Copy, Debug, PartialEq, Eq)]
 pub struct LeftOut {
     pub bytes: u64,
@@ -22,7 +22,7 @@ pub struct LeftOut {
 /// each packet. If the byte there is no sync byte, or fewer than 188 bytes are left, bytes are left out up to the next place
 /// from which five sync bytes follow each other at distance 188. If there is no such place, all the rest is left out.
 ///
-/// It reads no more than the packet that is asked for, except after a wrong byte: then it reads 753 bytes from there on.
+/// It reads one packet at a time. After a wrong byte it reads 753 bytes from there on.
 pub struct PacketReader<R: CountedRead> {
     inner: R,
     packet: Vec<u8>,
@@ -80,7 +80,7 @@ impl<R: CountedRead> PacketReader<R> {
         })
     }
 
-    /// What it has left out so far.
+    /// The bytes that it has left out so far.
     pub fn left_out(&self) -> LeftOut
         ensures bytes { result.bytes ≡ self.now.left_out }
         ensures places { result.places ≡ self.now.places }

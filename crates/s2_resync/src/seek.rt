@@ -1,4 +1,4 @@
-//! The search for the place where the next packet begins.
+//! The search for the next packet.
 ghost use Rattle.std.specs.Prelude.{◌≡◌, ◌+◌, ◌^◌, ◌<◌, ◌≤◌, ℕ, true, false, [], IfOk, IfSome, OnOk, OnErr, length, take, drop, vec_len, vec_capacity, if◌then◌else◌};
 ghost use Rattle.std.specs.Io.KnownBytes.{IsAtEnd, prepend_known};
 ghost use Rattle.s2_mode.specs.Counts.{CanCount, CountsFault, counted_with};
@@ -11,8 +11,8 @@ use crate::syncs::{has_five, has_sync};
 use s2_bbframe::PACKET_BYTES;
 use s2_mode::{CountedRead, ReadFault};
 
-/// Where a reader of packets is: whether a packet is expected at the next byte, how many bytes it has left out, at how many
-/// places, and how often it failed because these counts were at their limit.
+/// The state of a reader of packets: whether a packet is expected at the next byte, the numbers of bytes left out and of their
+/// places, and the number of calls that failed because these numbers were at their limit.
 #[derive(Clone, Copy)]
 pub(crate) struct Step {
     pub in_step: bool,
@@ -49,7 +49,7 @@ impl Step {
     }
 }
 
-/// How many bytes show whether a packet begins.
+/// The number of bytes that show whether a packet begins.
 fn wanted(in_step: bool) -> usize
     ensures { result ≡ (if in_step then 188 else 753) }
 {
@@ -82,8 +82,8 @@ fn next_sync(bytes: &[u8]) -> usize
     bytes.len()
 }
 
-/// How many of the bytes that are held are left out, if no packet begins with the first: all if they are the last ones of the
-/// stream, or else those before the next sync byte.
+/// The number of bytes to leave out if no packet begins with the first. These are all bytes that are held if the stream ends
+/// with them, or else those before the next sync byte.
 fn gap_in(is_last: bool, bytes: &[u8]) -> usize
     requires { 0 < length bytes.now }
     ensures further { 0 < result }
@@ -151,11 +151,7 @@ fn seek<R: CountedRead>(
             return Ok(false);
         }
         let is_last = ahead.len() < wanted;
-        let count = if is_last {
-            ahead.len()
-        } else {
-            next_sync(ahead)
-        };
+        let count = gap_in(is_last, ahead);
         leave_out(step, ahead, count)?;
         if is_last {
             return Ok(false);

@@ -34,7 +34,7 @@ impl<R, P> PacketSource<R, P> {
 }
 
 impl<R: CountedRead> PacketSource<R, PacketReader<R>> {
-    /// What a reader of packets has left out so far. Of bytes that are taken as they are nothing is.
+    /// The bytes that a reader of packets has left out so far. A plain reader leaves out none.
     pub fn left_out(&self) -> LeftOut {
         match &self.reader {
             Left(_) => LeftOut {

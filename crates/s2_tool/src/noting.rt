@@ -22,7 +22,7 @@ pub(crate) struct Named<'t, 'r, 'a, R> {
 }
 
 impl<'t, 'r, 'a, R: Disk> Named<'t, 'r, 'a, R> {
-    /// This name on the command line, or what it stands for.
+    /// A name on the command line, or that of its standard stream.
     pub(crate) fn new(
         terminal: &'t Terminal<'r, R>,
         role: Role,

@@ -211,7 +211,7 @@ pub(crate) fn open_judge<'t, 'r, 'a, R: Disk + AllocGlobal>(
 pub(crate) struct Reading {
     /// Whether it has a buffer.
     pub buffered: bool,
-    /// Whether only its packets are read, after a wrong sync byte from the next place on where packets begin.
+    /// Whether only its packets are read, and damaged ones left out.
     pub resync: bool,
 }
 

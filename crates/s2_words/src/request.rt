@@ -119,8 +119,8 @@ pub enum Progress {
     Hidden,
 }
 
-/// `mod`: a link, the number of frames between dummy frames (0 for none), whether it goes on after a wrong sync byte, whether
-/// notes are left out, whether progress is shown, the records (codewords and BBFRAMEs), and the files.
+/// `mod`: a link, the number of frames between dummy frames (0 for none), and whether it goes on after a wrong sync byte;
+/// whether notes are left out, whether progress is shown, the records (codewords and BBFRAMEs), and the files.
 #[derive(Clone, Copy)]
 pub struct ModWords<'a> {
     pub link: LinkWords,
@@ -200,8 +200,8 @@ pub struct DemodWords<'a> {
     pub packets: &'a str,
 }
 
-/// `run`: a link, the number of frames between dummy frames (0 for none), whether it goes on after a wrong sync byte, the tuning, a channel, the seeds of its runs
-/// if there are many (the channel's seed is then the first of them), the notes, of how many frames one has its line (0 if
+/// `run`: a link, the number of frames between dummy frames (0 for none), and whether it goes on after a wrong sync byte; the
+/// tuning, a channel, the seeds of its runs if there are many (the channel's seed is then the first of them), the notes, of how many frames one has its line (0 if
 /// each has it), whether progress is shown, the records, and the files.
 #[derive(Clone, Copy)]
 pub struct RunWords<'a> {
