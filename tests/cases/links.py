@@ -124,6 +124,7 @@ MOD = [
     *(fault("mod --modcod 1 --quiet normal4 in out", no_sync(at)[0], reads={"in": packets}, writes={"out": b""}) for packets, at, _ in SIZES),
     *(case for it in BEGINNINGS for case in begun(*it)),
     refused(bytes(111) + 5 * PACKET, no_sync(1), beginning(111, 188, "'it'\\''s'"), "mod --modcod 1 normal4 it's out", links={"it's": ("hard", "in")}),
+    refused(bytes(111) + 5 * PACKET, no_sync(1), beginning(111, 188, "FILE"), "mod --modcod 1 normal4 it\x1b[31m out", links={"it\x1b[31m": ("hard", "in")}),
     # the full frame is written
     fault(f"mod {LINK} made in out", *no_sync(3), reads={"in": 2 * PACKET + b"\x48" + bytes(187)}, writes={"out": size(32_760)}),
     fault(f"mod {LINK} made in -", *no_sync(1), reads={"in": bytes(188)}),

@@ -9,7 +9,7 @@ from cases.common import (
 )  # fmt: skip
 from cases.drawn import gaussian, made_rows, spoilt
 from cases.judging import HARD_NOTE, LEFT
-from cases.links import NOISY, NONE, PARITY, SAMPLES, wrong_headers
+from cases.links import NOISY, NONE, PARITY, SAMPLES, no_sync, wrong_headers
 from cases.modes import PACKETS, WORDS
 from cases.strength import nothing_found
 from cases.words import WANTED_NORMAL
@@ -171,6 +171,11 @@ def mod_effects(two, dummy):
     yield Effect("--short", "mod --modcod 1 {} made packets out", {"--short": whole, "": refused(TOO_FEW, WANTED_NORMAL, out=b"")})
     yield Effect("--dummy", f"mod {LINK} {{}} made packets out", by_default("--dummy", 0, 1, whole, apart))
     yield Effect("--quiet", f"mod {LINK} {{}} made packets out", {"": ended(sent, FINE, noted(ROWS_NOTE), out=two), "--quiet": whole}, {"noted": True})
+    spoilt_packet, left_out = {"reads": {"in": 2 * PACKET + b"\x48" + bytes(187)}}, noted("188 bytes left out in 1 place")
+    ends = {"": refused(*no_sync(3), out=one), "--resync": ended(sent, NO, left_out, out=two)}
+    yield Effect("--resync", f"mod {LINK} {{}} made in out", ends, spoilt_packet)
+    ends = {"": refused(*no_sync(3), out=b""), "--resync": ended(TWO, NO, left_out, out=2 * PACKET)}
+    yield Effect("--resync", f"run {LINK} {{}} --seed 1 --level 0 made in out", ends, spoilt_packet)
     for option, text in records.sent(two).items():
         yield Effect(option, f"mod {LINK} {{}} made packets out", {"": whole, f"{option} record": ended(sent, out=two, record=text)})
 
@@ -253,10 +258,10 @@ def record_effects(two):
 
 def demod_effects(two, pilots):
     words, end = f"{LINK} --pilots", "end frames 2 delivered {0} packets {0} bad 0\n"
-    no_sync = received(NONE, FINE, b"", ["no frame since symbol 0", "16740 symbols skipped in 1 place, the first at 0", "no frame of QPSK 1/4, short in 16740 symbols: try s2 scan"])
+    none = received(NONE, FINE, b"", ["no frame since symbol 0", "16740 symbols skipped in 1 place, the first at 0", "no frame of QPSK 1/4, short in 16740 symbols: try s2 scan"])
     heard = received(TWO.replace("8190", "8370"))
     lost = received(Rule("lost frames", lambda got: got.decode().endswith(end.format(0))), NO, b"", [UNDECODED])
-    yield Effect("--pilots", f"demod {LINK} --number 7 {{}} made in out", {"": no_sync, "--pilots": heard}, {"reads": {"in": pilots}})
+    yield Effect("--pilots", f"demod {LINK} --number 7 {{}} made in out", {"": none, "--pilots": heard}, {"reads": {"in": pilots}})
     yield Effect("--number", f"demod {words} {{}} made in out", by_default("--number", 0, 7, lost, heard), {"reads": {"in": pilots}})
     # a receiver accepts any roll-off
     yield Effect("--ro", f"demod {LINK} {{}} made in out", dict.fromkeys(("", "--ro 0", "--ro 1", "--ro 2"), WELL), {"reads": {"in": two}})
@@ -295,8 +300,8 @@ def run_effects(report, others):
     yield Effect("--pilots", f"run {LINK} --seed 1 --level 0 {{}} made packets out", {"": WELL, "--pilots": received(TWO.replace("8190", "8370"))})
     apart = received(TWO.replace("8190", "11520"))
     yield Effect("--dummy", f"run {LINK} --seed 1 --level 0 {{}} made packets out", by_default("--dummy", 0, 1, WELL, apart))
-    no_sync = ["16380 symbols skipped in 1 place, the first at 0", "no frame of QPSK 1/4, short in 16380 symbols: try s2 scan"]
-    ends = {"": received(NONE, FINE, b"", no_sync), "--strict": received(NONE, NO, b"", no_sync)}
+    none = ["16380 symbols skipped in 1 place, the first at 0", "no frame of QPSK 1/4, short in 16380 symbols: try s2 scan"]
+    ends = {"": received(NONE, FINE, b"", none), "--strict": received(NONE, NO, b"", none)}
     yield Effect("--strict", f"run {LINK} --seed 1 --level 65535 {{}} made packets out", ends)
     # 13 to 30 bits of the second header are wrong
     one, both_found = (

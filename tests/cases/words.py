@@ -369,6 +369,10 @@ WORDS = [
     ("audit", "other values", "of another recording, or with another --divisor or --tuned"),
     ("audit", "--tuned", "if the report was made with --tuned; --divisor overrides it"),
     *((name, "five sync bytes at distance D begin at byte B", "if the first or second is refused, and what to try") for name in ("mod", "run")),
+    *((name, "--resync", "continue at the next place with five sync bytes at distance 188; count the bytes left out") for name in ("mod", "run")),
+    ("mod", "N bytes left out in M places", "a wrong sync byte and the bytes after it, up to the next five sync bytes"),
+    ("run", "N bytes left out in M places", "a wrong sync byte and the bytes after it, up to the next five; the exit is 2"),
+    ("mod", "2", "with --resync: bytes were left out"),
     ("mod", "packets P frames F", "P packets were read, and F frames were written, not counting dummy frames"),
 ]
 # The commands that show how far they are, those that may be strict, those that decide, and a line of each command with what it
@@ -551,6 +555,10 @@ CASES = [
     fault("scan old/out", "cannot open old/out", cause="Not a directory", reads={"old": b"old"}),
     fault(f"scan {LONG_NAME}", f"cannot open {LONG_NAME}", cause="File name too long"),
     fault(f"demod --modcod 1 --values {LONG_NAME} made packets out", f"cannot open {LONG_NAME}", cause="File name too long", writes={"out": b""}),
+    # control characters of a name are escaped
+    fault("scan a\x1b[31mb", "cannot open a\\u{1b}[31mb"),
+    fault(f"judge {TOY} toy a\x07", "cannot open a\\u{7}"),
+    fault(f"mod {LINK} made a\x7fb a\x7fb", "a\\u{7f}b is used twice", reads={"a\x7fb": PACKET}),
     fault("mod --modcod 1 none packets none", "cannot open none"),
     fault("scan .", "cannot read"),
     fault("join --modcod 1 --short . out", "cannot read", writes={"out": b""}),

@@ -5,7 +5,8 @@
 //! passes with at most 4 wrong bits of the 26 of the SOF and at most 12 of all 90. A header that comes twice at its
 //! frame's distance has a line. The last line is the command that receives the likeliest frames. If there is no such header,
 //! two lines say how strong the symbols are. [`amplitude_by`], [`is_usual`] and [`gain_of`] say how strong symbols are, and
-//! which gain they need. A [`Beginning`] is the first symbols of a recording.
+//! which gain they need. A [`Beginning`] is the first symbols of a recording. [`push_name`] writes a file's name as a word of
+//! a shell.
 //!
 //! ```text
 //! let exit = scan_command(rt.alloc(), name, &mut symbols, &mut console);
@@ -41,3 +42,4 @@ pub use advice::{gain_of, is_usual};
 pub use amplitude::amplitude_by;
 pub use beginning::Beginning;
 pub use command::scan_command;
+pub use shell::push_name;

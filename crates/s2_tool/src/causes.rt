@@ -1,10 +1,13 @@
 //! The files that a request names, and the system's errors for those that cannot be used. A command reports only that
-//! it cannot open or read one. So the system is queried for the cause, before the command and again after a fault.
+//! it cannot open, read or write one. So the cause is noted before that: of a failed call at once, and of a file that
+//! cannot be opened by opening it again.
 use crate::opening::errors_of;
+use crate::shown::shown;
 use s2_files::{Disk, Role, is_standard};
 use s2_mode::write_full;
 use s2_progress::Terminal;
 use s2_words::{RecordWords, Request};
+use std::alloc::{AllocError, Global};
 use std::fs::OpenOptions;
 use std::io::Read;
 use std::{fs, io};
@@ -116,10 +119,38 @@ fn opening_error<R: Disk>(rt: &R, names: Names<'_>, name: &str) -> Option<io::Er
     options.open(rt, name).err()
 }
 
+/// The line of a note on a file.
+fn note_line(alloc: Global, name: &str, words: &str) -> Result<String, AllocError> {
+    let name = shown(alloc, name)?;
+    format!(in alloc; "s2: note: {name}: {words}\n")
+}
+
 /// Notes this of a file, if there is memory.
-fn note<R: Disk + AllocGlobal>(rt: &R, terminal: &Terminal<'_, R>, name: &str, words: &str) {
-    if let Ok(line) = format!(in rt.alloc(); "s2: note: {name}: {words}\n") {
+fn note<R: Disk + AllocGlobal>(terminal: &Terminal<'_, R>, name: &str, words: &str) {
+    if let Ok(line) = note_line(terminal.host().alloc(), name, words) {
         let _ = write_full(&mut errors_of(terminal), line.as_bytes());
+    }
+}
+
+/// Notes an error of a file, without its number.
+fn note_error<R: Disk + AllocGlobal>(terminal: &Terminal<'_, R>, name: &str, error: io::Error) {
+    let Ok(told) = format!(in terminal.host().alloc(); "{error}") else {
+        return;
+    };
+    match told.split_once(" (os error ") {
+        Some((cause, _)) => note(terminal, name, cause),
+        None => note(terminal, name, told.as_str()),
+    }
+}
+
+/// Notes why a call on a file failed. If nobody reads a pipe any more, that is no fault of the pipe.
+pub(crate) fn note_failure<R: Disk + AllocGlobal>(
+    terminal: &Terminal<'_, R>,
+    name: &str,
+    error: io::Error,
+) {
+    if error.kind() != io::ErrorKind::BrokenPipe {
+        note_error(terminal, name, error);
     }
 }
 
@@ -130,49 +161,9 @@ pub(crate) fn note_cause<R: Disk + AllocGlobal>(
     request: &Request<'_>,
     name: &str,
 ) {
-    let Some(error) = opening_error(rt, names_of(request), name) else {
-        return;
-    };
-    let Ok(told) = format!(in rt.alloc(); "{error}") else {
-        return;
-    };
-    match told.split_once(" (os error ") {
-        Some((cause, _)) => note(rt, terminal, name, cause),
-        None => note(rt, terminal, name, told.as_str()),
+    if let Some(error) = opening_error(rt, names_of(request), name) {
+        note_error(terminal, name, error);
     }
-}
-
-/// Whether this is a folder. A standard stream is not asked for.
-fn is_folder<R: Disk>(rt: &R, name: &str) -> bool {
-    match fs::metadata(rt, name) {
-        Ok(metadata) => metadata.is_dir() && !is_standard(Role::Input, name),
-        Err(_) => false,
-    }
-}
-
-/// Notes those of these files that are folders, which can be opened and not read.
-fn note_folders_in<R: Disk + AllocGlobal>(
-    rt: &R,
-    terminal: &Terminal<'_, R>,
-    names: &[Option<&str>],
-) {
-    for name in names {
-        match name {
-            Some(name) if is_folder(rt, name) => note(rt, terminal, name, "Is a directory"),
-            _ => {}
-        }
-    }
-}
-
-/// Notes the folders among the files that a request reads.
-pub(crate) fn note_folders<R: Disk + AllocGlobal>(
-    rt: &R,
-    terminal: &Terminal<'_, R>,
-    request: &Request<'_>,
-) {
-    let names = names_of(request);
-    note_folders_in(rt, terminal, &names.texts);
-    note_folders_in(rt, terminal, &names.data);
 }
 
 /// Whether a file begins with a byte order mark, in UTF-8.
@@ -202,7 +193,6 @@ pub(crate) fn note_marks<R: Disk + AllocGlobal>(
         match name {
             Some(name) if is_kept(rt, name) && has_mark(rt, name) => {
                 note(
-                    rt,
                     terminal,
                     name,
                     "begins with a byte order mark: tail -c +4 removes it",

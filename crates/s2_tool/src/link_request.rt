@@ -4,7 +4,8 @@ ghost use Rattle.s2_mode.specs.Counts.{CanCount};
 ghost use Rattle.s2_console.specs.Screens.{CanNote};
 
 use crate::beginnings::note_beginning;
-use crate::opening::{open_link, show_on};
+use crate::losses::{exit_after, note_left_out};
+use crate::opening::{Reading, open_link, show_on};
 use crate::records::{conclude_records, open_records};
 use crate::serve::mode_of;
 use s2_commands::{DemodOptions, RunOptions, demod_command, mod_command, run_command};
@@ -13,6 +14,7 @@ use s2_files::{Disk, Opener};
 use s2_link::{LinkSetup, RollOff};
 use s2_mode::{CountedWrite, FaultText, Mode};
 use s2_progress::{Pace, Show, Terminal};
+use s2_resync::LeftOut;
 use s2_scramble::ScramblingNumber;
 use s2_words::{DemodWords, LinkWords, ModWords, Progress, RecordWords, RunWords, Seeds};
 use std::time::Clock;
@@ -58,6 +60,23 @@ impl<'w, 'a> LinkRequest<'w, 'a> {
         match self {
             LinkRequest::Mod(_) | LinkRequest::Run(_, _) => true,
             LinkRequest::Demod(_, _) => false,
+        }
+    }
+
+    /// Whether, after a wrong sync byte, it continues at the next place at which packets begin.
+    fn resyncs(self) -> bool {
+        match self {
+            LinkRequest::Mod(words) => words.resync,
+            LinkRequest::Run(words, _) => words.resync,
+            LinkRequest::Demod(_, _) => false,
+        }
+    }
+
+    /// How its input is read.
+    fn reading(self) -> Reading {
+        Reading {
+            buffered: self.is_buffered(),
+            resync: self.resyncs(),
         }
     }
 
@@ -149,6 +168,20 @@ fn note_packets<R: Disk + AllocGlobal>(
     }
 }
 
+/// The exit of a command of which bytes of a packet file were left out. Notes on the file of this name are written.
+fn conclude_packets<R: Disk + AllocGlobal>(
+    terminal: &Terminal<'_, R>,
+    packets: Option<&str>,
+    left_out: LeftOut,
+    exit: Exit,
+) -> Exit {
+    note_packets(terminal, packets, exit);
+    if packets.is_some() {
+        note_left_out(terminal, left_out);
+    }
+    exit_after(left_out, exit)
+}
+
 /// Opens the files of a request on a link, and runs its command on them. `notes` takes the notes before a report.
 pub(crate) fn with_link<'a, R: Disk + Clock + AllocGlobal, O: CountedWrite, E: CountedWrite>(
     rt: &R,
@@ -165,10 +198,10 @@ pub(crate) fn with_link<'a, R: Disk + Clock + AllocGlobal, O: CountedWrite, E: C
     let pace = request.pace(&setup.mode);
     let show = show_of(terminal, pace, request);
     let unseen = Show::new(terminal, pace, false);
-    let (names, buffered) = (request.names(), request.is_buffered());
+    let (names, reading) = (request.names(), request.reading());
     let mut opener = Opener::new(rt);
-    let mut files = open_link(&mut opener, &show, &unseen, names, buffered)?;
-    let mut records = open_records(&mut opener, alloc, setup.mode, request.records())?;
+    let mut files = open_link(&mut opener, terminal, &show, &unseen, names, reading)?;
+    let mut records = open_records(&mut opener, terminal, setup.mode, request.records())?;
     let (open, sinks) = (&mut files, &mut records);
     let exit = match request {
         LinkRequest::Mod(words) => mod_command(
@@ -188,6 +221,7 @@ pub(crate) fn with_link<'a, R: Disk + Clock + AllocGlobal, O: CountedWrite, E: C
         ),
     };
     show.finish();
-    note_packets(terminal, request.noted_packets(), exit);
+    let left_out = files.from.left_out();
+    let exit = conclude_packets(terminal, request.noted_packets(), left_out, exit);
     conclude_records(exit, files.to.is_begun(), records)
 }

@@ -4,10 +4,13 @@
 mod beginnings;
 mod causes;
 mod link_request;
+mod losses;
+mod noting;
 mod opening;
 mod options;
 mod records;
 mod serve;
+mod shown;
 mod thinned;
 
 use crate::causes::takes_output;

@@ -3,13 +3,14 @@ ghost use Rattle.std.specs.Prelude.{OnErr};
 ghost use Rattle.s2_mode.specs.Counts.{CanCount};
 ghost use Rattle.s2_console.specs.Screens.{CanNote};
 
-use crate::causes::{note_cause, note_folders, note_marks};
+use crate::causes::{note_cause, note_marks};
 use crate::link_request::{LinkRequest, setup_of, with_link};
 use crate::opening::{
     open_audit, open_input, open_inputs, open_join, open_judge, open_noise, open_scan,
-    screen_beside, show_on,
+    screen_beside, show_on, standard_input,
 };
 use crate::options::{channel_of, demod_options, divisor_of, judging_of, run_options};
+use crate::shown::{has_control, shown};
 use s2_audit::audit_command;
 use s2_commands::{noise_command, rows_command};
 use s2_console::{Console, Exit, Fault};
@@ -17,7 +18,7 @@ use s2_evidence::{check_command, check_each_command};
 use s2_files::Disk;
 use s2_join::join_command;
 use s2_judging::{judge_command, judge_each_command, self_command};
-use s2_mode::{CountedWrite, Counting, FaultText, Mode, Shape};
+use s2_mode::{CountedWrite, FaultText, Mode, Shape};
 use s2_names::modes_command;
 use s2_progress::{Pace, Terminal};
 use s2_scan::scan_command;
@@ -87,7 +88,7 @@ pub(crate) fn request_of<'a>(alloc: Global, words: &'a Words) -> Result<Request<
 
 /// Reports why there is no request: prints help on standard output, or a usage error on standard error, or reports that
 /// memory ran out.
-pub(crate) fn explain<R: Disk + Print + Eprint>(
+pub(crate) fn explain<R: Disk + AllocGlobal + Print + Eprint>(
     rt: &R,
     terminal: &Terminal<'_, R>,
     unread: &Unread,
@@ -121,8 +122,30 @@ pub(crate) fn every_of(request: &Request<'_>) -> u32 {
     }
 }
 
+/// Reports a fault. Control characters of a file's name are escaped.
+fn report<O: CountedWrite, E: CountedWrite>(
+    alloc: Global,
+    fault: Fault<'_>,
+    console: &mut Console<O, E>,
+) -> Exit
+    requires { CanCount console.old.errors_failed }
+{
+    match fault {
+        Fault::Open(name) if has_control(name) => match shown(alloc, name) {
+            Ok(name) => console.complain(Fault::Open(name.as_str())),
+            Err(_) => console.complain(Fault::NoMemory),
+        },
+        Fault::UsedTwice(name) if has_control(name) => match shown(alloc, name) {
+            Ok(name) => console.complain(Fault::UsedTwice(name.as_str())),
+            Err(_) => console.complain(Fault::NoMemory),
+        },
+        fault => console.complain(fault),
+    }
+}
+
 /// The exit of a command. A fault that came before it is reported.
 fn conclude<O: CountedWrite, E: CountedWrite>(
+    alloc: Global,
     ended: Result<Exit, Fault<'_>>,
     console: &mut Console<O, E>,
 ) -> Exit
@@ -130,7 +153,7 @@ fn conclude<O: CountedWrite, E: CountedWrite>(
 {
     match ended {
         Ok(exit) => exit,
-        Err(fault) => console.complain(fault),
+        Err(fault) => report(alloc, fault, console),
     }
 }
 
@@ -146,10 +169,9 @@ pub(crate) fn run_request<R: Disk + Clock + AllocGlobal, O: CountedWrite, E: Cou
     requires console { CanNote console.old }
     requires notes { CanCount (E.count notes.old) }
 {
-    note_folders(rt, terminal, request);
     let ended = serve_request(rt, terminal, request, console, notes);
     note_fault(rt, terminal, request, &ended);
-    let exit = conclude(ended, console);
+    let exit = conclude(rt.alloc(), ended, console);
     if exit == Exit::Fault {
         note_marks(rt, terminal, request);
     }
@@ -181,20 +203,33 @@ fn serve_request<'a, R: Disk + Clock + AllocGlobal, O: CountedWrite, E: CountedW
     ensures { OnErr result (CanCount console.new.errors_failed) }
 {
     match request {
-        Request::Own => Ok(self_command(rt.alloc(), &mut Counting::new(rt.input()), console)),
+        Request::Own => serve_own(rt, terminal, console),
         Request::Modes(words) => serve_modes(rt, words, console),
         Request::Rows(words) => serve_rows(rt, words, console),
-        Request::Table(words) => serve_table(rt, words, console),
-        Request::Judge(words) => serve_judge(rt, words, console),
-        Request::Check(words) => serve_check(rt, words, console),
-        Request::Noise(words) => serve_noise(rt, terminal, words, console),
+        Request::Table(words) => serve_table(rt, terminal, words, console),
+        Request::Judge(words) => serve_judge(rt, terminal, words, console),
+        Request::Check(words) => serve_check(rt, terminal, words, console),
+        Request::Noise(words) => serve_noise(terminal, words, console),
         Request::Scan(words) => serve_scan(rt, terminal, words, console),
-        Request::Join(words) => serve_join(rt, words, console),
-        Request::Audit(words) => serve_audit(rt, words, console),
+        Request::Join(words) => serve_join(rt, terminal, words, console),
+        Request::Audit(words) => serve_audit(rt, terminal, words, console),
         Request::Mod(words) => with_link(rt, terminal, LinkRequest::Mod(words), console, notes),
         Request::Demod(words) => serve_demod(rt, terminal, words, console, notes),
         Request::Run(words) => serve_run(rt, terminal, words, console, notes),
     }
+}
+
+/// The program without arguments.
+fn serve_own<R: Disk + AllocGlobal, O: CountedWrite, E: CountedWrite>(
+    rt: &R,
+    terminal: &Terminal<'_, R>,
+    console: &mut Console<O, E>,
+) -> Result<Exit, Fault<'static>>
+    requires { CanNote console.old }
+    ensures { OnErr result (CanCount console.new.errors_failed) }
+{
+    let mut input = standard_input(terminal);
+    Ok(self_command(rt.alloc(), &mut input, console))
 }
 
 /// The shape of three options.
@@ -283,6 +318,7 @@ fn serve_rows<R: Disk + AllocGlobal, O: CountedWrite, E: CountedWrite>(
 /// `table`.
 fn serve_table<'a, R: Disk + AllocGlobal, O: CountedWrite, E: CountedWrite>(
     rt: &R,
+    terminal: &Terminal<'_, R>,
     words: &TableWords<'a>,
     console: &mut Console<O, E>,
 ) -> Result<Exit, Fault<'a>>
@@ -290,13 +326,14 @@ fn serve_table<'a, R: Disk + AllocGlobal, O: CountedWrite, E: CountedWrite>(
     ensures { OnErr result (CanCount console.new.errors_failed) }
 {
     let mode = mode_of(words.modcod, words.short, false)?;
-    let mut rows = open_input(rt, words.rows)?;
+    let mut rows = open_input(terminal, words.rows)?;
     Ok(table_command(rt.alloc(), &mode, words.quiet, &mut rows, console))
 }
 
 /// `judge`. The certificate's file is opened before the others.
 fn serve_judge<'a, R: Disk + AllocGlobal, O: CountedWrite, E: CountedWrite>(
     rt: &R,
+    terminal: &Terminal<'_, R>,
     words: &JudgeWords<'a>,
     console: &mut Console<O, E>,
 ) -> Result<Exit, Fault<'a>>
@@ -305,7 +342,7 @@ fn serve_judge<'a, R: Disk + AllocGlobal, O: CountedWrite, E: CountedWrite>(
 {
     let shape = shape_by(words.code)?;
     let tuning = judging_of(words)?;
-    let mut files = open_judge(rt, words)?;
+    let mut files = open_judge(terminal, words)?;
     if words.each {
         return Ok(judge_each_command(
             rt.alloc(),
@@ -331,13 +368,14 @@ fn serve_judge<'a, R: Disk + AllocGlobal, O: CountedWrite, E: CountedWrite>(
 /// `check`.
 fn serve_check<'a, R: Disk + AllocGlobal, O: CountedWrite, E: CountedWrite>(
     rt: &R,
+    terminal: &Terminal<'_, R>,
     words: &CheckWords<'a>,
     console: &mut Console<O, E>,
 ) -> Result<Exit, Fault<'a>>
     requires { CanNote console.old }
     ensures { OnErr result (CanCount console.new.errors_failed) }
 {
-    let (mut rows, mut certificate) = open_inputs(rt, words.rows, words.certificate)?;
+    let (mut rows, mut certificate) = open_inputs(terminal, words.rows, words.certificate)?;
     if words.each {
         return Ok(check_each_command(rt.alloc(), &mut rows, &mut certificate, console));
     }
@@ -347,7 +385,6 @@ fn serve_check<'a, R: Disk + AllocGlobal, O: CountedWrite, E: CountedWrite>(
 /// `noise`. The rest of the buffer is written before the command has ended well; after a failed write nothing
 /// more is.
 fn serve_noise<'a, R: Disk + Clock + AllocGlobal, O: CountedWrite, E: CountedWrite>(
-    rt: &R,
     terminal: &Terminal<'_, R>,
     words: &NoiseWords<'a>,
     console: &mut Console<O, E>,
@@ -357,7 +394,7 @@ fn serve_noise<'a, R: Disk + Clock + AllocGlobal, O: CountedWrite, E: CountedWri
 {
     let channel = channel_of(words.channel)?;
     let show = show_on(terminal, Pace::AddingNoise, words.progress);
-    let (mut from, mut to) = open_noise(rt, &show, words.from, words.to)?;
+    let (mut from, mut to) = open_noise(terminal, &show, words.from, words.to)?;
     let exit = noise_command(channel, &mut from, &mut to, console);
     show.finish();
     match to.into_inner().into_inner().finish() {
@@ -377,7 +414,7 @@ fn serve_scan<'a, R: Disk + Clock + AllocGlobal, O: CountedWrite, E: CountedWrit
     ensures { OnErr result (CanCount console.new.errors_failed) }
 {
     let show = show_on(terminal, Pace::Scanning, words.progress);
-    let mut symbols = open_scan(rt, &show, words)?;
+    let mut symbols = open_scan(terminal, &show, words)?;
     let exit = scan_command(rt.alloc(), words.symbols, &mut symbols, console);
     show.finish();
     Ok(exit)
@@ -386,6 +423,7 @@ fn serve_scan<'a, R: Disk + Clock + AllocGlobal, O: CountedWrite, E: CountedWrit
 /// `join`.
 fn serve_join<'a, R: Disk + AllocGlobal, O: CountedWrite, E: CountedWrite>(
     rt: &R,
+    terminal: &Terminal<'_, R>,
     words: &JoinWords<'a>,
     console: &mut Console<O, E>,
 ) -> Result<Exit, Fault<'a>>
@@ -393,13 +431,14 @@ fn serve_join<'a, R: Disk + AllocGlobal, O: CountedWrite, E: CountedWrite>(
     ensures { OnErr result (CanCount console.new.errors_failed) }
 {
     let mode = mode_of(words.modcod, words.short, false)?;
-    let (mut bbframes, mut packets) = open_join(rt, words)?;
+    let (mut bbframes, mut packets) = open_join(terminal, words)?;
     Ok(join_command(rt.alloc(), mode, &mut bbframes, &mut packets, console))
 }
 
 /// `audit`.
 fn serve_audit<'a, R: Disk + AllocGlobal, O: CountedWrite, E: CountedWrite>(
     rt: &R,
+    terminal: &Terminal<'_, R>,
     words: &AuditWords<'a>,
     console: &mut Console<O, E>,
 ) -> Result<Exit, Fault<'a>>
@@ -408,7 +447,7 @@ fn serve_audit<'a, R: Disk + AllocGlobal, O: CountedWrite, E: CountedWrite>(
 {
     let setup = setup_of(words.link)?;
     let divisor = divisor_of(&setup.mode, words)?;
-    let (mut rows, mut symbols, mut report, mut certificates) = open_audit(rt, words)?;
+    let (mut rows, mut symbols, mut report, mut certificates) = open_audit(terminal, words)?;
     Ok(audit_command(
         rt.alloc(),
         setup,

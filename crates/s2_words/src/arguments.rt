@@ -209,6 +209,12 @@ pub(crate) const DUMMY: Argument = Argument {
     help: "Insert a dummy frame after every D frames, 0 to 65535: 0 for none",
 };
 
+pub(crate) const RESYNC: Argument = Argument {
+    name: "resync",
+    form: Form::Flag,
+    help: "After a wrong sync byte, continue at the next place with five sync bytes at distance 188; count the bytes left out",
+};
+
 pub(crate) const ROUNDS: Argument = Argument {
     name: "rounds",
     form: Form::Valued(Value {

@@ -109,12 +109,14 @@ The report, at the end:
 Exit status:
   0  all packets were sent
   1  a usage error, or an error reported on standard error: if a packet is refused, SYMBOLS has the frames before it
+  2  with --resync: bytes were left out
 
 Notes, on standard error:
   these rows are not the standard's for MODE           only a modem with the same rows can receive this
   MODE needs N rows of addresses below M               what the refused row file should contain
   packet I begins at byte B                            the refused packet, and what to strip if the packets have 192 or 204 bytes
   five sync bytes at distance D begin at byte B        where the packets begin if the first or second is refused, and what to try
+  N bytes left out in M places                         with --resync: a wrong sync byte and the bytes after it, up to the next five sync bytes
 
 Files:
   --codewords and --bbframes write records of the frames, but not of dummy frames. Each also takes `-`.
@@ -217,6 +219,7 @@ const RUN_MORE: &str = report!(
 ",
     "  packet I begins at byte B                            the refused packet, and what to strip if the packets have 192 or 204 bytes
   five sync bytes at distance D begin at byte B        where the packets begin if the first or second is refused, and what to try
+  N bytes left out in M places                         with --resync: a wrong sync byte and the bytes after it, up to the next five; the exit is 2
 ",
     " and the packets",
     "  s2 run --modcod qpsk1/2 --pilots --seed 1 --level 100 rows packets.ts received.ts

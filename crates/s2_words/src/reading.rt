@@ -223,6 +223,7 @@ fn mod_of<'a>(m: &ArgMatches<'a>) -> Option<Request<'a>> {
     Some(Request::Mod(ModWords {
         link: link_of(m)?,
         dummy: m.get_one::<u16>("dummy")?,
+        resync: m.get_flag("resync"),
         quiet: m.get_flag("quiet"),
         progress: progress_of(m),
         records: sent_records_of(m),
@@ -260,6 +261,7 @@ fn run_of<'a>(m: &ArgMatches<'a>) -> Option<Request<'a>> {
     Some(Request::Run(RunWords {
         link: link_of(m)?,
         dummy: m.get_one::<u16>("dummy")?,
+        resync: m.get_flag("resync"),
         tuning: tuning_of(m)?,
         channel: first_channel_of(m, seeds)?,
         seeds,

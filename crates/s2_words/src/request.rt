@@ -119,12 +119,13 @@ pub enum Progress {
     Hidden,
 }
 
-/// `mod`: a link, the number of frames between dummy frames (0 for none), whether notes are left out, whether
-/// progress is shown, the records (codewords and BBFRAMEs), and the files.
+/// `mod`: a link, the number of frames between dummy frames (0 for none), and whether it goes on after a wrong sync byte;
+/// whether notes are left out, whether progress is shown, the records (codewords and BBFRAMEs), and the files.
 #[derive(Clone, Copy)]
 pub struct ModWords<'a> {
     pub link: LinkWords,
     pub dummy: u16,
+    pub resync: bool,
     pub quiet: bool,
     pub progress: Progress,
     pub records: RecordWords<'a>,
@@ -199,13 +200,15 @@ pub struct DemodWords<'a> {
     pub packets: &'a str,
 }
 
-/// `run`: a link, the number of frames between dummy frames (0 for none), the tuning, a channel, and the range of seeds
-/// if there are several runs (the channel then has the first of them). Also the notes, N if every N-th frame has a line
-/// (0: each frame has one), whether progress is shown, the records, and the files.
+/// `run`: a link, the number of frames between dummy frames (0 for none), whether it continues after a wrong sync byte,
+/// the tuning, a channel, and the range of seeds if there are several runs (the channel then has the first of them).
+/// Also the notes, N if every N-th frame has a line (0: each frame has one), whether progress is shown, the records, and
+/// the files.
 #[derive(Clone, Copy)]
 pub struct RunWords<'a> {
     pub link: LinkWords,
     pub dummy: u16,
+    pub resync: bool,
     pub tuning: TuningWords,
     pub channel: ChannelWords,
     pub seeds: Option<Seeds>,

@@ -27,7 +27,7 @@ sent_of x x' y y' first last m n few e =
 pub conclude_records-requires : goal.conclude_records-requires
 conclude_records-requires g c =
     elim c.match-request.branch [
-      | in-Mod w ↦ rw w.records-is (sent_of c.in_ok-records.records.1.1.0 w.mod_command-exit.new.sinks.0 c.in_ok-records.records.1.1.1 w.mod_command-exit.new.sinks.1 (λ file. file.to.failed) (λ sink. sink.to.to.failed) _ _
+      | in-Mod w ↦ rw w.records-is (sent_of c.in_ok-records.records.1.1.0 w.mod_command-exit.new.sinks.0 c.in_ok-records.records.1.1.1 w.mod_command-exit.new.sinks.1 (λ file. file.to.inner.failed) (λ sink. sink.to.to.inner.failed) _ _
           w.mod_command-exit.ensures.few c.in_ok-records.ensures.fresh)
       | in-Demod w ↦ rw w.records-is (one_of _ _ w.demod_command-exit.ensures.few c.in_ok-records.ensures.fresh)
       | in-Run w ↦ rw w.records-is (one_of _ _ w.run_command-exit.ensures.few c.in_ok-records.ensures.fresh)
