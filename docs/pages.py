@@ -1,4 +1,4 @@
-"""The pages and the comments as text: what docs/clauses and docs/prose read."""
+"""The pages and the comments as text: what docs/clauses, docs/define and docs/prose read, and the tests of links."""
 import re
 
 BREAK = re.compile(r"\s*$|\s*(?:[-*]|\d+\.)\s|#|\||\s*```|!\[")
@@ -16,3 +16,18 @@ def paragraphs(lines):
         fenced ^= is_fence
         if not is_code and line.strip() and not line.startswith("!["):
             number, text = (number, f"{text} {line.strip()}") if text else (at, line.strip())
+
+
+def anchor_of(heading):
+    """The name of a heading in a link."""
+    return re.sub(r"[^\w\- ]", "", heading.lower()).replace(" ", "-")
+
+
+def anchors(text):
+    """The names of all headings of a page."""
+    return [anchor_of(heading) for heading in re.findall(r"^#+ (.*)", text, re.M)]
+
+
+def links(text):
+    """(file, name of a heading) of each link of a page to another file, or to itself; either may be empty."""
+    return [tuple(it.partition("#")[::2]) for it in re.findall(r"\]\(([^)\s]+)\)", text) if "://" not in it]

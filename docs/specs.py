@@ -10,6 +10,7 @@ DEFINITION = re.compile(r"( {0,4})(?:(?:abbrev|unfoldable) pub|pub (?:record|dat
 FIELD = re.compile(r" +(?:pub )?([^\W\d]\w*) :")
 COMMENT = re.compile(r"( *)-- ?(.*)")
 MARK = "---- "
+MAX_EQUATION = 90
 
 
 class Definition(NamedTuple):
@@ -24,6 +25,14 @@ class Definition(NamedTuple):
         """The value of a number without arguments, if it is on one line."""
         found = re.search(rf"^\w* ?pub {re.escape(self.name)} : [ℕℤ]\n{re.escape(self.name)} = (.*)", self.text)
         return found and found[1]
+
+    def equations(self):
+        """Its equations in one line, or None if it has none or they are longer than a page shows."""
+        lines = [line.strip() for line in self.text.split("\n")[1:] if line.strip() and not COMMENT.fullmatch(line)]
+        begins = [at for at, line in enumerate(lines) if line.startswith(f"{self.name} ")]
+        joined_lines = [" ".join(lines[at:end]) for at, end in zip(begins, [*begins[1:], len(lines)])]
+        said = "; ".join(joined_lines)
+        return said if 0 < len(said) <= MAX_EQUATION else None
 
 
 class File(NamedTuple):

@@ -30,7 +30,7 @@ WRONG_MOVED += bytes.fromhex("0000 00000004") + bytes(66)
 
 PACKET = b"\x47" + bytes(187)
 # Of a row file that does not fit the mode of LINK.
-WANTED = "QPSK 1/4, short wants 9 rows of addresses below 12960"
+WANTED = "QPSK 1/4, short needs 9 rows of addresses below 12960"
 ONE = "frame 1 at 0 sole fixed 0\n"
 TWO = ONE + "frame 2 at 8190 sole fixed 0\nend frames 2 delivered 2 packets 2 bad 0\n"
 

@@ -26,7 +26,7 @@ terms_of link divisor =
 abbrev pub frame_soft : Terms → List ℕ → List ℤ
 frame_soft t bytes = soft_values t.divisor t.mode (received_payload t.mode t.number (symbols_of bytes))
 
--- what an audit works with: its terms, how many symbols it has read, the soft values of the last frame, and the bytes of
+-- the state of an audit: its options, the number of symbols read, the soft values of the last frame, and the bytes of
 -- the last certificate
 pub record DeskState : Type 0 where
   pub terms : Terms
@@ -61,7 +61,7 @@ pub record FindsSoft (old new : DeskState) (before behind : Option (List ℕ)) (
   pub soft : new.soft ≡ frame_soft old.terms symbols
   pub place : new.place ≡ at + symbols_in old.terms.mode
 
--- a frame was read, or it is lacking
+-- a frame was read, or it is not there
 abbrev pub FindsOrLacks : DeskState → DeskState → Option (List ℕ) → Option (List ℕ) → ℕ → Bool → Type 0
 FindsOrLacks old new before behind at true = FindsSoft old new before behind at
 FindsOrLacks old new before behind at false = LacksFrame old.terms.mode old.place before behind at

@@ -1,4 +1,4 @@
--- What an audit reads of a report and of a recording (own).
+-- How an audit reads a report and a recording (own).
 use Rattle.std.specs.Prelude.{◌≡◌, ◌⊎◌, ℕ, ◌+◌, ◌*◌, ◌<◌, Bool, true, false, List, [], ◌∷◌, ◌++◌, length, codes, decimal, Option, Some, None, Result, Ok, Err, ⊤}
 use Rattle.std.specs.Io.KnownBytes.{Consumes, IsAtEnd}
 use Rattle.s2_console.specs.declared.fault.Fault.{Fault}
@@ -12,7 +12,7 @@ abbrev pub GivesByte : Option (List ℕ) → Option (List ℕ) → Option ℕ �
 GivesByte old new (Some b) = Consumes old new (b ∷ [])
 GivesByte old new None = Consumes old new [] × IsAtEnd new
 
--- a line was read with its LF; or there was none before the end, or among the most bytes of a line
+-- a line was read with its LF; or there was none before the end, or among the maximum length of a line in bytes
 abbrev pub GivesLine : Option (List ℕ) → Option (List ℕ) → List ℕ → (ended : Bool) → Type 0
 GivesLine old new line true = IsLine line × Consumes old new (line ++ 10 ∷ [])
 GivesLine old new line false = IsLine line × Consumes old new line × (IsAtEnd new ⊎ (line_bytes < length line))

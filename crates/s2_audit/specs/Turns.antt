@@ -1,4 +1,4 @@
--- A turn of an audit: the next line of the report, and for a certified frame its certificate and its symbols (own).
+-- The audit of one report line: the line, and for a certified frame its certificate and its symbols (own).
 use Rattle.std.specs.Prelude.{◌≡◌, ◌⊎◌, ℕ, ◌+◌, ◌<◌, ℤ, true, false, List, [], ◌∷◌, ◌++◌, length, codes, Option, Result, Ok, Err, ⊤}
 use Rattle.std.specs.Io.KnownBytes.{Consumes, IsAtEnd}
 use Rattle.s2_mode.specs.Mode.{symbols_in}
@@ -30,12 +30,12 @@ pub record JudgesBlock (t : Terms) (place behind : ℕ) (before after : Option (
   pub found : Finds t.rows (frame_soft t symbols) frame.verdict block finding
   pub behind_it : behind ≡ frame.at + symbols_in t.mode
 
--- the recording lacks the symbols of a frame
+-- the symbols of a frame are not in the recording
 abbrev pub LacksSymbols : Terms → (place : ℕ) → Option (List ℕ) → Option (List ℕ) → Frame → Finding → Type 0
 LacksSymbols t place before after frame finding =
     (finding ≡ Failed reasons.NoSymbols) × LacksFrame t.mode place before after frame.at
 
--- what is found of a frame by a certificate, unless memory ran out or a read failed
+-- the finding on a frame by a certificate, unless memory ran out or a read failed
 abbrev pub FindsByBlock : Terms → (place behind : ℕ) → Option (List ℕ) → Option (List ℕ) → List ℕ → Frame → Result Finding Fault → Type 0
 FindsByBlock t place behind before after block frame (Ok finding) =
     LacksSymbols t place before after frame finding ⊎ JudgesBlock t place behind before after block frame finding
@@ -64,14 +64,14 @@ abbrev pub LacksCertificate : Evidence → Evidence → Finding → Type 0
 LacksCertificate old new finding =
     (finding ≡ Failed reasons.NoCertificate) × Consumes old.certificates new.certificates [] × IsAtEnd new.certificates
 
--- the next certificate was read, and then the recording lacks the symbols of a frame
+-- the next certificate was read, and then the symbols of a frame are not in the recording
 pub record LacksOnlySymbols (t : Terms) (place : ℕ) (old new : Evidence) (frame : Frame) (finding : Finding) : Type 0 where
   pub block : List ℕ
   pub long : length block ≡ certificate_bytes t.mode
   pub read : Consumes old.certificates new.certificates block
   pub lacks : LacksSymbols t place old.symbols new.symbols frame finding
 
--- What is found of a frame by the next certificate and by its symbols. The reason is that of the first test that fails:
+-- The finding on a frame, by the next certificate and by its symbols. The reason is that of the first test that fails:
 -- a certificate is left, the recording has the symbols, and the certificate shows the verdict for them
 abbrev pub FindsFrame : Terms → (place behind : ℕ) → Evidence → Evidence → Frame → Finding → Type 0
 FindsFrame t place behind old new frame finding =
@@ -86,14 +86,14 @@ abbrev pub IsCut : Terms → Evidence → Evidence → Type 0
 IsCut t old new =
     (bytes : List ℕ) × (0 < length bytes) × (length bytes < certificate_bytes t.mode) × Consumes old.certificates new.certificates bytes × IsAtEnd new.certificates
 
--- what is found of a frame, unless its certificate is cut, memory ran out or a read failed
+-- the finding on a frame, unless its certificate is cut, memory ran out or a read failed
 abbrev pub AuditsFrame : Terms → (place behind : ℕ) → Evidence → Evidence → Frame → Result Finding Fault → Type 0
 AuditsFrame t place behind old new frame (Ok finding) = FindsFrame t place behind old new frame finding
 AuditsFrame t place behind old new frame (Err faults.Read) = ⊤
 AuditsFrame t place behind old new frame (Err faults.NoMemory) = ⊤
 AuditsFrame t place behind old new frame (Err f) = (f ≡ cut_fault) × IsCut t old new
 
--- the turn of a certified frame: its line if it is shown; else its line with the reason ends the audit, with exit 2
+-- the outcome of a certified frame: its line if it is proved; else its line with the reason ends the audit, with exit 2
 abbrev pub FrameTurn : Terms → (place behind : ℕ) → Evidence → Evidence → Frame → Result Turn Fault → Type 0
 FrameTurn t place behind old new frame (Ok turns.Silent) = ⊥
 FrameTurn t place behind old new frame (Ok (turns.Shown text)) =
@@ -104,7 +104,7 @@ FrameTurn t place behind old new frame (Err faults.Read) = ⊤
 FrameTurn t place behind old new frame (Err faults.NoMemory) = ⊤
 FrameTurn t place behind old new frame (Err f) = (f ≡ cut_fault) × IsCut t old new
 
--- what is said of a finding
+-- the outcome of a finding
 abbrev pub Says : Frame → Finding → Turn → Type 0
 Says frame (Shown found) (turns.Shown text) = text ≡ shown_line frame found
 Says frame (Failed reason) (turns.Ended printed) = (printed.text ≡ failed_line frame reason) × (printed.exit ≡ exits.No)
@@ -114,7 +114,7 @@ Says frame finding turn = ⊥
 abbrev pub SilentTurn : (place behind : ℕ) → Evidence → Evidence → Result Turn Fault → Type 0
 SilentTurn place behind old new result = (result ≡ Ok turns.Silent) × (behind ≡ place) × (new ≡ old)
 
--- the turn of an entry; only a frame that is reported sole or most likely needs a certificate
+-- the outcome of an entry; only a frame that is reported sole or most likely needs a certificate
 abbrev pub EntryTurn : Terms → (place behind : ℕ) → Evidence → Evidence → Entry → Result Turn Fault → Type 0
 EntryTurn t place behind old new entries.Other result = SilentTurn place behind old new result
 EntryTurn t place behind old new (entries.Frame frame) result =
@@ -131,7 +131,7 @@ EndTurn counts old new (Ok (turns.Ended printed)) =
 EndTurn counts old new (Err faults.Read) = ⊤
 EndTurn counts old new (Err f) = ⊥
 
--- what a turn begins with: the place in the recording, and the counts so far
+-- the state before a report line: the place in the recording, and the counts so far
 pub record Standing : Type 0 where
   pub place : ℕ
   pub counts : Counts
@@ -155,7 +155,7 @@ abbrev pub StoppedTurn : (number : ℕ) → Option (List ℕ) → Option (List �
 StoppedTurn number report report_new result =
     ((result ≡ Err (line_fault number)) × IsUnreadable report report_new) ⊎ (result ≡ Err faults.Read)
 
--- a turn of an audit
+-- the audit of one report line
 abbrev pub Turns : Terms → (number : ℕ) → (was is : Standing) → Option (List ℕ) → Option (List ℕ) → Evidence → Evidence → Result Turn Fault → Type 0
 Turns t number was is report report_new old new result =
     LineTurn t was is report report_new old new result

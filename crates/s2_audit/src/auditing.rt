@@ -13,7 +13,7 @@ use s2_console::{Exit, Fault};
 use s2_mode::{CountedRead, CountedWrite, write_full};
 use std::alloc::Global;
 
-/// A turn: the line of this number, and what it needs.
+/// Audits the line with this number: reads it, and for a certified frame its certificate and its symbols.
 fn turn<R: CountedRead>(
     alloc: Global,
     desk: &mut Desk<'_>,
@@ -43,7 +43,7 @@ fn turn<R: CountedRead>(
     }
 }
 
-/// Prints what a turn says, and returns the exit if that is the last line.
+/// Prints the outcome of a report line, and returns the exit if the audit ends with it.
 fn print_turn<O: CountedWrite>(turn: Turn, out: &mut O) -> Result<Option<Exit>, Fault<'static>>
     requires { CanCount (O.count out.old) }
     ensures prints { PrintsTurn turn (O.contents out.old) (O.contents out.new) result }
@@ -63,7 +63,7 @@ fn print_turn<O: CountedWrite>(turn: Turn, out: &mut O) -> Result<Option<Exit>, 
     }
 }
 
-/// A turn, and then what it says is printed.
+/// Audits a report line, and prints the outcome.
 fn audit_line<R: CountedRead, O: CountedWrite>(
     alloc: Global,
     desk: &mut Desk<'_>,

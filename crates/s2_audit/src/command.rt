@@ -80,7 +80,8 @@ fn audit_files<R: CountedRead, O: CountedWrite>(
 /// their soft values by this divisor, and the checker must accept it, strictly if the frame is sole. A line for each
 /// such frame is printed before the next line of the report is read. The last line has the counts.
 ///
-/// Exit 0 if each such frame is shown and no certificate is left over. Else exit 2, after a line with the first reason.
+/// Exit 0 if each such frame is proved and no certificate is left over. Else exit 2, after a line with the first
+/// reason.
 ///
 /// - `rows: ..`: the rows are refused, and nothing is read of the other files.
 /// - `report: line N`: the line is unreadable. `certificate: cut`: the certificates end within one.

@@ -23,7 +23,7 @@ use s2_soft::{Divisor, soft_into};
 use std::alloc::{AllocError, Global};
 use std::marker::Model;
 
-/// Skips as many bytes as the buffer holds. False if the reader has fewer.
+/// Skips bytes: the number that the buffer holds. False if the reader has fewer.
 fn skip_bytes<R: CountedRead>(reader: &mut R, bytes: &mut [u8]) -> Result<bool, ReadFault>
     requires { CanCount (R.count reader.old) }
     ensures skips { IfOk result (SkipsBytes (length bytes.old) (R.remaining reader.old) (R.remaining reader.new)) }
@@ -134,7 +134,7 @@ fn certificate_bytes(mode: Mode) -> usize
     13 + 2 * mode.n() + (mode.n() + 7) / 8 + 6 * (360 * mode.q())
 }
 
-/// What an audit works with: the rows and the terms of a link, and room for one frame and one certificate.
+/// The state of an audit: the rows and the options of a link, and memory for one frame and one certificate.
 pub(crate) struct Desk<'a> {
     matrix: &'a Matrix,
     mode: Mode,
@@ -184,7 +184,7 @@ impl<'a> Model for Desk<'a> {
 }
 
 impl<'a> Desk<'a> {
-    /// The desk for a link, before the first symbol.
+    /// The state for a link, before the first symbol.
     pub(crate) fn new(
         alloc: Global,
         link: &Link<'a>,
@@ -209,7 +209,7 @@ impl<'a> Desk<'a> {
         })
     }
 
-    /// Reads the bytes of a certificate, as many as there are.
+    /// Reads the bytes of a certificate, or all that are left.
     pub(crate) fn take_block<R: CountedRead>(&mut self, reader: &mut R) -> Result<usize, ReadFault>
         requires { CanCount (R.count reader.old) }
         ensures takes { IfOk result (TakesBlock self.old self.new (R.remaining reader.old) (R.remaining reader.new)) }
@@ -227,7 +227,7 @@ impl<'a> Desk<'a> {
         certificate_bytes(self.mode)
     }
 
-    /// Reads the frame that begins at a symbol, and finds its soft values. False if the recording lacks it.
+    /// Reads the frame that begins at a symbol, and finds its soft values. False if it is not in the recording.
     pub(crate) fn read_frame<R: CountedRead>(
         &mut self,
         reader: &mut R,
@@ -259,7 +259,7 @@ impl<'a> Desk<'a> {
         Ok(true)
     }
 
-    /// What is found of the last certificate, for the last frame's soft values.
+    /// The finding on the last certificate, for the last frame's soft values.
     pub(crate) fn judge(&self, alloc: Global, verdict: Verdict) -> Result<Finding, Fault<'static>>
         ensures finds { IfOk result (Finds self.now.terms.rows self.now.soft verdict self.now.block) }
         ensures memory { IsOkUnless result Fault.NoMemory }

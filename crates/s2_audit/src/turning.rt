@@ -1,4 +1,4 @@
-//! A turn of an audit: a line of the report, and what it needs.
+//! The audit of one report line: its frame, certificate and symbols.
 ghost use Rattle.std.specs.Prelude.{◌≡◌, ◌≢◌, ◌+◌, ◌^◌, ◌<◌, Err, true};
 ghost use Rattle.s2_mode.specs.Counts.{CanCount};
 ghost use Rattle.s2_mode.specs.Limits.{max_symbols};
@@ -16,7 +16,8 @@ use s2_console::{Exit, Fault, Line, Printed};
 use s2_mode::{CountedRead, FaultText};
 use std::alloc::Global;
 
-/// What a turn says: nothing, the line of a frame that is shown, or the last line with the exit.
+/// What the audit prints for one report line: nothing, the line of a proved frame, or the final line with the exit
+/// status.
 #[derive(Drop)]
 pub(crate) enum Turn {
     Silent,
@@ -24,7 +25,7 @@ pub(crate) enum Turn {
     Ended(Printed),
 }
 
-/// What is found of a frame by the certificate that was read last.
+/// The finding on a frame, by the certificate that was read last.
 fn find_by_block<R: CountedRead>(
     alloc: Global,
     desk: &mut Desk<'_>,
@@ -52,7 +53,7 @@ fn cut_fault() -> Fault<'static>
     Fault::about("certificate: ", FaultText::of("cut"))
 }
 
-/// What is found of a frame by the next certificate and by its symbols.
+/// The finding on a frame, by the next certificate and by its symbols.
 fn audit_frame<R: CountedRead>(
     alloc: Global,
     desk: &mut Desk<'_>,
@@ -80,7 +81,7 @@ fn audit_frame<R: CountedRead>(
     find_by_block(alloc, desk, frame, symbols)
 }
 
-/// The turn of what is found of a frame.
+/// The outcome of a finding.
 fn say(frame: Frame, finding: Finding) -> Turn
     ensures { Says frame finding result }
 {
@@ -93,7 +94,7 @@ fn say(frame: Frame, finding: Finding) -> Turn
     }
 }
 
-/// The turn of a certified frame.
+/// Audits a certified frame.
 fn frame_turn<R: CountedRead>(
     alloc: Global,
     desk: &mut Desk<'_>,
@@ -115,7 +116,7 @@ fn frame_turn<R: CountedRead>(
     }
 }
 
-/// The turn of an entry.
+/// Audits an entry of the report.
 pub(crate) fn entry_turn<R: CountedRead>(
     alloc: Global,
     desk: &mut Desk<'_>,
@@ -142,7 +143,7 @@ pub(crate) fn entry_turn<R: CountedRead>(
     }
 }
 
-/// The turn at the end of the report.
+/// The outcome at the end of the report.
 pub(crate) fn end_turn<R: CountedRead>(
     counts: Counts,
     certificates: &mut R,

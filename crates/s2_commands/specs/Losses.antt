@@ -6,7 +6,7 @@ use Rattle.s2_names.specs.Names.{mode_words}
 use Rattle.s2_receive.specs.declared.report.Received.{Received}
 use Rattle.s2_receive.specs.declared.report.Totals.{Totals}
 use Rattle.s2_scan.specs.Lines.{gain_of, is_usual}
-use Rattle.s2_scan.specs.Sightings.{amplitude_by}
+use Rattle.s2_scan.specs.Strength.{amplitude_by}
 use Rattle.s2_words.specs.declared.request.ExitBy.{ExitBy}
 use Rattle.s2_words.specs.declared.request.ExitBy.TheVariants as deciders
 use Rattle.s2_words.specs.declared.request.NoteWords.{NoteWords}
@@ -44,10 +44,10 @@ exit_by words r = if has_come words.exit_by r && (not words.strict || (is_clean 
 unfoldable pub counted : ℕ → List ℕ → List ℕ
 counted n noun = decimal n ++ (noun ++ (if nat_eq n 1 then [] else codes "s"))
 
--- N symbols passed over in M places, the first at S
+-- N symbols skipped in M places, the first at S
 unfoldable pub skipped_note : Totals → List ℕ
 skipped_note t =
-    (codes "s2: note: " ++ counted t.skipped (codes " symbol")) ++ (codes " passed over in " ++ counted t.places (codes " place")) ++ (codes ", the first at " ++ decimal t.first) ++ codes "\n"
+    (codes "s2: note: " ++ counted t.skipped (codes " symbol")) ++ (codes " skipped in " ++ counted t.places (codes " place")) ++ (codes ", the first at " ++ decimal t.first) ++ codes "\n"
 
 -- the end of the note that no frame was found: whether the mode has pilot blocks, the number of symbols, and advice
 unfoldable pub no_sync_end : Bool → ℕ → List ℕ
@@ -57,15 +57,15 @@ no_sync_end pilots symbols = ((if pilots then codes ", pilots in " else codes " 
 abbrev pub no_sync_note : Mode → ℕ → List ℕ
 no_sync_note m symbols = codes "s2: note: no frame of " ++ (mode_words m ++ no_sync_end m.pilots symbols)
 
--- N packets torn
+-- N packets incomplete
 unfoldable pub incomplete_note : Totals → List ℕ
-incomplete_note t = (codes "s2: note: " ++ counted t.incomplete (codes " packet")) ++ codes " torn\n"
+incomplete_note t = (codes "s2: note: " ++ counted t.incomplete (codes " packet")) ++ codes " incomplete\n"
 
 -- a note if this is so
 abbrev pub note_if : Bool → List ℕ → List ℕ
 note_if so note = if so then note else []
 
--- the notes of what was lost of a stream
+-- the notes on the losses of a stream
 abbrev pub loss_notes : Mode → Received → List ℕ
 loss_notes m r = note_if (not (nat_eq r.totals.skipped 0)) (skipped_note r.totals) ++ note_if (no_sync r) (no_sync_note m r.symbols) ++ note_if (not (nat_eq r.totals.incomplete 0)) (incomplete_note r.totals)
 

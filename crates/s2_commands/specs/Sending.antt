@@ -54,8 +54,8 @@ transmitter_on link dummy = record (new_transmitter link) { dummy_every = dummy 
 abbrev pub Modulates : {K : Type 0} → (takes fails : Taking K) → ℕ → LinkCommand (Ends K) (Sent Exit)
 Modulates takes fails dummy link begun old new ended = BeginsWith (SendsBy takes fails (transmitter_on link dummy)) begun old new ended
 
--- The exit of a command that ended so, with the line of a fault on the errors. Before it come the note on a refused packet,
--- or on the rows that the mode wants, unless notes are left out
+-- The exit of a command that ended so, with the line of a fault on the errors. Before it come the note on a refused
+-- packet, or on the rows that the mode needs, unless notes are suppressed
 abbrev pub Concludes : (quiet : Bool) → Mode → Result (Sent Exit) Fault → Exit → Screen → Screen → Type 0
 Concludes quiet m (Ok (Ok made)) exit old new = (exit ≡ made) × Remarks [] (Ok made) old new
 Concludes quiet m (Ok (Err refusal)) exit old new =

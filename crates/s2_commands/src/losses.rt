@@ -78,7 +78,7 @@ fn skipped_note(totals: Totals) -> Line
 {
     let mut line = Line::new();
     push_counted(&mut line, "s2: note: ", totals.skipped, " symbol");
-    push_counted(&mut line, " passed over in ", totals.places, " place");
+    push_counted(&mut line, " skipped in ", totals.places, " place");
     line.push_number(", the first at ", totals.first);
     line.push("\n");
     line
@@ -91,7 +91,7 @@ fn incomplete_note(totals: Totals) -> Line
 {
     let mut line = Line::new();
     push_counted(&mut line, "s2: note: ", totals.incomplete, " packet");
-    line.push(" torn\n");
+    line.push(" incomplete\n");
     line
 }
 
@@ -161,7 +161,7 @@ fn write_incomplete<W: CountedWrite>(totals: Totals, out: &mut W) -> Result<(), 
     write_full(out, incomplete_note(totals).as_bytes())
 }
 
-/// Writes the notes of what was lost of a stream.
+/// Writes the notes on the losses of a stream.
 #[tactic(auto, using(crate::proofs::NoteLemmas::both_empty))]
 fn write_loss_notes<W: CountedWrite>(
     mode: &Mode,

@@ -1,4 +1,4 @@
-//! `run --seeds`: receives sent symbols once for each seed of a range.
+//! `run --seeds`: receives sent symbols once per seed of a range.
 ghost use Rattle.std.specs.Prelude.{◌≡◌, ◌+◌, ◌≤◌, false};
 ghost use Rattle.s2_mode.specs.Counts.{CanCount};
 ghost use Rattle.s2_mode.specs.Limits.{max_symbols};
@@ -129,7 +129,8 @@ fn sum_seeds<K: Sink, W: CountedWrite, O: CountedWrite>(
     }
 }
 
-/// Begins the output, receives symbols with the noise of each seed of a range, in order, and prints the line of the sum.
+/// Begins the output, receives symbols with the noise of each seed of a range, in order, and prints the line of the
+/// sum.
 pub(crate) fn receive_range<K: Sink, W: Output, O: CountedWrite>(
     alloc: Global,
     link: &Link<'_>,

@@ -9,7 +9,7 @@ use crate::fault::{Fault, write_fault};
 use s2_mode::CountedWrite;
 use std::marker::Model;
 
-/// The output of a command, and its errors. To contracts it is the contents of both, and how many calls of
+/// The output of a command, and its errors. In contracts, it is the contents of both, and how many calls of
 /// each have failed.
 #[derive(Drop)]
 pub struct Console<O: CountedWrite, E: CountedWrite> {

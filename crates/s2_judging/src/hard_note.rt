@@ -51,7 +51,7 @@ fn write_hard_note<E: CountedWrite>(errors: &mut E) -> Result<(), WriteFault>
     write_full(errors, note.as_bytes())
 }
 
-/// The exit of a run. If its soft values look like hard decisions, that is noted, unless notes are left out.
+/// The exit of a run. If its soft values look like hard decisions, that is noted, unless notes are suppressed.
 /// A fault is reported. If the note
 /// cannot be written, that is the fault.
 pub(crate) fn conclude_judged<O: CountedWrite, E: CountedWrite>(

@@ -96,7 +96,7 @@ fn print_table<R: CountedRead, O: CountedWrite>(
 
 /// `table`: whether the rows of a file are the standard's for the code of a mode, whatever the order within each row.
 /// If not, the first line that differs is printed, if the digest of a single row shows it.
-/// If the rows are refused, a note says which ones the mode wants, unless notes are left out.
+/// If the rows are refused, a note says which rows the mode needs, unless notes are suppressed.
 pub fn table_command<R: CountedRead, O: CountedWrite, E: CountedWrite>(
     alloc: Global,
     mode: &Mode,

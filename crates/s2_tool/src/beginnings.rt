@@ -21,7 +21,7 @@ fn write_note<W: CountedWrite>(errors: &mut W, note: &[u8])
     let _ = write_full(errors, note);
 }
 
-/// Whether a file can be read once more by its name: a regular file can.
+/// Whether a file can be read again by its name: a regular file can.
 fn is_again<R: Disk>(rt: &R, name: &str) -> bool {
     match fs::metadata(rt, name) {
         Ok(metadata) => metadata.is_file() && !is_standard(Role::Input, name),
@@ -29,7 +29,7 @@ fn is_again<R: Disk>(rt: &R, name: &str) -> bool {
     }
 }
 
-/// The first bytes of a file, at most so many.
+/// The first bytes of a file, at most this many.
 fn first_bytes<R: Disk + AllocGlobal>(
     rt: &R,
     name: &str,
@@ -95,7 +95,7 @@ fn note_of(alloc: Global, syncs: Syncs, name: &str) -> Result<String, AllocError
     format!(in alloc; "{found} tools/strip {word}\n")
 }
 
-/// The note on a packet file: where packets begin in it, if its first or second packet is refused.
+/// The note on a packet file whose first or second packet is refused: the position at which packets begin in it.
 fn beginning_note<R: Disk + AllocGlobal>(rt: &R, name: &str) -> Result<Option<String>, AllocError> {
     let bytes = first_bytes(rt, name, SEARCHED)?;
     if !is_refused(&bytes) {
@@ -107,8 +107,8 @@ fn beginning_note<R: Disk + AllocGlobal>(rt: &R, name: &str) -> Result<Option<St
     }
 }
 
-/// Notes where packets begin in a packet file whose first or second packet is refused. The file is read once more. There is
-/// no note on one that cannot be read again, nor without memory for it.
+/// Notes the position at which packets begin in a packet file whose first or second packet is refused. The file is read
+/// again. There is no note on one that cannot be read again, nor without memory for it.
 pub(crate) fn note_beginning<R: Disk + AllocGlobal>(terminal: &Terminal<'_, R>, name: &str) {
     let rt = terminal.host();
     if !is_again(rt, name) {

@@ -1,5 +1,5 @@
-//! The files that a request names, and what the host says of those that cannot be used. A command says only that it cannot
-//! open or read one, so the host is asked for the cause: before the command, and once more after a fault.
+//! The files that a request names, and the system's errors for those that cannot be used. A command reports only that
+//! it cannot open or read one. So the system is queried for the cause, before the command and again after a fault.
 use crate::opening::errors_of;
 use s2_files::{Disk, Role, is_standard};
 use s2_mode::write_full;
@@ -17,7 +17,7 @@ struct Names<'a> {
     written: [Option<&'a str>; 5],
 }
 
-/// The files of a command without a link, of which one is written at most.
+/// The files of a command without a link. At most one of them is written.
 fn plain<'a>(
     texts: [Option<&'a str>; 2],
     data: [Option<&'a str>; 3],
@@ -99,7 +99,8 @@ fn has_name(names: &[Option<&str>], name: &str) -> bool {
     false
 }
 
-/// The error of opening a file anew, if there is one. An output that is not there is made, as before, unless it is read too.
+/// The error of opening a file anew, if there is one. An output that is not there is made, as before, unless it is read
+/// too.
 fn opening_error<R: Disk>(rt: &R, names: Names<'_>, name: &str) -> Option<io::Error> {
     let is_read = has_name(&names.texts, name) || has_name(&names.data, name);
     if is_read {
@@ -122,7 +123,7 @@ fn note<R: Disk + AllocGlobal>(rt: &R, terminal: &Terminal<'_, R>, name: &str, w
     }
 }
 
-/// Notes why a file cannot be opened, if the host still says so.
+/// Notes why a file cannot be opened, if the system still reports an error.
 pub(crate) fn note_cause<R: Disk + AllocGlobal>(
     rt: &R,
     terminal: &Terminal<'_, R>,
@@ -183,7 +184,7 @@ fn has_mark<R: Disk>(rt: &R, name: &str) -> bool {
     file.read_exact(&mut start).is_ok() && start == [0xEF, 0xBB, 0xBF]
 }
 
-/// Whether this is a regular file, which can be read once more.
+/// Whether this is a regular file, which can be read again.
 fn is_kept<R: Disk>(rt: &R, name: &str) -> bool {
     match fs::metadata(rt, name) {
         Ok(metadata) => metadata.is_file() && !is_standard(Role::Input, name),

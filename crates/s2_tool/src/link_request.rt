@@ -61,7 +61,7 @@ impl<'w, 'a> LinkRequest<'w, 'a> {
         }
     }
 
-    /// The name of its packet file, if it reads one and notes are not left out.
+    /// The name of its packet file, if it reads one and notes are not suppressed.
     fn noted_packets(self) -> Option<&'a str> {
         match self {
             LinkRequest::Mod(words) if !words.quiet => Some(words.packets),
@@ -82,7 +82,7 @@ impl<'w, 'a> LinkRequest<'w, 'a> {
         }
     }
 
-    /// Whether it is noted at once that no frame comes.
+    /// Whether a gap is noted at once.
     fn notes_gaps(self) -> bool {
         match self {
             LinkRequest::Demod(words, _) => !words.notes.quiet,
@@ -100,7 +100,7 @@ impl<'w, 'a> LinkRequest<'w, 'a> {
     }
 }
 
-/// Shows how far a request is, and notes gaps, each if it is wanted.
+/// Shows the progress of a request, and notes gaps, each if it is requested.
 fn show_of<'t, 'r, R: Disk + Clock>(
     terminal: &'t Terminal<'r, R>,
     pace: Pace,
@@ -113,7 +113,7 @@ fn show_of<'t, 'r, R: Disk + Clock>(
     show
 }
 
-/// How often symbols are received: once, or once for each seed of a range.
+/// The number of receptions: one, or one per seed of a range.
 fn runs_of(seeds: Option<Seeds>) -> u64 {
     match seeds {
         Some(seeds) => seeds.last.saturating_sub(seeds.first).saturating_add(1),
@@ -134,7 +134,8 @@ pub(crate) fn setup_of(words: LinkWords) -> Result<LinkSetup, Fault<'static>> {
     })
 }
 
-/// After a fault notes where packets begin in a packet file of this name, if its first or second packet is refused.
+/// After a fault: notes the position at which packets begin in the packet file of this name, if its first or second
+/// packet is refused.
 fn note_packets<R: Disk + AllocGlobal>(
     terminal: &Terminal<'_, R>,
     packets: Option<&str>,

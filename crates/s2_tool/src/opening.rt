@@ -26,7 +26,7 @@ pub(crate) type Written<R> = Target<<R as Files>::File, <R as StandardStreams>::
 /// Standard error. The progress line is cleared before anything is written to it.
 pub(crate) type Errors<'t, 'r, R> = Clearing<'t, 'r, Counting<<R as StandardStreams>::Errors>, R>;
 
-/// Standard output, or standard error if a command's data go to standard output.
+/// Standard output, or standard error if the data of a command go to standard output.
 type Report<R> = Either<<R as StandardStreams>::Output, <R as StandardStreams>::Errors>;
 
 /// A command's report and its errors.
@@ -49,7 +49,7 @@ pub(crate) fn errors_of<'t, 'r, R: Disk>(terminal: &'t Terminal<'r, R>) -> Error
 }
 
 /// The output of a command. Its report goes to standard error if one of its files takes standard output. Of `every`
-/// frames only one has its line there; if this is 0, each has it.
+/// frames only one has a line there; if this is 0, each has one.
 pub(crate) fn screen_beside<'t, 'r, R: Disk>(
     terminal: &'t Terminal<'r, R>,
     taken: bool,
@@ -66,7 +66,7 @@ pub(crate) fn screen_beside<'t, 'r, R: Disk>(
     Console::new(output, errors_of(terminal))
 }
 
-/// Shows how far a command is, if that is wanted.
+/// Shows the progress of a command, if it is requested.
 pub(crate) fn show_on<'t, 'r, R: Disk + Clock>(
     terminal: &'t Terminal<'r, R>,
     pace: Pace,
@@ -135,7 +135,7 @@ pub(crate) fn open_judge<'a, R: Disk>(
     })
 }
 
-/// Opens the files of a command on a link: the row file, the input, with a buffer if one is wanted, and the output.
+/// Opens the files of a command on a link: the row file, the input, with a buffer if one is requested, and the output.
 /// The progress line does not count the rows' bytes.
 pub(crate) fn open_link<'a, 'm, 't, 'r, R: Disk + Clock + AllocGlobal>(
     opener: &mut Opener<'_, R>,
@@ -219,7 +219,7 @@ fn length_within(first: Option<u32>, length: Option<u64>) -> Option<u64> {
     }
 }
 
-/// Opens the recording of `scan`, as far as it is looked at.
+/// Opens the recording of `scan`, limited to the symbols to examine.
 pub(crate) fn open_scan<'a, 'm, 't, 'r, R: Disk + Clock>(
     rt: &R,
     show: &'m Show<'t, 'r, R>,

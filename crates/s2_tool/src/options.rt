@@ -1,4 +1,4 @@
-//! What the words of the command line ask for, in the types of the commands. This is plain code.
+//! The options of the command line in the types of the commands. This is plain code.
 //!
 //! The parser has tested every number: its ranges are those of these types (below). So no refusal here can be met.
 use crate::link_request::setup_of;

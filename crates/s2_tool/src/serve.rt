@@ -1,4 +1,4 @@
-//! Serves the request of the command line. This is plain code: the contract of each command is at the command.
+//! Runs the request of the command line. This is plain code: each command has its own contract.
 ghost use Rattle.std.specs.Prelude.{OnErr};
 ghost use Rattle.s2_mode.specs.Counts.{CanCount};
 ghost use Rattle.s2_console.specs.Screens.{CanNote};
@@ -37,13 +37,13 @@ use std::{env, io};
 pub(crate) enum Words {
     /// They are text.
     Text(Vec<String>),
-    /// This one is the first that is not text. It has a replacement character for each part that is none.
+    /// This is the first one that is not valid UTF-8. Each invalid part is a replacement character.
     NotText(String),
-    /// There is no memory for them.
+    /// There is not enough memory for them.
     NoMemory,
 }
 
-/// The most bytes of an argument, with its NUL: Linux allows 32 pages of 4096 bytes.
+/// The maximum length of an argument in bytes, with its NUL: Linux allows 32 pages of 4096 bytes.
 const ARGUMENT_ROOM: usize = 131_072;
 
 /// The first argument that is not text. It is empty if there is none.
@@ -85,7 +85,7 @@ pub(crate) fn request_of<'a>(alloc: Global, words: &'a Words) -> Result<Request<
     }
 }
 
-/// Reports why there is no request: prints help on standard output, or a usage fault on standard error, or reports that
+/// Reports why there is no request: prints help on standard output, or a usage error on standard error, or reports that
 /// memory ran out.
 pub(crate) fn explain<R: Disk + Print + Eprint>(
     rt: &R,
@@ -112,7 +112,7 @@ fn lacks_memory<O: CountedWrite, E: CountedWrite>(console: &mut Console<O, E>) -
     console.complain(Fault::NoMemory)
 }
 
-/// Of how many frames one has its line in the report of a request, 0 if each has it.
+/// N if every N-th frame has a line in the report of a request, or 0 if each frame has one.
 pub(crate) fn every_of(request: &Request<'_>) -> u32 {
     match request {
         Request::Demod(words) => words.every,
@@ -134,8 +134,8 @@ fn conclude<O: CountedWrite, E: CountedWrite>(
     }
 }
 
-/// Runs the command of a request on its files. A fault before that is reported. Notes give the cause of a fault, if the
-/// host knows it. `notes` takes the notes before a report.
+/// Runs the command of a request on its files, and reports a fault before that. Notes have the cause of a fault, if the
+/// system knows it. `notes` takes the notes before a report.
 pub(crate) fn run_request<R: Disk + Clock + AllocGlobal, O: CountedWrite, E: CountedWrite>(
     rt: &R,
     terminal: &Terminal<'_, R>,
@@ -203,7 +203,7 @@ fn shape_of(words: ShapeWords) -> Result<Shape, Fault<'static>> {
     Shape::new(group, groups, q).ok_or(Fault::refused(FaultText::of("no such shape")))
 }
 
-/// The shape of the code that `judge` is asked for.
+/// The shape of the code of `judge`.
 fn shape_by(code: CodeWords) -> Result<Shape, Fault<'static>> {
     match code {
         CodeWords::Shape(words) => shape_of(words),

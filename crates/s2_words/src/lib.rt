@@ -1,9 +1,9 @@
 //! The command line of the program: arguments in, a [`Request`] out.
 //!
-//! One table has each command's options, their ranges and their help. [`read_words`] parses the arguments with
-//! clap, using this table. It returns the request, with every option in its place, or why there is none: help or the
-//! version was asked for, or memory ran out, or there is a usage fault, which is one line. [`not_text`] makes the
-//! fault of an argument that is not UTF-8.
+//! One table has each command's options, their ranges and their help. [`read_words`] parses the arguments with clap,
+//! using this table. It returns the request with all options. Or it returns why there is none: help or the version is
+//! requested, or memory ran out, or there is a usage error, reported by one line. [`not_text`] makes the line for an
+//! argument that is not UTF-8.
 //!
 //! ```text
 //! match read_words(alloc, &words)? {

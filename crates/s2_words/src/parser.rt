@@ -1,11 +1,11 @@
-//! The parser that the table describes.
+//! The parser of the command line, built from the table.
 use crate::arguments::{Argument, Form, Value};
 use crate::help::{ABOUT, MORE, more_of};
 use crate::table::{Choice, Entry, Name, Rule, arguments_of, choices_of, commands, rule_of};
 use clap::{Arg, ArgAction, ArgGroup, Command};
 use std::alloc::{AllocError, Global};
 
-/// An option with a value. What begins with a minus and is a number is its value too, so that a fault is one of the value.
+/// An option with a value. A negative number is also taken as its value, so that an error is about the value.
 fn valued<'a>(arg: Arg<'a>, value: Value) -> Arg<'a> {
     let arg = arg
         .value_name(value.name)
@@ -61,7 +61,7 @@ fn groups_of<'a>(alloc: Global, command: Name) -> Result<Vec<ArgGroup<'a>>, Allo
     Ok(groups)
 }
 
-/// A command. Its parts are made first: a vector is dropped in one step, and a command in some twenty.
+/// A command. Its parts are made first: a vector is dropped in one step, and a command in about twenty.
 fn command_of<'a>(alloc: Global, entry: Entry) -> Result<Command<'a>, AllocError> {
     let args = args_of(alloc, entry.command)?;
     let groups = groups_of(alloc, entry.command)?;

@@ -36,7 +36,7 @@ fn code_of(m: &ArgMatches<'_>) -> Option<CodeWords> {
     }
 }
 
-/// The number of a roll-off, if there is such a one.
+/// The number of the roll-off, or None if there is no such roll-off.
 pub(crate) fn roll_off_of(m: &ArgMatches<'_>) -> Option<u8> {
     match m.get_one::<u8>("ro") {
         Some(number) if number <= MAX_ROLL_OFF => Some(number),
@@ -130,7 +130,7 @@ fn notes_of(m: &ArgMatches<'_>) -> Option<NoteWords> {
     })
 }
 
-/// Of how many frames one has its line, 0 if each has it.
+/// N if every N-th frame has a line, or 0 if each frame has one.
 fn every_of(m: &ArgMatches<'_>) -> u32 {
     m.get_one::<u32>("every").unwrap_or(0)
 }
@@ -144,7 +144,7 @@ fn records_of<'a>(m: &ArgMatches<'a>) -> RecordWords<'a> {
     }
 }
 
-/// The records of a sender.
+/// The records of a transmitter.
 fn sent_records_of<'a>(m: &ArgMatches<'a>) -> RecordWords<'a> {
     RecordWords {
         certificates: None,
@@ -331,8 +331,8 @@ fn request_in<'a>(alloc: Global, matches: &ArgMatches<'a>) -> Result<Request<'a>
     }
 }
 
-/// The request of the command line, or why there is none. A few values the parser takes as any text: one of these that
-/// cannot be read is a usage fault too.
+/// The request of the command line, or why there is none. The parser accepts any text for a few values: it is a usage
+/// error too if one of these is invalid.
 pub fn read_words<'a>(alloc: Global, arguments: &'a [String]) -> Result<Request<'a>, Unread> {
     match program(alloc)?.try_get_matches_from(arguments) {
         Ok(matches) => request_in(alloc, &matches),

@@ -19,28 +19,28 @@ pub struct LinkWords {
     pub roll_off: u8,
 }
 
-/// How strong noise is: its level, or an Es/N0 in hundredths of a dB.
+/// The strength of the noise: its level, or an Es/N0 in hundredths of a dB.
 #[derive(Clone, Copy)]
 pub enum StrengthWords {
     Level(u16),
     EsN0(i32),
 }
 
-/// The seed of a channel's noise, and how strong that is.
+/// The seed and the strength of a channel's noise.
 #[derive(Clone, Copy)]
 pub struct ChannelWords {
     pub seed: u64,
     pub strength: StrengthWords,
 }
 
-/// A number of the line, or its default if it is not there.
+/// A number of the command line, or its default if it is not given.
 #[derive(Clone, Copy)]
 pub struct NumberWords {
     pub is_given: bool,
     pub value: u32,
 }
 
-/// What the line says of how a receiver is tuned.
+/// The tuning of a receiver, as the command line has it.
 #[derive(Clone, Copy)]
 pub struct TuningWords {
     pub rounds: NumberWords,
@@ -75,8 +75,8 @@ pub enum CodeWords {
     Mode { modcod: u8, short: bool },
 }
 
-/// `judge`: a code, whether there are many frames, whether the values are decided bits, whether notes are left out, the
-/// passes and the factor, whether what min-sum finds stays uncertified, and the files.
+/// `judge`: a code, whether there are several frames, whether the values are hard bits, whether notes are suppressed,
+/// the passes and the factor, whether there is no search for certificates after min-sum, and the files.
 #[derive(Clone, Copy)]
 pub struct JudgeWords<'a> {
     pub code: CodeWords,
@@ -100,7 +100,7 @@ pub struct TableWords<'a> {
     pub rows: &'a str,
 }
 
-/// `check`: whether there are many certificates, and the files.
+/// `check`: whether there are several certificates, and the files.
 #[derive(Clone, Copy)]
 pub struct CheckWords<'a> {
     pub each: bool,
@@ -111,11 +111,11 @@ pub struct CheckWords<'a> {
 /// Whether progress is shown on standard error.
 #[derive(Clone, Copy)]
 pub enum Progress {
-    /// It was requested.
+    /// Always: it was requested.
     Shown,
-    /// If standard error is a terminal.
+    /// Only if standard error is a terminal.
     OnTerminal,
-    /// It was to be quiet.
+    /// Never: `--quiet` was given.
     Hidden,
 }
 
@@ -142,17 +142,17 @@ pub struct NoiseWords<'a> {
     pub to: &'a str,
 }
 
-/// What decides the exit of a reception.
+/// What the exit status of a reception depends on.
 #[derive(Clone, Copy)]
 pub enum ExitBy {
-    /// Each frame is to be certified.
+    /// Every frame must be certified.
     Certainty,
-    /// Each frame is to be delivered, and no symbols are to be skipped.
+    /// Every frame must be delivered, and no symbols may be skipped.
     Delivery,
 }
 
-/// What a reception reports besides its lines: what decides the exit, whether losses do so too, whether it has the best
-/// settings already, so that no note proposes them, and whether notes are left out.
+/// The notes and the exit status of a reception: what the status depends on, and whether it also depends on losses. If
+/// the best settings are in use already, no note proposes them. Notes can be suppressed.
 #[derive(Clone, Copy)]
 pub struct NoteWords {
     pub exit_by: ExitBy,
@@ -161,8 +161,8 @@ pub struct NoteWords {
     pub quiet: bool,
 }
 
-/// The files of records, those that are given: certificates, soft values, words and BBFRAMEs. The words are decided bits,
-/// or the codewords that are sent.
+/// The given files of records: certificates, soft values, words and BBFRAMEs. The words are decided bits, or the
+/// transmitted codewords.
 #[derive(Clone, Copy)]
 pub struct RecordWords<'a> {
     pub certificates: Option<&'a str>,
@@ -184,8 +184,8 @@ impl<'a> RecordWords<'a> {
     }
 }
 
-/// `demod`: a link, the tuning, the notes, of how many frames one has its line (0 if each has it), whether progress is
-/// shown, the records, and the files.
+/// `demod`: a link, the tuning, the notes, N if every N-th frame has a line (0: each frame has one), whether progress
+/// is shown, the records, and the files.
 #[derive(Clone, Copy)]
 pub struct DemodWords<'a> {
     pub link: LinkWords,
@@ -199,9 +199,9 @@ pub struct DemodWords<'a> {
     pub packets: &'a str,
 }
 
-/// `run`: a link, the number of frames between dummy frames (0 for none), the tuning, a channel, the seeds of its runs
-/// if there are many (the channel's seed is then the first of them), the notes, of how many frames one has its line (0 if
-/// each has it), whether progress is shown, the records, and the files.
+/// `run`: a link, the number of frames between dummy frames (0 for none), the tuning, a channel, and the range of seeds
+/// if there are several runs (the channel then has the first of them). Also the notes, N if every N-th frame has a line
+/// (0: each frame has one), whether progress is shown, the records, and the files.
 #[derive(Clone, Copy)]
 pub struct RunWords<'a> {
     pub link: LinkWords,
@@ -218,7 +218,7 @@ pub struct RunWords<'a> {
     pub to: &'a str,
 }
 
-/// `scan`: how many symbols are looked at, if not all, whether progress is shown, and the recording.
+/// `scan`: the number of symbols to examine if not all, whether progress is shown, and the recording.
 #[derive(Clone, Copy)]
 pub struct ScanWords<'a> {
     pub first: Option<u32>,
@@ -235,7 +235,7 @@ pub struct JoinWords<'a> {
     pub packets: &'a str,
 }
 
-/// `audit`: a link, the divisor of soft values, whether the report was made with the best settings, and the files.
+/// `audit`: a link, the divisor of the soft values, whether the report was made with the best settings, and the files.
 #[derive(Clone, Copy)]
 pub struct AuditWords<'a> {
     pub link: LinkWords,
@@ -247,8 +247,7 @@ pub struct AuditWords<'a> {
     pub certificates: &'a str,
 }
 
-/// `modes`: a symbol rate, if the bits of a transport stream per second are to be listed; and MODCOD and whether frames
-/// are short, if one mode is to be listed.
+/// `modes`: a symbol rate if net bit rates are listed too; and MODCOD and the frame length if one mode is listed.
 #[derive(Clone, Copy)]
 pub struct ModesWords {
     pub rate: Option<SymbolRate>,

@@ -1,4 +1,4 @@
-//! The table of all that the program understands: its commands, and the arguments of each.
+//! The table of the command line: the commands, and the arguments of each.
 use crate::arguments::{
     Argument, BBFRAMES, BBFRAMES_READ, CERTIFICATE, CERTIFICATE_READ, CERTIFICATES,
     CERTIFICATES_READ, CLEAN_SYMBOLS, CODEWORDS, DIVISOR, DIVISOR_OF_REPORT, DUMMY,
@@ -27,7 +27,8 @@ pub(crate) enum Name {
     Audit,
 }
 
-/// A command, and its name. Its options and its help are apart, so that no proof has the texts of all.
+/// A command, its name and its first line of help. Its options and the rest of its help are separate, so that no proof
+/// contains all texts.
 #[derive(Clone, Copy)]
 pub(crate) struct Entry {
     pub command: Name,
@@ -35,8 +36,33 @@ pub(crate) struct Entry {
     pub about: &'static str,
 }
 
-/// All commands.
+/// All commands, in the order of the help.
 static COMMANDS: [Entry; 12] = [
+    Entry {
+        command: Name::Demod,
+        name: "demod",
+        about: "Demodulates symbols into a transport stream",
+    },
+    Entry {
+        command: Name::Scan,
+        name: "scan",
+        about: "Finds the modes in a recording, and how to receive it",
+    },
+    Entry {
+        command: Name::Mod,
+        name: "mod",
+        about: "Modulates a transport stream into symbols",
+    },
+    Entry {
+        command: Name::Run,
+        name: "run",
+        about: "Sends a transport stream through a noisy channel and receives it",
+    },
+    Entry {
+        command: Name::Noise,
+        name: "noise",
+        about: "Adds noise generated from a seed to symbols",
+    },
     Entry {
         command: Name::Modes,
         name: "modes",
@@ -45,61 +71,36 @@ static COMMANDS: [Entry; 12] = [
     Entry {
         command: Name::Rows,
         name: "rows",
-        about: "Prints a row file that a seed determines",
+        about: "Prints a row file generated from a seed",
     },
     Entry {
         command: Name::Table,
         name: "table",
-        about: "Tells whether rows are the standard's",
+        about: "Checks whether a row file is the standard's table",
     },
     Entry {
         command: Name::Judge,
         name: "judge",
-        about: "Decides on soft values",
+        about: "Decodes soft values",
     },
     Entry {
         command: Name::Check,
         name: "check",
-        about: "Checks a certificate that its word is most likely",
-    },
-    Entry {
-        command: Name::Mod,
-        name: "mod",
-        about: "Makes the symbols of packets",
-    },
-    Entry {
-        command: Name::Noise,
-        name: "noise",
-        about: "Adds noise that a seed determines to symbols",
-    },
-    Entry {
-        command: Name::Demod,
-        name: "demod",
-        about: "Receives the packets of symbols",
-    },
-    Entry {
-        command: Name::Run,
-        name: "run",
-        about: "Sends packets, adds noise, and receives them",
-    },
-    Entry {
-        command: Name::Scan,
-        name: "scan",
-        about: "Tells which modes a recording has, and how to receive it",
-    },
-    Entry {
-        command: Name::Join,
-        name: "join",
-        about: "Joins the packets of BBFRAMEs",
+        about: "Verifies a certificate",
     },
     Entry {
         command: Name::Audit,
         name: "audit",
-        about: "Checks a report by the certificates of its frames, without decoding",
+        about: "Checks a report against its certificates, without decoding",
+    },
+    Entry {
+        command: Name::Join,
+        name: "join",
+        about: "Reassembles packets from BBFRAMEs",
     },
 ];
 
-/// All commands.
+/// All commands, in the order of the help.
 pub(crate) fn commands() -> &'static [Entry] {
     &COMMANDS
 }
@@ -264,26 +265,26 @@ pub(crate) fn arguments_of(command: Name) -> &'static [Argument] {
     }
 }
 
-/// A choice of options, of which exactly one is required, and its name.
+/// A group of options: exactly one of them is required.
 #[derive(Clone, Copy)]
 pub(crate) struct Choice {
     pub name: &'static str,
     pub options: &'static [&'static str],
 }
 
-/// A code, by its shape or by a mode.
+/// A code is given by its shape or by a mode.
 const CODE: Choice = Choice {
     name: "code",
     options: &["group", "modcod"],
 };
 
-/// How strong noise is.
+/// The strength of the noise.
 const STRENGTH: Choice = Choice {
     name: "strength",
     options: &["level", "esn0"],
 };
 
-/// The seed of a run, or the seeds of many.
+/// The seed of one run, or the seeds of several.
 const SEEDING: Choice = Choice {
     name: "seeding",
     options: &["seed", "seeds"],
@@ -299,39 +300,39 @@ pub(crate) fn choices_of(command: Name) -> &'static [Choice] {
     }
 }
 
-/// What must stand beside options, and what must not.
+/// Options that others require, and options that they exclude.
 #[derive(Clone, Copy)]
 pub(crate) struct Rule {
     /// If one of these is given,
     pub given: &'static [&'static str],
-    /// so are all of these,
+    /// all of these are required,
     pub needed: &'static [&'static str],
-    /// and none of these.
+    /// and none of these is allowed.
     pub excluded: &'static [&'static str],
 }
 
-/// A shape has three numbers, and stands in the place of a mode.
+/// A shape has three numbers, and replaces a mode.
 const WHOLE_SHAPE: Rule = Rule {
     given: &["group", "groups", "q"],
     needed: &["group", "groups", "q"],
     excluded: &["modcod", "short"],
 };
 
-/// The length is that of a mode's frames.
+/// Short frames require a mode.
 const LENGTH_OF_MODE: Rule = Rule {
     given: &["short"],
     needed: &["modcod"],
     excluded: &[],
 };
 
-/// What min-sum finds stays uncertified, so no passes look for a certificate.
+/// Without a search for certificates there are no passes.
 const NO_PASSES: Rule = Rule {
     given: &["uncertified"],
     needed: &[],
     excluded: &["passes"],
 };
 
-/// The rules for a command's options, at most one for each.
+/// The rules for the options of a command, at most one per option.
 fn rules_of(command: Name) -> &'static [Rule] {
     match command {
         Name::Modes => &[LENGTH_OF_MODE],
