@@ -3,12 +3,12 @@ describes them."""
 import math
 import struct
 
-# How many symbols are looked at. A symbol is clipped if it has one of these components.
-LOOKED, LIMITS = 1 << 22, (32767, -32767, -32768)
+# How many symbols are examined. A symbol is clipped if it has one of these components.
+EXAMINED, LIMITS = 1 << 22, (32767, -32767, -32768)
 
 
 def line(recording, order, name):
-    count = min(len(recording) // 4, LOOKED)
+    count = min(len(recording) // 4, EXAMINED)
     numbers = struct.unpack(f"{order}{2 * count}h", recording[: 4 * count])
     # 2 * root, rounded down, is odd if the root's fraction is a half or more
     rms = (math.isqrt(4 * (sum(it * it for it in numbers) // max(1, count))) + 1) // 2
