@@ -11,8 +11,8 @@ use crate::syncs::{has_five, has_sync};
 use s2_bbframe::PACKET_BYTES;
 use s2_mode::{CountedRead, ReadFault};
 
-/// The state of a reader of packets: whether a packet is expected at the next byte, the numbers of bytes left out and of their
-/// places, and the number of calls that failed because these numbers were at their limit.
+/// The state of a reader of packets: whether a packet is expected at the next byte, and the numbers of bytes left out and of
+/// their places. Also the number of calls that failed because these numbers were at their limit.
 #[derive(Clone, Copy)]
 pub(crate) struct Step {
     pub in_step: bool,

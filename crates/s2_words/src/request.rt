@@ -119,8 +119,8 @@ pub enum Progress {
     Hidden,
 }
 
-/// `mod`: a link, the number of frames between dummy frames (0 for none), and whether it goes on after a wrong sync byte;
-/// whether notes are left out, whether progress is shown, the records (codewords and BBFRAMEs), and the files.
+/// `mod`: a link, the number of frames between dummy frames (0 for none), and whether it continues after a wrong sync byte.
+/// Also whether notes are left out, whether progress is shown, the records (codewords and BBFRAMEs), and the files.
 #[derive(Clone, Copy)]
 pub struct ModWords<'a> {
     pub link: LinkWords,
@@ -201,7 +201,7 @@ pub struct DemodWords<'a> {
 }
 
 /// `run`: a link, the number of frames between dummy frames (0 for none), whether it continues after a wrong sync byte,
-/// the tuning, a channel, and the range of seeds if there are several runs (the channel then has the first of them).
+/// the tuning, and a channel. If there are several runs it has the range of their seeds, and the channel has the first of them.
 /// Also the notes, N if every N-th frame has a line (0: each frame has one), whether progress is shown, the records, and
 /// the files.
 #[derive(Clone, Copy)]
