@@ -11,7 +11,7 @@ pub use Rattle.std.proofs.lemmas.List.Elements.{All-append, All-cons, All-drop, 
 pub use Rattle.std.proofs.lemmas.List.Sums.{sum_by-cons}
 pub use Rattle.std.proofs.lemmas.List.FromFn.{fill_by_all, get_or-map-range_with_len, length-map-range_with_len}
 pub use Rattle.std.proofs.lemmas.Result.{IfOk-weaker}
-pub use Rattle.s2_mode.specs.Limits.{max_symbols}
+pub use Rattle.s2_receive.specs.Limits.{max_symbols}
 pub use Rattle.s2_mode.specs.Mode.{HasCodeSizes, IsMode, Mode, is_qpsk, k_of, kbch_of, n_of, shape_in, slots_of, symbols_in, t_of}
 pub use Rattle.s2_mode.specs.Shape.{code_bits}
 pub use Rattle.s2_mode.specs.Streams.{Streams}

@@ -16,7 +16,7 @@ use Rattle.s2_receive.specs.declared.report.Totals.{Totals}
 use Rattle.s2_check.specs.Strict.{IsSole}
 use Rattle.s2_check.specs.Verdicts.{is_certified}
 use Rattle.s2_check.specs.declared.verdict.Verdict.TheVariants.{Sole}
-use Rattle.s2_mode.specs.Limits.{max_symbols}
+use Rattle.s2_receive.specs.Limits.{max_symbols}
 use Rattle.s2_soft.specs.Divisors.{IsDivisor}
 use Rattle.s2_link.specs.Limits.{max_roll_off}
 use Rattle.s2_tuning.specs.Tuning.{Tuning}

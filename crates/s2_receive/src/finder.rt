@@ -1,6 +1,7 @@
 //! The finder of one mode's frames.
 ghost use Rattle.std.specs.Prelude.{◌≡◌, ◌*◌, ◌≤◌, nat_eq, IfOk, length, false};
-ghost use Rattle.s2_mode.specs.Limits.{header_symbols, max_symbols};
+ghost use Rattle.s2_mode.specs.Limits.{header_symbols};
+ghost use Rattle.s2_receive.specs.Limits.{max_symbols};
 ghost use Rattle.s2_mode.specs.Mode.{symbols_in};
 ghost use Rattle.s2_mode.specs.Symbols.{symbols_of};
 ghost use Rattle.s2_receive.specs.Finding.{Takes, reached, wanted, window_at};

@@ -2,7 +2,7 @@
 //! results of a code. The first symbol after a frame's header gives its content; its field has 100 bytes of zeros.
 //! As in `streams`, calls with a large contract are made only here in the tests.
 ghost use Rattle.std.specs.Prelude.{◌≡◌, ◌/◌, ◌<◌, ◌≤◌, IfOk, IfSome, length};
-ghost use Rattle.s2_mode.specs.Limits.{max_symbols};
+ghost use Rattle.s2_receive.specs.Limits.{max_symbols};
 ghost use Rattle.s2_receive.specs.Receiving.{begun};
 ghost use Rattle.s2_stream_tests.specs.Toy.{content_of, energy_for, figures_for, header_for, outcome_for, place_for, verdict_for};
 
@@ -11,11 +11,11 @@ use super::streams::{ALL, Fed, Heard, Reader, Source, Steps, Writer, reader_of, 
 use s2_bbframe::{Header, HeaderFault};
 use s2_bits::Bits;
 use s2_check::Verdict;
-use s2_mode::{Counted, MAX_SYMBOLS, Mode, Symbol, WriteFault};
+use s2_mode::{Counted, Mode, Symbol, WriteFault};
 use s2_plframe::Lock;
 use s2_receive::{
-    Decide, Decided, Fault, Figures, Frame, Outcome, Receiver, Report, Step, Tally, Totals,
-    receive_bytes,
+    Decide, Decided, Fault, Figures, Frame, MAX_SYMBOLS, Outcome, Receiver, Report, Step, Tally,
+    Totals, receive_bytes,
 };
 use std::alloc::{AllocError, Global};
 use std::test::Fail;
