@@ -5,7 +5,7 @@ use Rattle.s2_audit.specs.declared.limits.TheConstants.{LINE_BYTES, MAX_LINES}
 
 -- the most bytes of a line of a report, without its LF
 abbrev pub line_bytes : ℕ
-line_bytes = 255
+line_bytes = 511
 
 -- the most lines of a report
 abbrev pub max_lines : ℕ

@@ -53,7 +53,7 @@ mod stepper;
 mod telling;
 
 pub use all::{receive_all, receive_bytes, receive_with};
-pub use figures::{Figures, Sums, Tally};
+pub use figures::{Correlation, Figures, Sums, Tally};
 pub use frame::Frame;
 pub use limits::MAX_SYMBOLS;
 pub use parts::{Decide, Decided};

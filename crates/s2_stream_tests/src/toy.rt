@@ -14,8 +14,8 @@ use s2_check::Verdict;
 use s2_mode::{Counted, Mode, Symbol, WriteFault};
 use s2_plframe::Lock;
 use s2_receive::{
-    Decide, Decided, Fault, Figures, Frame, MAX_SYMBOLS, Outcome, Receiver, Report, Step, Tally,
-    Totals, receive_bytes,
+    Correlation, Decide, Decided, Fault, Figures, Frame, MAX_SYMBOLS, Outcome, Receiver, Report,
+    Step, Tally, Totals, receive_bytes,
 };
 use std::alloc::{AllocError, Global};
 use std::test::Fail;
@@ -43,6 +43,16 @@ pub(crate) const LOST: Figures = Figures {
         sum: 700_000,
         of: 5400,
     },
+    known_correlation: Correlation {
+        power: 88_200_000,
+        along: 87_654_321,
+        across: -1_234_567,
+    },
+    payload_correlation: Correlation {
+        power: 5_292_000_000,
+        along: i64::MIN,
+        across: i64::MAX,
+    },
 };
 
 pub(crate) const FOUND: Figures = Figures {
@@ -53,6 +63,16 @@ pub(crate) const FOUND: Figures = Figures {
     payload: Tally {
         sum: 54_321,
         of: 5400,
+    },
+    known_correlation: Correlation {
+        power: 800,
+        along: -70,
+        across: 6,
+    },
+    payload_correlation: Correlation {
+        power: 50,
+        along: 4,
+        across: 0,
     },
 };
 
@@ -65,6 +85,16 @@ pub(crate) const REFUSED: Figures = Figures {
         of: 90,
     },
     payload: Tally { sum: 0, of: 5400 },
+    known_correlation: Correlation {
+        power: u64::MAX,
+        along: 0,
+        across: 0,
+    },
+    payload_correlation: Correlation {
+        power: 0,
+        along: 0,
+        across: 0,
+    },
 };
 
 /// The figures by a frame's content.
