@@ -345,7 +345,7 @@ WORDS = [
     *((name, "--tuned", "words that stand beside it win") for name in ("demod", "run")),
     *((name, "--figures", "at the end of each frame's line, and their sums at the end of the last line") for name in ("demod", "run")),
     *((name, "header H", "symbols of the header that were decided wrongly, of 90") for name in ("demod", "run")),
-    *((name, "changed B of T known E of N payload P of M", "N symbols of headers and pilots, and M of payloads") for name in ("demod", "run")),
+    *((name, "changed B of T known E of N power W payload E of N power W", "N symbols of headers and pilots, or of payloads") for name in ("demod", "run")),
     *((name, "packet I begins at byte B", "and what to strip of packets of 192 or 204 bytes") for name in ("mod", "run")),
     *((name, "with --exit-by delivery: every frame", "none is cut, and no symbols were passed over") for name in ("demod", "run")),
     *((name, "with --exit-by delivery: a frame", "is lost or cut, or symbols were passed over") for name in ("demod", "run")),

@@ -155,11 +155,14 @@ With --figures, at the end of a frame's line:
   header H     symbols of the header that were decided wrongly, of 90
   changed B    positions in which the decided word differs from the hard decision
   rounds K     rounds of min-sum that were run
-  known E      squared distance to what was sent, summed over header and pilots
-  payload P    the same over the payload, to the points of the decided word
+  known E      squared distance to the sent symbols, summed over header and pilots
+  payload E    the same over the payload, to the points of the decided word
+  power W      after each of these two: the energy of the received symbols
+  along A      each of them times the conjugate of the sent symbol: the real parts, summed
+  across C     the imaginary parts, summed
 
 With --figures, at the end of the last line:
-  changed B of T known E of N payload P of M    sums, over T bits, N symbols of headers and pilots, and M of payloads
+  changed B of T known E of N power W payload E of N power W    sums, over T bits, and N symbols of headers and pilots, or of payloads
 
 Verdicts:
   sole         no other codeword is as likely: nothing is to be done
