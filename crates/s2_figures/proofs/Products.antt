@@ -45,3 +45,17 @@ product_small a b f g = omega (arith, unsigned_abs-mul a b, mul-le-mul (size_of 
 
 pub product_fits : (a b : ℤ) → SFits w16 a → SFits w16 b → SFits w64 (a *ℤ b)
 product_fits a b f g = fits_signed_from_abs w64 (a *ℤ b) (omega (arith, product_small a b f g))
+
+-- ---- numbers that the code holds in 64 bits
+
+pub held : (z : ℤ) → unsigned_abs z ≤ 2 ^ 31 → to_z w64 (of_z w64 z) ≡ z
+held z small = omega (arith, ints, small)
+
+pub sum_held : (p q x y : ℤ) → p ≡ x → q ≡ y → unsigned_abs p ≤ 2 ^ 30 → unsigned_abs q ≤ 2 ^ 30 → to_z w64 (of_z w64 (to_z w64 (of_z w64 p) +ℤ to_z w64 (of_z w64 q))) ≡ x +ℤ y
+sum_held p q x y a b m n = omega (arith, ints, a, b, m, n)
+
+pub difference_held : (p q x y : ℤ) → p ≡ x → q ≡ y → unsigned_abs p ≤ 2 ^ 30 → unsigned_abs q ≤ 2 ^ 30 → to_z w64 (of_z w64 (to_z w64 (of_z w64 p) -ℤ to_z w64 (of_z w64 q))) ≡ x -ℤ y
+difference_held p q x y a b m n = omega (arith, ints, a, b, m, n)
+
+pub rest_held : (p q : ℤ) → unsigned_abs p ≤ 2 ^ 51 → unsigned_abs q ≤ 2 ^ 51 → to_z w64 (of_z w64 (to_z w64 (of_z w64 p) -ℤ to_z w64 (of_z w64 q))) ≡ p -ℤ q
+rest_held p q m n = omega (arith, ints, m, n)
