@@ -46,6 +46,10 @@ product_small a b f g = omega (arith, unsigned_abs-mul a b, mul-le-mul (size_of 
 pub product_fits : (a b : ℤ) → SFits w16 a → SFits w16 b → SFits w64 (a *ℤ b)
 product_fits a b f g = fits_signed_from_abs w64 (a *ℤ b) (omega (arith, product_small a b f g))
 
+-- the factors as the code has them
+pub factors_held : (a b : ℤ) → SFits w16 a → SFits w16 b → to_z w16 (of_z w16 a) *ℤ to_z w16 (of_z w16 b) ≡ a *ℤ b
+factors_held a b f g = ap₂ ◌*ℤ◌ (to_z-of_z w16 a f) (to_z-of_z w16 b g)
+
 -- ---- numbers that the code holds in 64 bits
 
 pub held : (z : ℤ) → unsigned_abs z ≤ 2 ^ 31 → to_z w64 (of_z w64 z) ≡ z
