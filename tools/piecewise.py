@@ -42,7 +42,8 @@ FRAME = re.compile(rb"frame \d+ at (\d+) (([a-z-]+) (fixed \d+|lost).*)\n")
 CUT = re.compile(rb"cut at (\d+) symbols (\d+)\n")
 END = re.compile(rb"end frames (\d+) delivered (\d+) packets (\d+) bad (\d+)")
 # Those figures of a frame's line that the end line has sums of, and the greatest sum.
-FIGURES = re.compile(rb" changed (\d+) rounds \d+ known (\d+) payload (\d+)$")
+FIGURES = rb" changed (\d+) rounds \d+ known (\d+) power (\d+) along -?\d+ across -?\d+ payload (\d+) power (\d+) along -?\d+ across -?\d+$"
+FIGURES = re.compile(FIGURES)
 GREATEST = (1 << 64) - 1
 SKIPPED_NOTE = re.compile(rb"s2: note: (\d+) symbols? skipped in (\d+) places?, the first at (\d+)\n")
 NO_FRAME = re.compile(rb"(s2: note: no frame of .* in )\d+( symbols.*\n)")
@@ -530,13 +531,16 @@ class Whole:
 
     def count_figures(self, frame):
         if found := FIGURES.search(frame.words):
-            self.figures = [min(GREATEST, one + int(other)) for one, other in zip(self.figures or [0, 0, 0], found.groups())]
+            self.figures = [min(GREATEST, one + int(other)) for one, other in zip(self.figures or 5 * [0], found.groups())]
 
     def sums(self):
         """What the end line has of the figures, if a frame had them."""
         of, frames = self.receiver, self.count["frames"]
-        sizes = zip(("changed", "known", "payload"), self.figures, (of.bits, of.size - of.payload, of.payload))
-        return "".join(f" {name} {number} of {frames * size}" for name, number, size in sizes).encode()
+        if not self.figures:
+            return b""
+        changed, known, known_power, payload, payload_power = self.figures
+        known = f" known {known} of {frames * (of.size - of.payload)} power {known_power}"
+        return f" changed {changed} of {frames * of.bits}{known} payload {payload} of {frames * of.payload} power {payload_power}".encode()
 
     def meets(self, reception):
         """The number of the reception's first frame that comes next here, None if it is not known to be in the state of this receiver."""

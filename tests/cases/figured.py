@@ -5,7 +5,7 @@ from cases import plain_figures
 from cases.common import LINK, NO, PACKET, TWO, Case, fault
 from cases.drawn import spoilt
 from cases.links import NOISY, NONE
-from cases.plain_figures import NAMES, Frames, Mode
+from cases.plain_figures import Frames, Mode
 from cases.plain_receiver import FRAME, broken, checks_of, decided
 
 MODE, ROUNDS, FACTOR, DIVISOR = Mode(1, short=True), 2, 12, 4096
@@ -20,7 +20,7 @@ def with_figures(report, figures):
 
 def clean(report):
     """The report of frames without noise."""
-    return with_figures(report, [dict.fromkeys(NAMES, 0)] * report.count("frame "))
+    return with_figures(report, [plain_figures.clean(MODE)] * report.count("frame "))
 
 
 def noisy(two, rows):

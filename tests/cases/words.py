@@ -352,7 +352,7 @@ WORDS = [
     *((name, "--tuned", "options given explicitly override it") for name in ("demod", "run")),
     *((name, "--figures", "to the line of each frame, and their totals to the last line") for name in ("demod", "run")),
     *((name, "header H", "wrong symbols in the header, of 90") for name in ("demod", "run")),
-    *((name, "changed B of T known E of N payload P of M", "N symbols of headers and pilots, M symbols of payloads") for name in ("demod", "run")),
+    *((name, "changed B of T known E of N power W payload E of N power W", "N symbols of headers and pilots, or of payloads") for name in ("demod", "run")),
     *((name, "packet I begins at byte B", "and what to strip if the packets have 192 or 204 bytes") for name in ("mod", "run")),
     *((name, "with --exit-by delivery: every frame", "none is cut, and no symbols were skipped") for name in ("demod", "run")),
     *((name, "with --exit-by delivery: a frame", "is lost or cut, or symbols were skipped") for name in ("demod", "run")),

@@ -5,7 +5,7 @@ use Rattle.s2_audit.specs.declared.limits.TheConstants.{LINE_BYTES, MAX_LINES}
 
 -- the maximum length of a report line in bytes, without its LF
 abbrev pub line_bytes : ℕ
-line_bytes = 255
+line_bytes = 511
 
 -- the maximum number of lines of a report
 abbrev pub max_lines : ℕ

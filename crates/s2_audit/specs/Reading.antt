@@ -23,7 +23,7 @@ pub record GivesEntry (old new : Option (List ℕ)) (line : List ℕ) (entry : E
   pub read : Consumes old new (line ++ 10 ∷ [])
   pub says : entry_in line ≡ Some entry
 
--- the next line has its LF and says nothing that an audit reads; or no LF follows, at the end or after 255 bytes
+-- the next line has its LF and says nothing that an audit reads; or no LF follows, at the end or after 511 bytes
 abbrev pub IsUnreadable : Option (List ℕ) → Option (List ℕ) → Type 0
 IsUnreadable old new =
     (line : List ℕ) × IsLine line

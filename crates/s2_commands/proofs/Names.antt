@@ -19,7 +19,7 @@ pub use Rattle.s2_link.specs.declared.setup.Setup.{Setup}
 pub use Rattle.s2_words.specs.declared.request.NoteWords.{NoteWords}
 pub use Rattle.s2_receive.specs.declared.report.Received.{Received}
 pub use Rattle.s2_inputs.specs.Inputs.{rows_in}
-pub use Rattle.s2_mode.specs.Limits.{max_symbols}
+pub use Rattle.s2_receive.specs.Limits.{max_symbols}
 pub use Rattle.s2_tuning.specs.Tuning.{Tuning}
 pub use Rattle.s2_modem.specs.Reception.{Receiver, IsNew, link_rules, rules_for}
 pub use Rattle.s2_send.specs.Transmitter.{Transmitter, new_transmitter}

@@ -1,6 +1,6 @@
 -- What `run` does: `mod`, `noise` and `demod`, with the symbols in memory (own).
 use Rattle.std.specs.Prelude.{◌≡◌, ℕ, Bool, false, if◌then◌else◌, List, [], Option, Some, None, Result, Ok, Err}
-use Rattle.s2_mode.specs.Limits.{max_symbols}
+use Rattle.s2_receive.specs.Limits.{max_symbols}
 use Rattle.s2_mode.specs.Mode.{Mode}
 use Rattle.s2_rows.specs.Rows.{Rows}
 use Rattle.s2_link.specs.declared.setup.Setup.{Setup}

@@ -1,7 +1,7 @@
 //! Adds noise to sent symbols that are in memory, and receives the result.
 ghost use Rattle.std.specs.Prelude.{◌≡◌, ◌+◌, ◌≤◌, false};
 ghost use Rattle.s2_mode.specs.Counts.{CanCount};
-ghost use Rattle.s2_mode.specs.Limits.{max_symbols};
+ghost use Rattle.s2_receive.specs.Limits.{max_symbols};
 ghost use Rattle.s2_modem.specs.Reception.{link_rules};
 ghost use Rattle.s2_commands.specs.Ends.{CausesWith, ends_of};
 ghost use Rattle.s2_commands.specs.Hearing.{kept_fault, ReceivesWithNoise, written_by};

@@ -1,7 +1,7 @@
 //! `run --seeds`: receives sent symbols once per seed of a range.
 ghost use Rattle.std.specs.Prelude.{◌≡◌, ◌+◌, ◌≤◌, false};
 ghost use Rattle.s2_mode.specs.Counts.{CanCount};
-ghost use Rattle.s2_mode.specs.Limits.{max_symbols};
+ghost use Rattle.s2_receive.specs.Limits.{max_symbols};
 ghost use Rattle.s2_modem.specs.Reception.{link_rules};
 ghost use Rattle.s2_commands.specs.Ends.{BeginsWith, CausesWith, ends_of};
 ghost use Rattle.s2_commands.specs.Hearing.{written_by};

@@ -3,6 +3,7 @@ ghost use Rattle.std.specs.Prelude.{◌≡◌, length, IfOk};
 ghost use Rattle.s2_mode.specs.Mode.{n_of, symbols_in};
 
 use crate::changed::changed_bits;
+use crate::correlations::correlations_of;
 use crate::errors::errors_of;
 use crate::header::header_errors;
 use s2_bits::Bits;
@@ -84,12 +85,15 @@ impl FigureFinder {
         map_into(self.mode, word, &mut self.payload);
         frame_into(self.mode, &self.gold, &self.payload, &mut self.sent);
         let errors = errors_of(self.mode, symbols, &self.sent);
+        let correlations = correlations_of(self.mode, symbols, &self.sent);
         Figures {
             header: header_errors(self.mode, symbols),
             rounds,
             changed: changed_bits(self.mode, soft, word, &mut self.hard),
             known: errors.known,
             payload: errors.payload,
+            known_correlation: correlations.known,
+            payload_correlation: correlations.payload,
         }
     }
 }

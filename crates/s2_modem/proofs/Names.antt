@@ -11,7 +11,7 @@ pub use Rattle.std.proofs.lemmas.List.Elements.{All-append, All-cons, All-drop, 
 pub use Rattle.std.proofs.lemmas.List.Sums.{sum_by-cons}
 pub use Rattle.std.proofs.lemmas.List.FromFn.{fill_by_all, get_or-map-range_with_len, length-map-range_with_len}
 pub use Rattle.std.proofs.lemmas.Result.{IfOk-weaker}
-pub use Rattle.s2_mode.specs.Limits.{max_symbols}
+pub use Rattle.s2_receive.specs.Limits.{max_symbols}
 pub use Rattle.s2_mode.specs.Mode.{HasCodeSizes, IsMode, Mode, is_qpsk, k_of, kbch_of, n_of, shape_in, slots_of, symbols_in, t_of}
 pub use Rattle.s2_mode.specs.Shape.{code_bits}
 pub use Rattle.s2_mode.specs.Streams.{Streams}
@@ -73,7 +73,7 @@ pub use Rattle.s2_judge.proofs.DecidingLemmas.{certified_lem, clean_lem, likely_
 pub use Rattle.s2_judge.proofs.Scattering.{scattered_lem}
 pub use Rattle.s2_send.specs.Frames.{IsCodewordFor, baseband_frame, padded_bits, sent_behind}
 pub use Rattle.s2_send.specs.Laws.{IsLinkOf}
-pub use Rattle.s2_send.specs.Sending.{AreUnits, is_due}
+pub use Rattle.s2_send.specs.Sending.{AreCodewords, AreUnits, is_due}
 pub use Rattle.s2_send.specs.Transmitter.{Transmitter}
 pub use Rattle.s2_send.proofs.OnlyFrames.{length-baseband_frame, length-bch_word}
 pub use Rattle.s2_receive.specs.Answers.{ReceivesTo, RunAnswers}
@@ -108,7 +108,7 @@ pub use Rattle.s2_figures.specs.Header.{symbol_energy}
 unfoldable pub use Rattle.s2_figures.specs.Header.{energy_of, header_errors}
 pub use Rattle.s2_modem.specs.Both.{AreBytes, FramePlace, IsByte, IsDelivered, IsDeliveredCertified, ReceivesAll, certified_lines, energy_over, run_places, sent_symbols, sums_over, totals_of}
 pub use Rattle.s2_modem.specs.Front.{IsCleanFrame, clean_energy, clean_figures, clean_figures_by}
-pub use Rattle.s2_modem.specs.Headline.{ArrivalLaw, BothCodesLaw, CorrectsWithin, IsSent, ReceivesAllLaw, ReceivesScattered, ScatteredFrameLaw}
+pub use Rattle.s2_modem.specs.Headline.{ArrivalLaw, BothCodesLaw, CorrectsWithin, IsSent, ReceivesAllLaw, ReceivesScattered, ScatteredFrameLaw, sent_places}
 pub use Rattle.s2_modem.specs.Listening.{FindsWord, Listening, Reads, decides, decision_held, figures_found, finder_by}
 pub use Rattle.s2_modem.specs.Promise.{Arriving, CallsLaw, Headline, IsCutAt, IsHeadline, IsNext, IsReadable, FramePromises, IsFrameAt, KeepsHeadline, Place, report_at, RunsHeadline, closed_packets, decision_from, found_at, frame_from, is_delivered, past, stands, wrong_bits}
 pub use Rattle.s2_modem.specs.Reception.{AllAsLikely, AllTold, IsAsLikely, IsCertifiedBy, IsCorrected, Receiver, link_rules, rules_for, seen}

@@ -1,7 +1,7 @@
 //! The receiver of one link.
 ghost use Rattle.std.specs.Prelude.{◌≡◌, ◌*◌, ◌<◌, ◌≤◌, None, IfOk, OnErr, IsErrOf, length};
 ghost use Rattle.s2_mode.specs.Counts.{CanCount};
-ghost use Rattle.s2_mode.specs.Limits.{max_symbols};
+ghost use Rattle.s2_receive.specs.Limits.{max_symbols};
 ghost use Rattle.s2_mode.specs.Mode.{symbols_in};
 ghost use Rattle.s2_mode.specs.Streams.{streams_by};
 ghost use Rattle.s2_receive.specs.declared.report.Phase.TheVariants as phases;
@@ -20,8 +20,8 @@ use s2_bits::Bits;
 use s2_check::CertView;
 use s2_link::{Link, LinkSetup, Setup, SetupFault};
 use s2_matrix::Matrix;
-use s2_mode::{CountedRead, CountedWrite, MAX_SYMBOLS, StreamFault};
-use s2_receive::{Fault, Received, Sink, Step, receive_all, receive_with};
+use s2_mode::{CountedRead, CountedWrite, StreamFault};
+use s2_receive::{Fault, MAX_SYMBOLS, Received, Sink, Step, receive_all, receive_with};
 use s2_tuning::Tuning;
 use std::alloc::{AllocError, Global};
 use std::marker::Model;

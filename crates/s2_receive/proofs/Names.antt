@@ -14,7 +14,7 @@ pub use Rattle.std.specs.Io.KnownBytes.{IsAtEnd, Appends, Consumes}
 pub use Rattle.std.specs.List.{flat_map, copy_within}
 pub use borrow.Rule.Slice.PartMut.{put_mid, post_of}
 pub use Rattle.s2_mode.proofs.SymbolLists.{symbols-append, length-symbols}
-pub use Rattle.s2_mode.specs.Limits.{max_symbols}
+pub use Rattle.s2_receive.specs.Limits.{max_symbols}
 pub use Rattle.s2_mode.specs.Mode.{Mode}
 pub use Rattle.s2_mode.specs.Streams.{NoneFailed, OneFailed, Streams, streams_by}
 pub use Rattle.s2_mode.specs.Symbols.{symbols_of, symbol_at}

@@ -1,3 +1,4 @@
+pub mod Limits
 pub mod Meeting
 pub mod Finding
 pub mod Faults

@@ -4,6 +4,7 @@ use Rattle.std.specs.List.{flat_map}
 use Rattle.s2_bbframe.specs.Limits.{max_field_bytes, packets_room}
 use Rattle.s2_bbframe.specs.declared.header.Header.{Header}
 use Rattle.s2_bbframe.specs.Joining.{Joined, still, begun_body}
+use Rattle.s2_mode.specs.Limits.{header_symbols}
 use Rattle.s2_mode.specs.declared.symbols.Symbol.{Symbol}
 use Rattle.s2_receive.specs.Finding.{Follows, met_then, met_of, place_after, window_at}
 use Rattle.s2_receive.specs.Receiving.{Decision, Handles, IsDecided, Rules, State, Waits, at_end, counts_after, cut_totals, frame_totals, joined_after, met_left, report_for, taken, with_gap}
@@ -41,7 +42,7 @@ counts_by held (next.End at skipped) delivered = record { delivered = 0; good = 
 
 -- no more than a frame can give
 abbrev pub IsFew : StepCounts → Type 0
-IsFew counts = (counts.delivered ≤ 1) × (counts.good + counts.bad ≤ max_field_bytes) × (counts.incomplete ≤ 2)
+IsFew counts = (counts.delivered ≤ 1) × (counts.good + counts.bad ≤ header_symbols) × (counts.incomplete ≤ 2)
 
 -- the totals after the thing met, by its counts, and by the last decision
 abbrev pub counted : Totals → Next → StepCounts → Decision → Totals

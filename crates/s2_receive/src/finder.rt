@@ -1,6 +1,7 @@
 //! The finder of one mode's frames.
-ghost use Rattle.std.specs.Prelude.{◌≡◌, ◌*◌, ◌≤◌, nat_eq, IfOk, length, false};
-ghost use Rattle.s2_mode.specs.Limits.{header_symbols, max_symbols};
+ghost use Rattle.std.specs.Prelude.{◌≡◌, ◌*◌, ◌^◌, ◌≤◌, nat_eq, IfOk, length, false};
+ghost use Rattle.s2_mode.specs.Limits.{header_symbols};
+ghost use Rattle.s2_receive.specs.Limits.{max_symbols};
 ghost use Rattle.s2_mode.specs.Mode.{symbols_in};
 ghost use Rattle.s2_mode.specs.Symbols.{symbols_of};
 ghost use Rattle.s2_receive.specs.Finding.{Takes, reached, wanted, window_at};
@@ -79,6 +80,7 @@ impl Finder {
         requires { reached self.now.window ≤ limit }
         ensures is { result ≡ wanted limit (symbols_in self.now.mode) self.now.window }
         ensures few { result ≤ symbols_in self.now.mode }
+        ensures small { result ≤ 2 ^ 32 }
     {
         let left = limit - self.held.at - self.held.count as u64;
         left.min((self.frame.len() - self.held.count) as u64) as usize

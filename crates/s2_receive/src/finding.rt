@@ -1,6 +1,7 @@
 //! Finds the next frame in a stream of symbols.
 ghost use Rattle.std.specs.Prelude.{◌≡◌, ◌+◌, ◌/◌, ◌^◌, ◌<◌, ◌≤◌, ◌∷◌, ◌++◌, [], List, length, take, true, false};
-ghost use Rattle.s2_mode.specs.Limits.{header_symbols, max_symbols};
+ghost use Rattle.s2_mode.specs.Limits.{header_symbols};
+ghost use Rattle.s2_receive.specs.Limits.{max_symbols};
 ghost use Rattle.s2_mode.specs.Symbols.{symbols_of};
 ghost use Rattle.s2_mode.specs.declared.symbols.Symbol.{Symbol as SymbolValue};
 ghost use Rattle.s2_receive.specs.Meeting.{no_gap, frame as met_frame};

@@ -42,6 +42,7 @@ mod finding;
 mod frame;
 mod gap;
 pub mod laws;
+mod limits;
 mod lines;
 mod parts;
 mod receiver;
@@ -52,8 +53,9 @@ mod stepper;
 mod telling;
 
 pub use all::{receive_all, receive_bytes, receive_with};
-pub use figures::{Figures, Sums, Tally};
+pub use figures::{Correlation, Figures, Sums, Tally};
 pub use frame::Frame;
+pub use limits::MAX_SYMBOLS;
 pub use parts::{Decide, Decided};
 pub use receiver::Receiver;
 pub use report::{Fault, Outcome, Received, Report, Step, Totals};

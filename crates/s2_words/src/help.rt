@@ -158,10 +158,13 @@ With --figures, at the end of a frame's line:
   changed B    bits in which the decided word differs from the hard decisions
   rounds K     rounds of min-sum
   known E      squared error of the known symbols: the sum over header and pilots
-  payload P    squared error of the payload, to the points of the decided word
+  payload E    squared error of the payload, to the points of the decided word
+  power W      after each of these two: energy of the received symbols
+  along A      each of them times the conjugate of the sent symbol: the sum of the real parts
+  across C     the sum of the imaginary parts
 
 With --figures, at the end of the last line:
-  changed B of T known E of N payload P of M    totals: over T bits, N symbols of headers and pilots, M symbols of payloads
+  changed B of T known E of N power W payload E of N power W    totals: over T bits, and N symbols of headers and pilots, or of payloads
 
 Verdicts:
   sole         proved: every other codeword is less likely
