@@ -223,5 +223,8 @@ pub(crate) fn with_link<'a, R: Disk + Clock + AllocGlobal, O: CountedWrite, E: C
     show.finish();
     let left_out = files.from.left_out();
     let exit = conclude_packets(terminal, request.noted_packets(), left_out, exit);
-    conclude_records(exit, files.to.is_begun(), records)
+    match conclude_records(exit, files.to.is_begun(), records) {
+        Ok(exit) => Ok(exit),
+        Err(_) => Err(Fault::Write),
+    }
 }

@@ -17,7 +17,7 @@ use s2_progress::{Clearing, Meter, Pace, Show, Terminal, Watched};
 use s2_resync::{PacketReader, PacketSource};
 use s2_scan::Beginning;
 use s2_words::{AuditWords, JoinWords, JudgeWords, Progress, ScanWords};
-use std::alloc::Global;
+use std::alloc::{AllocError, Global};
 use std::rt::Files;
 use std::time::Clock;
 
@@ -234,21 +234,18 @@ fn read_as<'t, 'r, 'a, R: Disk + AllocGlobal>(
 }
 
 /// A reader as it is, or its packets.
-fn source_of<'a, R: CountedRead + Drop>(
+fn source_of<R: CountedRead + Drop>(
     alloc: Global,
     reader: R,
     resync: bool,
-) -> Result<PacketSource<R, PacketReader<R>>, Fault<'a>>
+) -> Result<PacketSource<R, PacketReader<R>>, AllocError>
     requires { R.count reader ≡ 0 }
     ensures { IfOk result (λ source. either R.count (λ p. p.failed) source.reader ≡ 0) }
 {
     if !resync {
         return Ok(PacketSource::plain(reader));
     }
-    match PacketReader::new(alloc, reader) {
-        Ok(packets) => Ok(PacketSource::packets(packets)),
-        Err(_) => Err(Fault::NoMemory),
-    }
+    Ok(PacketSource::packets(PacketReader::new(alloc, reader)?))
 }
 
 /// Opens the files of a command on a link: the row file, the input, with a buffer if one is requested, and the output.
@@ -271,7 +268,9 @@ pub(crate) fn open_link<'a, 'm, 't, 'r, R: Disk + Clock + AllocGlobal>(
     show.expect(opener.last_length());
     let to = write_by(opener, terminal, to)?;
     let from = Watched::new(from, show);
-    let from = source_of(terminal.host().alloc(), from, reading.resync)?;
+    let Ok(from) = source_of(terminal.host().alloc(), from, reading.resync) else {
+        return Err(Fault::NoMemory);
+    };
     Ok(LinkFiles {
         rows: PacketSource::plain(Watched::new(rows, unseen)),
         from,

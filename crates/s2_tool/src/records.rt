@@ -149,11 +149,11 @@ fn finish_records<W: Output + Drop>(records: Records<Truncating<W>>) -> Result<(
 
 /// The end of a command with records. If its output was begun, each file of records to which nothing was written is
 /// truncated.
-pub(crate) fn conclude_records<'a, W: Output + Drop>(
+pub(crate) fn conclude_records<W: Output + Drop>(
     exit: Exit,
     begun: bool,
     records: Records<Truncating<W>>,
-) -> Result<Exit, Fault<'a>>
+) -> Result<Exit, WriteFault>
     requires { wanted_count (λ t. W.count t.to) records.0 + (wanted_count (λ t. W.count t.to) records.1.0
         + (wanted_count (λ t. W.count t.to) records.1.1.0 + wanted_count (λ b. W.count b.to.to) records.1.1.1)) ≤ 1 }
     ensures { OnErr result (exit ≢ Exit.Fault) }
@@ -162,7 +162,7 @@ pub(crate) fn conclude_records<'a, W: Output + Drop>(
         return Ok(exit);
     }
     match finish_records(records) {
-        Err(_) if exit != Exit::Fault => Err(Fault::Write),
+        Err(fault) if exit != Exit::Fault => Err(fault),
         _ => Ok(exit),
     }
 }

@@ -21,10 +21,10 @@ returns-then-is_empty-clause-ends g c = λ _.
       c.in_ok-hold.ensures.end (omega (arith, none, some_wanted c.seek.step.in_step c.wanted-wanted.result c.wanted-wanted.ensures)),
     )
 
-pub returns-then-is_last-2-clause-leads : goal.returns-then-is_last-2-clause-leads
-returns-then-is_last-2-clause-leads g c =
+pub returns-then-is_last-clause-leads : goal.returns-then-is_last-clause-leads
+returns-then-is_last-clause-leads g c =
     let held = c.hold.new.held in
-    let at = c.deref-2.ensures.value in
+    let at = c.deref-in-seek.ensures.value in
     let gap = c.gap_in-count.ensures in
     let long : c.len.result ≡ length held.items = omega (arith, c.len.ensures, held.ok.0) in
     turn_led _ c.seek.step c.leave_out.new.step _ (g.R.CountedRead.remaining c.hold.new.reader) held.items c.leave_out.new.ahead.items c.gap_in-count.result c.wanted-wanted.result
@@ -34,15 +34,6 @@ returns-then-is_last-2-clause-leads g c =
     gap.further (omega (arith, gap.inside, ap length at)) (λ t. gap.last t ∙ ap length at) (λ f place a b. ap (λ (l : List ℕ). has_sync l place) (sym at) ∙ gap.none f place a b)
     c.in_ok-leave_out.ensures.gap c.in_ok-leave_out.ensures.rest
 
-pub returns-then-is_last-2-clause-ends : goal.returns-then-is_last-2-clause-ends
-returns-then-is_last-2-clause-ends g c = λ _.
-    let held = c.hold.new.held in
-    let all : c.gap_in-count.result ≡ length held.items = c.gap_in-count.ensures.last c.if-is_last-2.true ∙ ap length c.deref-2.ensures.value in
-    let few : c.len.result < c.wanted-wanted.result = ltb-true c.len.result c.wanted-wanted.result c.if-is_last-2.true in (
-      c.in_ok-leave_out.ensures.rest ∙ drop_all c.gap_in-count.result held.items (omega (arith, all)),
-      c.in_ok-hold.ensures.end (omega (arith, few, c.len.ensures)),
-    )
-
 pub seek-smaller : goal.seek-smaller
 seek-smaller g c =
     let more : c.leave_out.new.step.left_out ≡ c.seek.step.left_out + c.gap_in-count.result = ap (λ (s : Step). s.left_out) c.in_ok-leave_out.ensures.gap in
@@ -51,7 +42,7 @@ seek-smaller g c =
 pub seek-preserved : goal.seek-preserved
 seek-preserved g c =
     let held = c.hold.new.held in
-    let at = c.deref-2.ensures.value in
+    let at = c.deref-in-seek.ensures.value in
     let gap = c.gap_in-count.ensures in
     let long : c.len.result ≡ length held.items = omega (arith, c.len.ensures, held.ok.0) in (
       turn_led _ c.seek.step c.leave_out.new.step _ (g.R.CountedRead.remaining c.hold.new.reader) held.items c.leave_out.new.ahead.items c.gap_in-count.result c.wanted-wanted.result
