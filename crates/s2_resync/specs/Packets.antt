@@ -32,8 +32,8 @@ resync in_step (suc left) (byte ∷ bytes) = with_byte byte (resync in_step left
 resync in_step zero (byte ∷ bytes) =
     if begins in_step (byte ∷ bytes) then with_byte byte (resync true 187 bytes) else without_byte in_step (resync false 0 bytes)
 
--- A reader of packets: the rest of its packet; the bytes after that, if they are known, and whether a packet is expected
--- there; the bytes left out so far, and their places; and its failed calls
+-- A reader of packets: the rest of its packet, the bytes after that, if they are known, and whether a packet is expected
+-- there. Then the numbers of bytes left out so far, of their places, and of failed calls
 pub record Packets : Type 0 where
   pub packet : List ℕ
   pub coming : Option (List ℕ)

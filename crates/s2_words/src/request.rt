@@ -119,8 +119,8 @@ pub enum Progress {
     Hidden,
 }
 
-/// `mod`: a link, the number of frames between dummy frames (0 for none), and whether it goes on after a wrong sync byte;
-/// whether notes are left out, whether progress is shown, the records (codewords and BBFRAMEs), and the files.
+/// `mod`: a link, the number of frames between dummy frames (0 for none), and whether it goes on after a wrong sync byte.
+/// Then whether notes are left out, whether progress is shown, the records (codewords and BBFRAMEs), and the files.
 #[derive(Clone, Copy)]
 pub struct ModWords<'a> {
     pub link: LinkWords,
