@@ -17,13 +17,13 @@ use Rattle.s2_console.specs.declared.exit.Exit.{Exit}
 use Rattle.s2_console.specs.declared.fault.Fault.{Fault}
 use Rattle.s2_console.specs.declared.fault.Fault.TheVariants as faults
 use Rattle.s2_audit.specs.declared.entry.Frame.{Frame}
-use Rattle.s2_audit.specs.declared.turning.Turn.{Turn}
-use Rattle.s2_audit.specs.declared.turning.Turn.TheVariants as turns
-use Rattle.s2_audit.specs.Desks.{Terms, frame_soft}
+use Rattle.s2_audit.specs.declared.outcome.Outcome.{Outcome}
+use Rattle.s2_audit.specs.declared.outcome.Outcome.TheVariants as outcomes
+use Rattle.s2_audit.specs.Auditors.{Terms, frame_soft}
 use Rattle.s2_audit.specs.Entries.{certified_in, counts_of, entry_in, text_of, IsLine}
 use Rattle.s2_audit.specs.Limits.{certificate_bytes, frame_bytes, max_lines}
 use Rattle.s2_audit.specs.Lines.{shown_line}
-use Rattle.s2_audit.specs.Turns.{Evidence, Standing, Turns, standing}
+use Rattle.s2_audit.specs.Outcomes.{Evidence, Standing, HasOutcome, standing}
 
 -- a certificate with a frame's soft values, which the checker accepts under these rows, and strictly if the verdict is
 -- sole
@@ -81,30 +81,30 @@ pub record Audits (t : Terms) (report report_new : Option (List ℕ)) (old new :
   pub printed : Appends out out_new (flat_map line_of checked)
 
 -- the printed line of an outcome
-abbrev pub turn_text : Turn → List ℕ
-turn_text turns.Silent = []
-turn_text (turns.Shown text) = text
-turn_text (turns.Ended printed) = printed.text
+abbrev pub outcome_text : Outcome → List ℕ
+outcome_text outcomes.Silent = []
+outcome_text (outcomes.Shown text) = text
+outcome_text (outcomes.Ended printed) = printed.text
 
 -- the exit, if the audit ends with this outcome
-abbrev pub turn_exit : Turn → Option Exit
-turn_exit turns.Silent = None
-turn_exit (turns.Shown text) = None
-turn_exit (turns.Ended printed) = Some printed.exit
+abbrev pub outcome_exit : Outcome → Option Exit
+outcome_exit outcomes.Silent = None
+outcome_exit (outcomes.Shown text) = None
+outcome_exit (outcomes.Ended printed) = Some printed.exit
 
 -- the line of an outcome is printed: all of it, or a first part if the writer failed
-abbrev pub PrintsTurn : Turn → Option (List ℕ) → Option (List ℕ) → Result (Option Exit) Fault → Type 0
-PrintsTurn turn out out_new (Ok exit) = (exit ≡ turn_exit turn) × Appends out out_new (turn_text turn)
-PrintsTurn turn out out_new (Err faults.Write) = AppendsPart (turn_text turn) out out_new
-PrintsTurn turn out out_new (Err f) = ⊥
+abbrev pub PrintsOutcome : Outcome → Option (List ℕ) → Option (List ℕ) → Result (Option Exit) Fault → Type 0
+PrintsOutcome outcome out out_new (Ok exit) = (exit ≡ outcome_exit outcome) × Appends out out_new (outcome_text outcome)
+PrintsOutcome outcome out out_new (Err faults.Write) = AppendsPart (outcome_text outcome) out out_new
+PrintsOutcome outcome out out_new (Err f) = ⊥
 
 -- a report line was audited, and its outcome is printed; or there is a fault, and nothing is printed
 abbrev pub LineIs : Terms → (number : ℕ) → (was is : Standing) → Option (List ℕ) → Option (List ℕ) → Evidence → Evidence → Option (List ℕ) → Option (List ℕ) → Result (Option Exit) Fault → Type 0
 LineIs t number was is report report_new old new out out_new (Ok exit) =
-    (turn : Turn) × Turns t number was is report report_new old new (Ok turn) × PrintsTurn turn out out_new (Ok exit)
+    (outcome : Outcome) × HasOutcome t number was is report report_new old new (Ok outcome) × PrintsOutcome outcome out out_new (Ok exit)
 LineIs t number was is report report_new old new out out_new (Err faults.Write) =
-    (turn : Turn) × Turns t number was is report report_new old new (Ok turn) × AppendsPart (turn_text turn) out out_new
-LineIs t number was is report report_new old new out out_new (Err f) = Turns t number was is report report_new old new (Err f) × (out_new ≡ out)
+    (outcome : Outcome) × HasOutcome t number was is report report_new old new (Ok outcome) × AppendsPart (outcome_text outcome) out out_new
+LineIs t number was is report report_new old new out out_new (Err f) = HasOutcome t number was is report report_new old new (Err f) × (out_new ≡ out)
 
 -- the result of the last outcome
 abbrev pub last_of : Result Exit Fault → Result (Option Exit) Fault

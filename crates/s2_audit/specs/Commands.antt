@@ -11,8 +11,8 @@ use Rattle.s2_console.specs.Screens.{Screen}
 use Rattle.s2_link.specs.Link.{Link, link_of}
 use Rattle.s2_link.specs.declared.setup.Setup.{Setup}
 use Rattle.s2_inputs.specs.Inputs.{rows_in}
-use Rattle.s2_audit.specs.Desks.{terms_of}
-use Rattle.s2_audit.specs.Turns.{Evidence}
+use Rattle.s2_audit.specs.Auditors.{terms_of}
+use Rattle.s2_audit.specs.Outcomes.{Evidence}
 use Rattle.s2_audit.specs.Auditing.{AuditsToEnd, ReachesLimit}
 
 -- the unread bytes of the files of an audit, if they are known, and how many of their calls have failed

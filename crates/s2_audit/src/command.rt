@@ -4,11 +4,11 @@ ghost use Rattle.s2_mode.specs.Counts.{CanCount};
 ghost use Rattle.s2_console.specs.Screens.{CanShow};
 ghost use Rattle.s2_link.specs.Link.{setup_of};
 ghost use Rattle.s2_audit.specs.Commands.{AuditExits, AuditRuns, AuditsLink, files_by};
-ghost use Rattle.s2_audit.specs.Turns.{evidence_by};
+ghost use Rattle.s2_audit.specs.Outcomes.{evidence_by};
 ghost use Rattle.s2_audit.specs.Auditing.{ReachesLimit};
 
 use crate::auditing::audit_lines;
-use crate::desk::Desk;
+use crate::auditor::Auditor;
 use s2_console::{Console, Exit, Fault};
 use s2_inputs::read_matrix;
 use s2_link::{Link, LinkSetup};
@@ -37,8 +37,8 @@ fn audit_link<R: CountedRead, O: CountedWrite>(
     ensures write { result ≡ Err Fault.Write → O.count out.new ≡ O.count out.old + 1 }
     ensures no_write { result ≢ Err Fault.Write → O.count out.new ≡ O.count out.old }
 {
-    match Desk::new(alloc, link, divisor) {
-        Ok(mut desk) => audit_lines(alloc, &mut desk, report, symbols, certificates, out),
+    match Auditor::new(alloc, link, divisor) {
+        Ok(mut auditor) => audit_lines(alloc, &mut auditor, report, symbols, certificates, out),
         Err(_) => Err(Fault::NoMemory),
     }
 }
@@ -119,5 +119,5 @@ pub fn audit_command<R: CountedRead, O: CountedWrite, E: CountedWrite>(
         certificates,
         &mut console.output,
     );
-    console.conclude(ended)
+    console.finish(ended)
 }

@@ -9,7 +9,7 @@ use Rattle.s2_scan.specs.Lines.{gain_of, is_usual}
 use Rattle.s2_scan.specs.Strength.{amplitude_by}
 use Rattle.s2_words.specs.declared.request.ExitBy.{ExitBy}
 use Rattle.s2_words.specs.declared.request.ExitBy.TheVariants as deciders
-use Rattle.s2_words.specs.declared.request.NoteWords.{NoteWords}
+use Rattle.s2_words.specs.declared.request.NoteArguments.{NoteArguments}
 use Rattle.s2_table.specs.Wanted.{fault_note}
 use Rattle.s2_console.specs.declared.exit.Exit.{Exit}
 use Rattle.s2_console.specs.declared.exit.Exit.TheVariants as exits
@@ -37,7 +37,7 @@ has_come deciders.Delivery r = all_delivered r.totals
 
 -- the exit of a stream that was received to its end: 0 if what decides it has come and, for a strict command, nothing
 -- was lost
-abbrev pub exit_by : NoteWords → Received → Exit
+abbrev pub exit_by : NoteArguments → Received → Exit
 exit_by words r = if has_come words.exit_by r && (not words.strict || (is_clean r.totals && not (no_sync r))) then exits.Fine else exits.No
 
 -- a number and a noun, which is plural unless the number is 1
@@ -133,12 +133,12 @@ abbrev pub notes_of : (tuned : Bool) → Mode → Received → List ℕ
 notes_of tuned m r = loss_notes m r ++ frame_notes r.totals ++ advice tuned r.totals
 
 -- The end of a command that received this, and its notes. If their writer failed, that is its fault
-abbrev pub Answered : NoteWords → Mode → Result Received Fault → Result Exit Fault → List ℕ → Screen → Screen → Type 0
+abbrev pub Answered : NoteArguments → Mode → Result Received Fault → Result Exit Fault → List ℕ → Screen → Screen → Type 0
 Answered words m (Ok r) ended notes old new = (notes ≡ (if words.quiet then [] else notes_of words.tuned m r)) × ((ended ≡ Ok (exit_by words r)) ⊎ NotesLost notes ended old new)
 Answered words m (Err f) ended notes old new = (notes ≡ (if words.quiet then [] else fault_note m f)) × (ended ≡ Err f)
 
 -- The end of a command that received this, and its exit: its notes, and the line of a fault, are on the errors
-pub record Finishes (words : NoteWords) (m : Mode) (reception : Result Received Fault) (exit : Exit) (old new : Screen) : Type 0 where
+pub record Finishes (words : NoteArguments) (m : Mode) (reception : Result Received Fault) (exit : Exit) (old new : Screen) : Type 0 where
   pub ended : Result Exit Fault
   pub notes : List ℕ
   pub exit_is : exit ≡ exit_of ended

@@ -11,7 +11,7 @@ use Rattle.s2_console.specs.declared.fault.Fault.TheVariants as faults
 use Rattle.s2_commands.specs.declared.choices.Channel.{Channel}
 use Rattle.s2_words.specs.declared.request.Seeds.{Seeds}
 use Rattle.s2_commands.specs.Ends.{Ends}
-use Rattle.s2_commands.specs.Hearing.{kept_fault, Stops, hearing, Noised}
+use Rattle.s2_commands.specs.NoisyReception.{kept_fault, Stops, hearing, Noised}
 use Rattle.s2_commands.specs.Receptions.{ReceivesToEnd}
 use Rattle.s2_commands.specs.Sums.{nothing_received, received_sum, seeds_in, sums_line}
 

@@ -1,7 +1,7 @@
 //! The options of a command, apart from its link and its files.
 use s2_channel::Strength;
 use s2_tuning::Tuning;
-use s2_words::{NoteWords, Seeds};
+use s2_words::{NoteArguments, Seeds};
 
 /// A channel: the seed and the strength of its noise.
 #[derive(Clone, Copy)]
@@ -14,7 +14,7 @@ pub struct Channel {
 #[derive(Clone, Copy)]
 pub struct DemodOptions {
     pub tuning: Tuning,
-    pub notes: NoteWords,
+    pub notes: NoteArguments,
 }
 
 /// The options of `run`, apart from its link and its files. They are the number of frames between dummy frames (0 for
@@ -26,5 +26,5 @@ pub struct RunOptions {
     pub tuning: Tuning,
     pub channel: Channel,
     pub seeds: Option<Seeds>,
-    pub notes: NoteWords,
+    pub notes: NoteArguments,
 }

@@ -13,7 +13,7 @@ ghost use Rattle.s2_commands.specs.Receptions.{ReceivesToEnd, Demodulates, Demod
 
 use crate::choices::DemodOptions;
 use crate::link_files::LinkFiles;
-use crate::losses::conclude_reception;
+use crate::losses::finish_reception;
 use s2_console::{Console, Exit, Fault};
 use s2_files::{Destination, Output};
 use s2_link::{Link, LinkSetup};
@@ -146,5 +146,5 @@ pub fn demod_command<K: Sink, R: CountedRead, W: Output, O: CountedWrite, E: Cou
     ensures few { K.count sinks.new ≤ K.count sinks.old + 1 }
 {
     let reception = receive_files(alloc, setup, words, files, sinks, console, notes);
-    conclude_reception(words.notes, &setup.mode, reception, console)
+    finish_reception(words.notes, &setup.mode, reception, console)
 }

@@ -106,5 +106,5 @@ pub(crate) fn report_refusal<O: CountedWrite, E: CountedWrite>(
     ensures reported { Remarks (if quiet then [] else refusal_note refusal) (Err (refusal_fault refusal)) console.old console.new }
 {
     note_refusal(quiet, refusal, &mut console.errors);
-    console.complain(fault_of(refusal))
+    console.report_fault(fault_of(refusal))
 }

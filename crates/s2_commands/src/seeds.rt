@@ -4,13 +4,13 @@ ghost use Rattle.s2_mode.specs.Counts.{CanCount};
 ghost use Rattle.s2_receive.specs.Limits.{max_symbols};
 ghost use Rattle.s2_modem.specs.Reception.{link_rules};
 ghost use Rattle.s2_commands.specs.Ends.{BeginsWith, CausesWith, ends_of};
-ghost use Rattle.s2_commands.specs.Hearing.{written_by};
+ghost use Rattle.s2_commands.specs.NoisyReception.{written_by};
 ghost use Rattle.s2_commands.specs.Seeding.{HearsRange, HearsSeed, SeedsAnswer};
 
 use crate::choices::{Channel, RunOptions};
 use crate::demod::receive_to_end;
-use crate::hearing::kept_fault;
 use crate::noise::add_noise;
+use crate::noisy_reception::kept_fault;
 use crate::sums::{nothing_received, received_sum, sums_line};
 use s2_console::Fault;
 use s2_files::{Destination, Output};

@@ -40,10 +40,10 @@ figures_of m number symbols soft word rounds =
     }
 
 -- what figures are found for: frames of a mode, with a scrambling number
-pub record FigureFinder : Type 0 where
+pub record FigureMeter : Type 0 where
   pub mode : Mode
   pub number : ℕ
 
 -- for these
-abbrev pub finder_of : Mode → ℕ → FigureFinder
-finder_of mode number = record { mode = mode; number = number }
+abbrev pub meter_of : Mode → ℕ → FigureMeter
+meter_of mode number = record { mode = mode; number = number }

@@ -12,7 +12,7 @@ ghost use Rattle.s2_judging.specs.Certifying.{IsJudgedAndCertified, LeavesCertif
 
 use crate::decision::decide_by;
 use crate::files::JudgeFiles;
-use crate::hard_note::{Ran, are_bits, conclude_judged};
+use crate::hard_note::{Ran, are_bits, finish_judged};
 use crate::reading::{Judged, read_judged};
 use s2_console::{Console, Exit, Fault, Printed};
 use s2_files::{Destination, Output};
@@ -120,5 +120,5 @@ pub fn judge_command<R: CountedRead, C: Output, O: CountedWrite, E: CountedWrite
     ensures run { JudgeExits hard quiet tuning shape files.old files.new console.old console.new result }
 {
     let ran = print_judgement(alloc, shape, hard, tuning, files, &mut console.output);
-    conclude_judged(hard, quiet, ran, console)
+    finish_judged(hard, quiet, ran, console)
 }

@@ -15,7 +15,7 @@ ghost use Rattle.s2_judging.specs.JudgingEach.{JudgesOne, JudgesNext, Finishes, 
 use crate::decision::{certify, decide_by};
 use crate::files::JudgeFiles;
 use crate::frames::Frames;
-use crate::hard_note::{Ran, are_bits, conclude_judged};
+use crate::hard_note::{Ran, are_bits, finish_judged};
 use s2_console::{Console, Exit, Fault, Printed};
 use s2_evidence::worse;
 use s2_files::{Destination, Output};
@@ -274,5 +274,5 @@ pub fn judge_each_command<R: CountedRead, C: Output, O: CountedWrite, E: Counted
     ensures run { JudgeEachExits hard quiet tuning shape files.old files.new console.old console.new result }
 {
     let ran = print_judgements(alloc, shape, hard, tuning, files, &mut console.output);
-    conclude_judged(hard, quiet, ran, console)
+    finish_judged(hard, quiet, ran, console)
 }

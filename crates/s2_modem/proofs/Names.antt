@@ -82,12 +82,12 @@ pub use Rattle.s2_receive.specs.declared.figures.Figures.{Figures}
 pub use Rattle.s2_receive.specs.declared.figures.Tally.{Tally}
 pub use Rattle.s2_receive.specs.Laws.{AreReceived, IsDummy, IsReceived, Piece, SkippedNone, SpellSymbols, coded, dummy, frames_at, joined, stream_symbols}
 pub use Rattle.s2_receive.specs.Meeting.{Met, begins, by_found, cut, ended, extended, frame, met_from, no_gap}
-pub use Rattle.s2_receive.specs.Parts.{IsSaidBy, delivered_of}
+pub use Rattle.s2_receive.specs.Decider.{IsSaidBy, delivered_of}
 pub use Rattle.s2_receive.specs.Receiving.{Decision, Meets, Rules, RunsOut, Standing, State, after, after_all, all_lines, all_packets, are_all_certified, at_end, at_start, begun, count_of, left_in, left_known, report_of, step_of, with_gap}
 pub use Rattle.s2_receive.specs.ReportLines.{cut_line, end_line, frame_line}
 pub use Rattle.s2_receive.specs.Sinks.{RunAnswersWith, Taking}
 unfoldable pub use Rattle.s2_receive.specs.Windows.{found_as}
-pub use Rattle.s2_receive.specs.declared.parts.Decided.{Decided as Answer}
+pub use Rattle.s2_receive.specs.declared.decider.Decided.{Decided as Answer}
 pub use Rattle.s2_receive.specs.declared.report.Outcome.{Outcome}
 pub use Rattle.s2_receive.specs.declared.report.Outcome.TheVariants.{BadHeader, Delivered, NoWord}
 pub use Rattle.s2_receive.specs.declared.report.Received.{Received}
@@ -102,19 +102,19 @@ pub use Rattle.s2_receive.proofs.RunLemmas.{after-append, lines-append, packets-
 pub use Rattle.s2_receive.proofs.SameSymbols.{all_met, same_met}
 pub use Rattle.s2_receive.proofs.StepLemmas.{symbols_least}
 pub use Rattle.s2_figures.specs.Errors.{error_at, known_places, payload_places, squared_distance}
-pub use Rattle.s2_figures.specs.Figures.{FigureFinder, finder_of, sent_frame}
+pub use Rattle.s2_figures.specs.Figures.{FigureMeter, meter_of, sent_frame}
 unfoldable pub use Rattle.s2_figures.specs.Figures.{figures_of}
 pub use Rattle.s2_figures.specs.Header.{symbol_energy}
 unfoldable pub use Rattle.s2_figures.specs.Header.{energy_of, header_errors}
 pub use Rattle.s2_modem.specs.Both.{AreBytes, FramePlace, IsByte, IsDelivered, IsDeliveredCertified, ReceivesAll, certified_lines, energy_over, run_places, sent_symbols, sums_over, totals_of}
 pub use Rattle.s2_modem.specs.Front.{IsCleanFrame, clean_energy, clean_figures, clean_figures_by}
 pub use Rattle.s2_modem.specs.Headline.{ArrivalLaw, BothCodesLaw, CorrectsWithin, IsSent, ReceivesAllLaw, ReceivesScattered, ScatteredFrameLaw, sent_places}
-pub use Rattle.s2_modem.specs.Listening.{FindsWord, Listening, Reads, decides, decision_held, figures_found, finder_by}
+pub use Rattle.s2_modem.specs.DeciderState.{FindsWord, DeciderState, Reads, decides, decision_held, figures_found, meter_by}
 pub use Rattle.s2_modem.specs.Promise.{Arriving, CallsLaw, Headline, IsCutAt, IsHeadline, IsNext, IsReadable, FramePromises, IsFrameAt, KeepsHeadline, Place, report_at, RunsHeadline, closed_packets, decision_from, found_at, frame_from, is_delivered, past, stands, wrong_bits}
-pub use Rattle.s2_modem.specs.Reception.{AllAsLikely, AllTold, IsAsLikely, IsCertifiedBy, IsCorrected, Receiver, link_rules, rules_for, seen}
+pub use Rattle.s2_modem.specs.Reception.{AllAsLikely, TrueReports, IsAsLikely, IsCertifiedBy, IsCorrected, Receiver, link_rules, rules_for, seen}
 pub use Rattle.s2_modem.specs.Reports.{IsUndecided, decision_by, decision_on, delivered_by, field_in, figures_by, frame_soft, header_in, measured, message_of, outcome_by, received_word}
 unfoldable pub use Rattle.s2_modem.specs.Reports.{frame_decision}
-pub use Rattle.s2_modem.specs.Steps.{AllHeard}
+pub use Rattle.s2_modem.specs.Steps.{DeliversAll}
 pub use Rattle.s2_modem.specs.Streams.{AreEach, FirstFramesLaw, IsClear, IsHeard, IsWholeFrame, OneStreamLaw, places_in}
 pub use Rattle.s2_plframe.specs.declared.receive.found.Found.TheVariants as founds
 pub use Rattle.s2_receive.specs.declared.report.Phase.TheVariants as phases

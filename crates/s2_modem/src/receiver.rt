@@ -11,7 +11,7 @@ ghost use Rattle.s2_receive.specs.Answers.{Advances, Between, OnlyStreamFaults, 
 ghost use Rattle.s2_receive.specs.Sinks.{OnlyFaultsWith};
 ghost use Rattle.s2_tuning.specs.Tuning.{tuning_of};
 ghost use Rattle.s2_modem.specs.Reports.{IsUndecided};
-ghost use Rattle.s2_modem.specs.Listening.{decides};
+ghost use Rattle.s2_modem.specs.DeciderState.{decides};
 ghost use Rattle.s2_modem.specs.Reception.{IsNew, Makes, RunsReceiver, RunsReceiverWith, certificate_of, link_rules, rules_for, seen};
 ghost use Rattle.s2_modem.specs.Promise.{KeepsHeadline, RunsHeadline};
 
@@ -79,7 +79,7 @@ impl<'a> Model for Receiver<'a> {
     ghost use Rattle.std.specs.Prelude.{◌≡◌};
     ghost use Rattle.s2_receive.specs.Receiving.{rules_of};
     ghost use Rattle.s2_link.specs.Link.{link_of, setup_of};
-    ghost use Rattle.s2_modem.specs.Listening.{decides};
+    ghost use Rattle.s2_modem.specs.DeciderState.{decides};
     ghost use Rattle.s2_modem.specs.Reception.{Receiver as ReceiverValue, link_rules};
     ghost use Rattle.s2_modem.specs.Promise.{KeepsHeadline};
 
@@ -246,7 +246,7 @@ impl<'a> Receiver<'a> {
     ///
     /// After `Ok` and after `Read`, the sink took all frames that were met. `Write` has two causes. A packet or a line could
     /// not be written: then the sink took all frames up to the one at hand. Or the sink failed at a frame: then it took all
-    /// frames before, and a part of what it makes of this one may stand in it. Nothing of this frame is in the packets or
+    /// frames before, and it may have a part of its record of this one. Nothing of this frame is in the packets or
     /// in the report. Everything met before is written whole.
     pub fn run_with<K: Sink, R: CountedRead, P: CountedWrite, W: CountedWrite>(
         &mut self,

@@ -91,5 +91,5 @@ pub fn scan_command<R: CountedRead, O: CountedWrite, E: CountedWrite>(
         (R.count symbols.old) (R.count symbols.new) console.old console.new result }
 {
     let ended = print_scan(alloc, name, symbols, &mut console.output);
-    console.conclude(ended)
+    console.finish(ended)
 }

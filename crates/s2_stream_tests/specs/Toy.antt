@@ -4,7 +4,7 @@ use Rattle.std.specs.Prelude.{ℕ, ℤ, ◌-◌, ◌^◌, Bool, pos, neg_ℤ, in
 use Rattle.s2_mode.specs.Limits.{header_symbols}
 use Rattle.s2_mode.specs.Symbols.{symbol_at}
 use Rattle.s2_mode.specs.declared.symbols.Symbol.{Symbol}
-use Rattle.s2_receive.specs.Parts.{delivered_of}
+use Rattle.s2_receive.specs.Decider.{delivered_of}
 use Rattle.s2_receive.specs.Receiving.{Decision}
 use Rattle.s2_receive.specs.declared.figures.Figures.{Figures}
 use Rattle.s2_bbframe.specs.declared.header.Header.{Header}

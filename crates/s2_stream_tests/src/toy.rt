@@ -12,7 +12,7 @@ use s2_bbframe::{Header, HeaderFault};
 use s2_bits::Bits;
 use s2_check::Verdict;
 use s2_mode::{Counted, Mode, Symbol, WriteFault};
-use s2_plframe::Lock;
+use s2_plframe::HeaderTolerance;
 use s2_receive::{
     Correlation, Decide, Decided, Fault, Figures, Frame, MAX_SYMBOLS, Outcome, Receiver, Report,
     Step, Tally, Totals, receive_bytes,
@@ -253,7 +253,7 @@ fn toy_with(alloc: Global, limit: u64, figured: bool) -> Result<Toy, Fail>
         content: 0,
         figured,
     };
-    Ok(Receiver::new(alloc, mode, Lock::usual(), decider, limit)?)
+    Ok(Receiver::new(alloc, mode, HeaderTolerance::usual(), decider, limit)?)
 }
 
 /// A number of symbols at which nothing begins.

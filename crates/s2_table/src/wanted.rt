@@ -64,11 +64,11 @@ pub fn report_noted<O: CountedWrite, E: CountedWrite>(
         (Err fault.entry) console.old console.new }
 {
     note_fault(quiet, mode, &fault, &mut console.errors);
-    console.complain(fault)
+    console.report_fault(fault)
 }
 
 /// The exit of a command that ended so. A fault is reported after its note.
-pub fn conclude_noted<O: CountedWrite, E: CountedWrite>(
+pub fn finish_noted<O: CountedWrite, E: CountedWrite>(
     quiet: bool,
     mode: &Mode,
     ended: Result<Exit, Fault<'_>>,

@@ -6,7 +6,7 @@ use crate::shown::shown;
 use s2_files::{Disk, Role, is_standard};
 use s2_mode::write_full;
 use s2_progress::Terminal;
-use s2_words::{RecordWords, Request};
+use s2_words::{RecordArguments, Request};
 use std::alloc::{AllocError, Global};
 use std::fs::OpenOptions;
 use std::io::Read;
@@ -34,7 +34,12 @@ fn plain<'a>(
 }
 
 /// The files of a command on a link: its row file, its input, its output and its records.
-fn linked<'a>(rows: &'a str, from: &'a str, to: &'a str, records: RecordWords<'a>) -> Names<'a> {
+fn linked<'a>(
+    rows: &'a str,
+    from: &'a str,
+    to: &'a str,
+    records: RecordArguments<'a>,
+) -> Names<'a> {
     let [certificates, values, codewords, bbframes] = records.names();
     Names {
         texts: [Some(rows), None],
@@ -52,7 +57,7 @@ fn one<'a>(name: &'a str) -> [Option<&'a str>; 3] {
 fn names_of<'a>(request: &Request<'a>) -> Names<'a> {
     let (no_text, no_data) = ([None; 2], [None; 3]);
     match request {
-        Request::Own | Request::Modes(_) | Request::Rows(_) => plain(no_text, no_data, None),
+        Request::Demo | Request::Modes(_) | Request::Rows(_) => plain(no_text, no_data, None),
         Request::Table(words) => plain([Some(words.rows), None], no_data, None),
         Request::Judge(words) => {
             plain(

@@ -6,7 +6,7 @@ ghost use Rattle.s2_console.specs.Screens.{CanNote};
 use crate::beginnings::note_beginning;
 use crate::losses::{exit_after, note_left_out};
 use crate::opening::{Reading, open_link, show_on};
-use crate::records::{conclude_records, open_records};
+use crate::records::{finish_command, open_records};
 use crate::serve::mode_of;
 use s2_commands::{DemodOptions, RunOptions, demod_command, mod_command, run_command};
 use s2_console::{Console, Exit, Fault};
@@ -16,20 +16,22 @@ use s2_mode::{CountedWrite, FaultText, Mode};
 use s2_progress::{Pace, Show, Terminal};
 use s2_resync::LeftOut;
 use s2_scramble::ScramblingNumber;
-use s2_words::{DemodWords, LinkWords, ModWords, Progress, RecordWords, RunWords, Seeds};
+use s2_words::{
+    DemodArguments, LinkArguments, ModArguments, Progress, RecordArguments, RunArguments, Seeds,
+};
 use std::time::Clock;
 
 /// A request that works on a link: its words, and its options in the types of the command.
 #[derive(Clone, Copy)]
 pub(crate) enum LinkRequest<'w, 'a> {
-    Mod(&'w ModWords<'a>),
-    Demod(&'w DemodWords<'a>, &'w DemodOptions),
-    Run(&'w RunWords<'a>, &'w RunOptions),
+    Mod(&'w ModArguments<'a>),
+    Demod(&'w DemodArguments<'a>, &'w DemodOptions),
+    Run(&'w RunArguments<'a>, &'w RunOptions),
 }
 
 impl<'w, 'a> LinkRequest<'w, 'a> {
     /// The options of its link.
-    fn link(self) -> LinkWords {
+    fn link(self) -> LinkArguments {
         match self {
             LinkRequest::Mod(words) => words.link,
             LinkRequest::Demod(words, _) => words.link,
@@ -47,7 +49,7 @@ impl<'w, 'a> LinkRequest<'w, 'a> {
     }
 
     /// The names of its files of records.
-    fn records(self) -> RecordWords<'a> {
+    fn records(self) -> RecordArguments<'a> {
         match self {
             LinkRequest::Mod(words) => words.records,
             LinkRequest::Demod(words, _) => words.records,
@@ -141,7 +143,7 @@ fn runs_of(seeds: Option<Seeds>) -> u64 {
 }
 
 /// The setup of a link's options.
-pub(crate) fn setup_of(words: LinkWords) -> Result<LinkSetup, Fault<'static>> {
+pub(crate) fn setup_of(words: LinkArguments) -> Result<LinkSetup, Fault<'static>> {
     Ok(LinkSetup {
         mode: mode_of(words.modcod, words.short, words.pilots)?,
         number: ScramblingNumber::new(words.number).ok_or(Fault::refused(FaultText::of(
@@ -223,7 +225,7 @@ pub(crate) fn with_link<'a, R: Disk + Clock + AllocGlobal, O: CountedWrite, E: C
     show.finish();
     let left_out = files.from.left_out();
     let exit = conclude_packets(terminal, request.noted_packets(), left_out, exit);
-    match conclude_records(exit, files.to.is_begun(), records) {
+    match finish_command(exit, files.to.is_begun(), records) {
         Ok(exit) => Ok(exit),
         Err(_) => Err(Fault::Write),
     }

@@ -16,7 +16,7 @@ use s2_mode::{CountedRead, Counting};
 use s2_progress::{Clearing, Meter, Pace, Show, Terminal, Watched};
 use s2_resync::{PacketReader, PacketSource};
 use s2_scan::Beginning;
-use s2_words::{AuditWords, JoinWords, JudgeWords, Progress, ScanWords};
+use s2_words::{AuditArguments, JoinArguments, JudgeArguments, Progress, ScanArguments};
 use std::alloc::{AllocError, Global};
 use std::rt::Files;
 use std::time::Clock;
@@ -191,7 +191,7 @@ fn write_named<'t, 'r, 'a, R: Disk>(
 /// Opens the files of `judge`: that of the certificate before the others.
 pub(crate) fn open_judge<'t, 'r, 'a, R: Disk + AllocGlobal>(
     terminal: &'t Terminal<'r, R>,
-    words: &JudgeWords<'a>,
+    words: &JudgeArguments<'a>,
 ) -> Result<JudgeFiles<Input<'t, 'r, 'a, R>, Written<'t, 'r, 'a, R>>, Fault<'a>>
     ensures { IfOk result CanJudge }
 {
@@ -281,7 +281,7 @@ pub(crate) fn open_link<'a, 'm, 't, 'r, R: Disk + Clock + AllocGlobal>(
 /// Opens the files of `audit`. Report and certificates have a buffer.
 pub(crate) fn open_audit<'t, 'r, 'a, R: Disk + AllocGlobal>(
     terminal: &'t Terminal<'r, R>,
-    words: &AuditWords<'a>,
+    words: &AuditArguments<'a>,
 ) -> Result<
     (
         Input<'t, 'r, 'a, R>,
@@ -346,7 +346,7 @@ fn length_within(first: Option<u32>, length: Option<u64>) -> Option<u64> {
 pub(crate) fn open_scan<'a, 'm, 't, 'r, R: Disk + Clock + AllocGlobal>(
     terminal: &'t Terminal<'r, R>,
     show: &'m Show<'t, 'r, R>,
-    words: &ScanWords<'a>,
+    words: &ScanArguments<'a>,
 ) -> Result<Beginning<Seen<'m, 't, 'r, 'a, R>>, Fault<'a>>
     ensures { IfOk result (λ file. file.inner.inner.inner.failed ≡ 0) }
 {
@@ -360,7 +360,7 @@ pub(crate) fn open_scan<'a, 'm, 't, 'r, R: Disk + Clock + AllocGlobal>(
 /// have none.
 pub(crate) fn open_join<'t, 'r, 'a, R: Disk + AllocGlobal>(
     terminal: &'t Terminal<'r, R>,
-    words: &JoinWords<'a>,
+    words: &JoinArguments<'a>,
 ) -> Result<(Input<'t, 'r, 'a, R>, Destination<Written<'t, 'r, 'a, R>>), Fault<'a>>
     ensures from { IfOk result (λ files. files.0.inner.failed ≡ 0) }
     ensures unbegun { IfOk result (λ files. files.1.begun ≡ false) }

@@ -8,7 +8,7 @@ use s2_files::{Disk, Opener, Output, Truncating};
 use s2_mode::{Mode, WriteFault};
 use s2_progress::Terminal;
 use s2_records::{Bbframes, Certificates, Codewords, Values};
-use s2_words::RecordWords;
+use s2_words::RecordArguments;
 
 /// The sinks of records, each if its file is given. Frames go to them in this order.
 pub(crate) type Records<W> = (
@@ -111,7 +111,7 @@ pub(crate) fn open_records<'t, 'r, 'a, R: Disk + AllocGlobal>(
     opener: &mut Opener<'_, R>,
     terminal: &'t Terminal<'r, R>,
     mode: Mode,
-    words: RecordWords<'a>,
+    words: RecordArguments<'a>,
 ) -> Result<Records<RecordFile<'t, 'r, 'a, R>>, Fault<'a>>
     requires room { length opener.old ≤ 4 }
     ensures fresh { IfOk result (λ made. wanted_count (λ file. file.to.inner.failed) made.0 + (wanted_count (λ file. file.to.inner.failed) made.1.0
@@ -149,7 +149,7 @@ fn finish_records<W: Output + Drop>(records: Records<Truncating<W>>) -> Result<(
 
 /// The end of a command with records. If its output was begun, each file of records to which nothing was written is
 /// truncated.
-pub(crate) fn conclude_records<W: Output + Drop>(
+pub(crate) fn finish_command<W: Output + Drop>(
     exit: Exit,
     begun: bool,
     records: Records<Truncating<W>>,

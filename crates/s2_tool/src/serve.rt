@@ -24,8 +24,9 @@ use s2_progress::{Pace, Terminal};
 use s2_scan::scan_command;
 use s2_table::table_command;
 use s2_words::{
-    AuditWords, CheckWords, CodeWords, DemodWords, JoinWords, JudgeWords, ModesWords, NoiseWords,
-    Request, RowsWords, RunWords, ScanWords, ShapeWords, TableWords, Unread, not_text, read_words,
+    AuditArguments, CheckArguments, CodeArguments, DemodArguments, JoinArguments, JudgeArguments,
+    ModesArguments, NoiseArguments, Request, RowsArguments, RunArguments, ScanArguments,
+    ShapeArguments, TableArguments, Unread, not_text, parse_arguments,
 };
 use std::alloc::{AllocError, Global};
 use std::env::FillError;
@@ -80,7 +81,7 @@ pub(crate) fn words_given<R: Env + AllocGlobal>(rt: &R) -> Words {
 /// The request of the arguments. Without memory for these it is a fault, as it is while they are read.
 pub(crate) fn request_of<'a>(alloc: Global, words: &'a Words) -> Result<Request<'a>, Unread> {
     match words {
-        Words::Text(words) => read_words(alloc, words),
+        Words::Text(words) => parse_arguments(alloc, words),
         Words::NotText(word) => Err(not_text(alloc, word.as_str())?),
         Words::NoMemory => Err(Unread::NoMemory),
     }
@@ -88,7 +89,7 @@ pub(crate) fn request_of<'a>(alloc: Global, words: &'a Words) -> Result<Request<
 
 /// Reports why there is no request: prints help on standard output, or a usage error on standard error, or reports that
 /// memory ran out.
-pub(crate) fn explain<R: Disk + AllocGlobal + Print + Eprint>(
+pub(crate) fn print_usage<R: Disk + AllocGlobal + Print + Eprint>(
     rt: &R,
     terminal: &Terminal<'_, R>,
     unread: &Unread,
@@ -110,7 +111,7 @@ pub(crate) fn explain<R: Disk + AllocGlobal + Print + Eprint>(
 fn lacks_memory<O: CountedWrite, E: CountedWrite>(console: &mut Console<O, E>) -> Exit
     requires { CanNote console.old }
 {
-    console.complain(Fault::NoMemory)
+    console.report_fault(Fault::NoMemory)
 }
 
 /// N if every N-th frame has a line in the report of a request, or 0 if each frame has one.
@@ -132,19 +133,19 @@ fn report<O: CountedWrite, E: CountedWrite>(
 {
     match fault {
         Fault::Open(name) if has_control(name) => match shown(alloc, name) {
-            Ok(name) => console.complain(Fault::Open(name.as_str())),
-            Err(_) => console.complain(Fault::NoMemory),
+            Ok(name) => console.report_fault(Fault::Open(name.as_str())),
+            Err(_) => console.report_fault(Fault::NoMemory),
         },
         Fault::UsedTwice(name) if has_control(name) => match shown(alloc, name) {
-            Ok(name) => console.complain(Fault::UsedTwice(name.as_str())),
-            Err(_) => console.complain(Fault::NoMemory),
+            Ok(name) => console.report_fault(Fault::UsedTwice(name.as_str())),
+            Err(_) => console.report_fault(Fault::NoMemory),
         },
-        fault => console.complain(fault),
+        fault => console.report_fault(fault),
     }
 }
 
 /// The exit of a command. A fault that came before it is reported.
-fn conclude<O: CountedWrite, E: CountedWrite>(
+fn finish<O: CountedWrite, E: CountedWrite>(
     alloc: Global,
     ended: Result<Exit, Fault<'_>>,
     console: &mut Console<O, E>,
@@ -171,7 +172,7 @@ pub(crate) fn run_request<R: Disk + Clock + AllocGlobal, O: CountedWrite, E: Cou
 {
     let ended = serve_request(rt, terminal, request, console, notes);
     note_fault(rt, terminal, request, &ended);
-    let exit = conclude(rt.alloc(), ended, console);
+    let exit = finish(rt.alloc(), ended, console);
     if exit == Exit::Fault {
         note_marks(rt, terminal, request);
     }
@@ -203,7 +204,7 @@ fn serve_request<'a, R: Disk + Clock + AllocGlobal, O: CountedWrite, E: CountedW
     ensures { OnErr result (CanCount console.new.errors_failed) }
 {
     match request {
-        Request::Own => serve_own(rt, terminal, console),
+        Request::Demo => serve_own(rt, terminal, console),
         Request::Modes(words) => serve_modes(rt, words, console),
         Request::Rows(words) => serve_rows(rt, words, console),
         Request::Table(words) => serve_table(rt, terminal, words, console),
@@ -233,16 +234,16 @@ fn serve_own<R: Disk + AllocGlobal, O: CountedWrite, E: CountedWrite>(
 }
 
 /// The shape of three options.
-fn shape_of(words: ShapeWords) -> Result<Shape, Fault<'static>> {
+fn shape_of(words: ShapeArguments) -> Result<Shape, Fault<'static>> {
     let [group, groups, q] = [words.group, words.groups, words.q].map(usize::from);
     Shape::new(group, groups, q).ok_or(Fault::refused(FaultText::of("no such shape")))
 }
 
 /// The shape of the code of `judge`.
-fn shape_by(code: CodeWords) -> Result<Shape, Fault<'static>> {
+fn shape_by(code: CodeArguments) -> Result<Shape, Fault<'static>> {
     match code {
-        CodeWords::Shape(words) => shape_of(words),
-        CodeWords::Mode { modcod, short } => Ok(mode_of(modcod, short, false)?.shape()),
+        CodeArguments::Shape(words) => shape_of(words),
+        CodeArguments::Mode { modcod, short } => Ok(mode_of(modcod, short, false)?.shape()),
     }
 }
 
@@ -255,7 +256,7 @@ pub(crate) fn mode_of(modcod: u8, short: bool, pilots: bool) -> Result<Mode, Fau
 fn serve_demod<'a, R: Disk + Clock + AllocGlobal, O: CountedWrite, E: CountedWrite>(
     rt: &R,
     terminal: &Terminal<'_, R>,
-    words: &DemodWords<'a>,
+    words: &DemodArguments<'a>,
     console: &mut Console<O, E>,
     notes: &mut E,
 ) -> Result<Exit, Fault<'a>>
@@ -272,7 +273,7 @@ fn serve_demod<'a, R: Disk + Clock + AllocGlobal, O: CountedWrite, E: CountedWri
 fn serve_run<'a, R: Disk + Clock + AllocGlobal, O: CountedWrite, E: CountedWrite>(
     rt: &R,
     terminal: &Terminal<'_, R>,
-    words: &RunWords<'a>,
+    words: &RunArguments<'a>,
     console: &mut Console<O, E>,
     notes: &mut E,
 ) -> Result<Exit, Fault<'a>>
@@ -288,7 +289,7 @@ fn serve_run<'a, R: Disk + Clock + AllocGlobal, O: CountedWrite, E: CountedWrite
 /// `modes`.
 fn serve_modes<R: Disk + AllocGlobal, O: CountedWrite, E: CountedWrite>(
     rt: &R,
-    words: &ModesWords,
+    words: &ModesArguments,
     console: &mut Console<O, E>,
 ) -> Result<Exit, Fault<'static>>
     requires { CanNote console.old }
@@ -304,7 +305,7 @@ fn serve_modes<R: Disk + AllocGlobal, O: CountedWrite, E: CountedWrite>(
 /// `rows`.
 fn serve_rows<R: Disk + AllocGlobal, O: CountedWrite, E: CountedWrite>(
     rt: &R,
-    words: &RowsWords,
+    words: &RowsArguments,
     console: &mut Console<O, E>,
 ) -> Result<Exit, Fault<'static>>
     requires { CanNote console.old }
@@ -319,7 +320,7 @@ fn serve_rows<R: Disk + AllocGlobal, O: CountedWrite, E: CountedWrite>(
 fn serve_table<'a, R: Disk + AllocGlobal, O: CountedWrite, E: CountedWrite>(
     rt: &R,
     terminal: &Terminal<'_, R>,
-    words: &TableWords<'a>,
+    words: &TableArguments<'a>,
     console: &mut Console<O, E>,
 ) -> Result<Exit, Fault<'a>>
     requires { CanNote console.old }
@@ -334,7 +335,7 @@ fn serve_table<'a, R: Disk + AllocGlobal, O: CountedWrite, E: CountedWrite>(
 fn serve_judge<'a, R: Disk + AllocGlobal, O: CountedWrite, E: CountedWrite>(
     rt: &R,
     terminal: &Terminal<'_, R>,
-    words: &JudgeWords<'a>,
+    words: &JudgeArguments<'a>,
     console: &mut Console<O, E>,
 ) -> Result<Exit, Fault<'a>>
     requires { CanNote console.old }
@@ -369,7 +370,7 @@ fn serve_judge<'a, R: Disk + AllocGlobal, O: CountedWrite, E: CountedWrite>(
 fn serve_check<'a, R: Disk + AllocGlobal, O: CountedWrite, E: CountedWrite>(
     rt: &R,
     terminal: &Terminal<'_, R>,
-    words: &CheckWords<'a>,
+    words: &CheckArguments<'a>,
     console: &mut Console<O, E>,
 ) -> Result<Exit, Fault<'a>>
     requires { CanNote console.old }
@@ -386,7 +387,7 @@ fn serve_check<'a, R: Disk + AllocGlobal, O: CountedWrite, E: CountedWrite>(
 /// more is.
 fn serve_noise<'a, R: Disk + Clock + AllocGlobal, O: CountedWrite, E: CountedWrite>(
     terminal: &Terminal<'_, R>,
-    words: &NoiseWords<'a>,
+    words: &NoiseArguments<'a>,
     console: &mut Console<O, E>,
 ) -> Result<Exit, Fault<'a>>
     requires { CanNote console.old }
@@ -407,7 +408,7 @@ fn serve_noise<'a, R: Disk + Clock + AllocGlobal, O: CountedWrite, E: CountedWri
 fn serve_scan<'a, R: Disk + Clock + AllocGlobal, O: CountedWrite, E: CountedWrite>(
     rt: &R,
     terminal: &Terminal<'_, R>,
-    words: &ScanWords<'a>,
+    words: &ScanArguments<'a>,
     console: &mut Console<O, E>,
 ) -> Result<Exit, Fault<'a>>
     requires { CanNote console.old }
@@ -424,7 +425,7 @@ fn serve_scan<'a, R: Disk + Clock + AllocGlobal, O: CountedWrite, E: CountedWrit
 fn serve_join<'a, R: Disk + AllocGlobal, O: CountedWrite, E: CountedWrite>(
     rt: &R,
     terminal: &Terminal<'_, R>,
-    words: &JoinWords<'a>,
+    words: &JoinArguments<'a>,
     console: &mut Console<O, E>,
 ) -> Result<Exit, Fault<'a>>
     requires { CanNote console.old }
@@ -439,7 +440,7 @@ fn serve_join<'a, R: Disk + AllocGlobal, O: CountedWrite, E: CountedWrite>(
 fn serve_audit<'a, R: Disk + AllocGlobal, O: CountedWrite, E: CountedWrite>(
     rt: &R,
     terminal: &Terminal<'_, R>,
-    words: &AuditWords<'a>,
+    words: &AuditArguments<'a>,
     console: &mut Console<O, E>,
 ) -> Result<Exit, Fault<'a>>
     requires { CanNote console.old }

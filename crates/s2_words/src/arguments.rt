@@ -43,7 +43,7 @@ pub(crate) struct Value {
 
 /// The kind of an argument.
 #[derive(Clone, Copy)]
-pub(crate) enum Form {
+pub(crate) enum ArgumentKind {
     /// `--name`.
     Flag,
     /// `--name VALUE`.
@@ -56,7 +56,7 @@ pub(crate) enum Form {
 #[derive(Clone, Copy)]
 pub(crate) struct Argument {
     pub name: &'static str,
-    pub form: Form,
+    pub form: ArgumentKind,
     pub help: &'static str,
 }
 
@@ -73,7 +73,7 @@ const ANY: ValueParser<'static> = ValueParser::Unsigned(0, u64::MAX);
 
 pub(crate) const GROUP: Argument = Argument {
     name: "group",
-    form: Form::Valued(Value {
+    form: ArgumentKind::Valued(Value {
         name: "G",
         allowed: ValueParser::Signed(1, MAX_GROUP as i64),
         is_required: true,
@@ -84,7 +84,7 @@ pub(crate) const GROUP: Argument = Argument {
 
 pub(crate) const GROUPS: Argument = Argument {
     name: "groups",
-    form: Form::Valued(Value {
+    form: ArgumentKind::Valued(Value {
         name: "N",
         allowed: ValueParser::Signed(1, MAX_BITS as i64 - 1),
         is_required: true,
@@ -95,7 +95,7 @@ pub(crate) const GROUPS: Argument = Argument {
 
 pub(crate) const Q: Argument = Argument {
     name: "q",
-    form: Form::Valued(Value {
+    form: ArgumentKind::Valued(Value {
         name: "Q",
         allowed: ValueParser::Signed(1, MAX_BITS as i64 - 1),
         is_required: true,
@@ -106,7 +106,7 @@ pub(crate) const Q: Argument = Argument {
 
 /// The numbers of a shape, for a command that also accepts a mode.
 pub(crate) const GROUP_OR_MODE: Argument = Argument {
-    form: Form::Valued(Value {
+    form: ArgumentKind::Valued(Value {
         name: "G",
         allowed: ValueParser::Signed(1, MAX_GROUP as i64),
         ..FILE
@@ -115,7 +115,7 @@ pub(crate) const GROUP_OR_MODE: Argument = Argument {
 };
 
 pub(crate) const GROUPS_OR_MODE: Argument = Argument {
-    form: Form::Valued(Value {
+    form: ArgumentKind::Valued(Value {
         name: "N",
         allowed: ValueParser::Signed(1, MAX_BITS as i64 - 1),
         ..FILE
@@ -124,7 +124,7 @@ pub(crate) const GROUPS_OR_MODE: Argument = Argument {
 };
 
 pub(crate) const Q_OR_MODE: Argument = Argument {
-    form: Form::Valued(Value {
+    form: ArgumentKind::Valued(Value {
         name: "Q",
         allowed: ValueParser::Signed(1, MAX_BITS as i64 - 1),
         ..FILE
@@ -134,7 +134,7 @@ pub(crate) const Q_OR_MODE: Argument = Argument {
 
 pub(crate) const WEIGHT: Argument = Argument {
     name: "weight",
-    form: Form::Valued(Value {
+    form: ArgumentKind::Valued(Value {
         name: "W",
         allowed: ValueParser::Signed(1, MAX_ADDRESSES as i64),
         is_required: true,
@@ -145,7 +145,7 @@ pub(crate) const WEIGHT: Argument = Argument {
 
 pub(crate) const MODCOD: Argument = Argument {
     name: "modcod",
-    form: Form::Valued(Value {
+    form: ArgumentKind::Valued(Value {
         name: "M",
         is_required: true,
         ..FILE
@@ -155,25 +155,25 @@ pub(crate) const MODCOD: Argument = Argument {
 
 /// The same option, for a command that does not require it.
 pub(crate) const MODCOD_OR_NONE: Argument = Argument {
-    form: Form::Valued(Value { name: "M", ..FILE }),
+    form: ArgumentKind::Valued(Value { name: "M", ..FILE }),
     ..MODCOD
 };
 
 pub(crate) const SHORT: Argument = Argument {
     name: "short",
-    form: Form::Flag,
+    form: ArgumentKind::Flag,
     help: "Short frames: 16200 bits instead of 64800",
 };
 
 pub(crate) const PILOTS: Argument = Argument {
     name: "pilots",
-    form: Form::Flag,
+    form: ArgumentKind::Flag,
     help: "Frames with pilot blocks; takes no value",
 };
 
 pub(crate) const NUMBER: Argument = Argument {
     name: "number",
-    form: Form::Valued(Value {
+    form: ArgumentKind::Valued(Value {
         name: "N",
         allowed: ValueParser::Signed(0, MAX_NUMBER as i64),
         default: Some("0"),
@@ -184,7 +184,7 @@ pub(crate) const NUMBER: Argument = Argument {
 
 pub(crate) const ROLL_OFF: Argument = Argument {
     name: "ro",
-    form: Form::Valued(Value {
+    form: ArgumentKind::Valued(Value {
         name: "R",
         default: Some("0"),
         ..FILE
@@ -200,7 +200,7 @@ pub(crate) const ROLL_OFF_READ: Argument = Argument {
 
 pub(crate) const DUMMY: Argument = Argument {
     name: "dummy",
-    form: Form::Valued(Value {
+    form: ArgumentKind::Valued(Value {
         name: "D",
         allowed: ValueParser::Signed(0, u16::MAX as i64),
         default: Some("0"),
@@ -211,13 +211,13 @@ pub(crate) const DUMMY: Argument = Argument {
 
 pub(crate) const RESYNC: Argument = Argument {
     name: "resync",
-    form: Form::Flag,
+    form: ArgumentKind::Flag,
     help: "After a wrong sync byte, continue at the next place with five sync bytes at distance 188; count the bytes left out",
 };
 
 pub(crate) const ROUNDS: Argument = Argument {
     name: "rounds",
-    form: Form::Valued(Value {
+    form: ArgumentKind::Valued(Value {
         name: "K",
         allowed: ValueParser::Signed(1, MAX_ROUNDS as i64),
         default: Some(DEFAULT_ROUNDS_TEXT),
@@ -228,7 +228,7 @@ pub(crate) const ROUNDS: Argument = Argument {
 
 pub(crate) const PASSES: Argument = Argument {
     name: "passes",
-    form: Form::Valued(Value {
+    form: ArgumentKind::Valued(Value {
         name: "P",
         allowed: ValueParser::Signed(0, MAX_PASSES as i64),
         default: Some("0"),
@@ -239,7 +239,7 @@ pub(crate) const PASSES: Argument = Argument {
 
 pub(crate) const DIVISOR: Argument = Argument {
     name: "divisor",
-    form: Form::Valued(Value {
+    form: ArgumentKind::Valued(Value {
         name: "D",
         allowed: ValueParser::Names(&DIVISOR_TEXTS),
         default: Some(DEFAULT_DIVISOR_TEXT),
@@ -256,7 +256,7 @@ pub(crate) const DIVISOR_OF_REPORT: Argument = Argument {
 
 pub(crate) const FACTOR: Argument = Argument {
     name: "factor",
-    form: Form::Valued(Value {
+    form: ArgumentKind::Valued(Value {
         name: "F",
         allowed: ValueParser::Signed(LEAST_FACTOR as i64, MAX_FACTOR as i64),
         default: Some(DEFAULT_FACTOR_TEXT),
@@ -267,7 +267,7 @@ pub(crate) const FACTOR: Argument = Argument {
 
 pub(crate) const LOCK: Argument = Argument {
     name: "lock",
-    form: Form::Valued(Value {
+    form: ArgumentKind::Valued(Value {
         name: "H",
         allowed: ValueParser::Signed(LEAST_LOCK as i64, MAX_LOCK as i64),
         default: Some(DEFAULT_LOCK_TEXT),
@@ -278,13 +278,13 @@ pub(crate) const LOCK: Argument = Argument {
 
 pub(crate) const UNCERTIFIED: Argument = Argument {
     name: "uncertified",
-    form: Form::Flag,
+    form: ArgumentKind::Flag,
     help: "Do not search for certificates after min-sum: such frames are reported as `parity`; excludes --passes",
 };
 
 pub(crate) const TUNED: Argument = Argument {
     name: "tuned",
-    form: Form::Flag,
+    form: ArgumentKind::Flag,
     help: "Use the best factor, divisor and rounds for the mode, --lock 30 and --passes 96; options given explicitly override it",
 };
 
@@ -296,7 +296,7 @@ pub(crate) const TUNED_REPORT: Argument = Argument {
 
 pub(crate) const SEED: Argument = Argument {
     name: "seed",
-    form: Form::Valued(Value {
+    form: ArgumentKind::Valued(Value {
         name: "S",
         allowed: ANY,
         is_required: true,
@@ -307,7 +307,7 @@ pub(crate) const SEED: Argument = Argument {
 
 pub(crate) const LEVEL: Argument = Argument {
     name: "level",
-    form: Form::Valued(Value {
+    form: ArgumentKind::Valued(Value {
         name: "L",
         allowed: ValueParser::Signed(0, u16::MAX as i64),
         ..FILE
@@ -317,19 +317,19 @@ pub(crate) const LEVEL: Argument = Argument {
 
 pub(crate) const ESN0: Argument = Argument {
     name: "esn0",
-    form: Form::Valued(Value { name: "DB", ..FILE }),
+    form: ArgumentKind::Valued(Value { name: "DB", ..FILE }),
     help: "Es/N0 in dB, -10 to 40 with at most two decimals: Gaussian noise, relative to the amplitude that `mod` sends",
 };
 
 pub(crate) const RATE: Argument = Argument {
     name: "rate",
-    form: Form::Valued(Value { name: "R", ..FILE }),
+    form: ArgumentKind::Valued(Value { name: "R", ..FILE }),
     help: "Symbol rate in symbols per second, 1 to 1000000000, also as 27.5M, 27.5e6 or 27500k: adds the net bit rate to each line",
 };
 
 /// The same option, for a command that also accepts a range of seeds.
 pub(crate) const SEED_OR_SEEDS: Argument = Argument {
-    form: Form::Valued(Value {
+    form: ArgumentKind::Valued(Value {
         name: "S",
         allowed: ANY,
         ..FILE
@@ -339,7 +339,7 @@ pub(crate) const SEED_OR_SEEDS: Argument = Argument {
 
 pub(crate) const SEEDS: Argument = Argument {
     name: "seeds",
-    form: Form::Valued(Value {
+    form: ArgumentKind::Valued(Value {
         name: "A..B",
         ..FILE
     }),
@@ -348,13 +348,13 @@ pub(crate) const SEEDS: Argument = Argument {
 
 pub(crate) const FIGURES: Argument = Argument {
     name: "figures",
-    form: Form::Flag,
+    form: ArgumentKind::Flag,
     help: "Add link metrics to the line of each frame, and their totals to the last line",
 };
 
 pub(crate) const EVERY: Argument = Argument {
     name: "every",
-    form: Form::Valued(Value {
+    form: ArgumentKind::Valued(Value {
         name: "N",
         allowed: ValueParser::Signed(1, u32::MAX as i64),
         ..FILE
@@ -364,7 +364,7 @@ pub(crate) const EVERY: Argument = Argument {
 
 pub(crate) const EXIT_BY: Argument = Argument {
     name: "exit-by",
-    form: Form::Valued(Value {
+    form: ArgumentKind::Valued(Value {
         name: "BY",
         allowed: ValueParser::Names(&EXIT_BY_TEXTS),
         default: Some(CERTAINTY_TEXT),
@@ -375,13 +375,13 @@ pub(crate) const EXIT_BY: Argument = Argument {
 
 pub(crate) const STRICT: Argument = Argument {
     name: "strict",
-    form: Form::Flag,
+    form: ArgumentKind::Flag,
     help: "Also exit with 2 if symbols were skipped, a packet was bad or incomplete, or no frame was found in 90 symbols or more",
 };
 
 pub(crate) const QUIET: Argument = Argument {
     name: "quiet",
-    form: Form::Flag,
+    form: ArgumentKind::Flag,
     help: "No notes on standard error",
 };
 
@@ -393,13 +393,13 @@ pub(crate) const QUIET_AND_STILL: Argument = Argument {
 
 pub(crate) const PROGRESS: Argument = Argument {
     name: "progress",
-    form: Form::Flag,
+    form: ArgumentKind::Flag,
     help: "Show progress on standard error even if it is not a terminal: a line that is rewritten once a second",
 };
 
 pub(crate) const FIRST: Argument = Argument {
     name: "first",
-    form: Form::Valued(Value {
+    form: ArgumentKind::Valued(Value {
         name: "N",
         allowed: ValueParser::Signed(1, u32::MAX as i64),
         ..FILE
@@ -409,49 +409,49 @@ pub(crate) const FIRST: Argument = Argument {
 
 pub(crate) const HARD: Argument = Argument {
     name: "hard",
-    form: Form::Flag,
+    form: ArgumentKind::Flag,
     help: "Read hard bits instead of soft values: 0 becomes the value 1, and 1 becomes -1",
 };
 
 pub(crate) const EACH_FRAME: Argument = Argument {
     name: "each",
-    form: Form::Flag,
+    form: ArgumentKind::Flag,
     help: "Read the values of any number of frames, one after another: a line of the report per frame, and all certificates in one file",
 };
 
 pub(crate) const EACH_CERTIFICATE: Argument = Argument {
     name: "each",
-    form: Form::Flag,
+    form: ArgumentKind::Flag,
     help: "Read any number of certificates, one after another: a line of the report per certificate",
 };
 
 pub(crate) const CERTIFICATE: Argument = Argument {
     name: "cert",
-    form: Form::Valued(FILE),
+    form: ArgumentKind::Valued(FILE),
     help: "Write the certificate of a `sole` or `most-likely` word to this file",
 };
 
 pub(crate) const CERTIFICATES: Argument = Argument {
     name: "certificates",
-    form: Form::Valued(FILE),
+    form: ArgumentKind::Valued(FILE),
     help: "Write the certificates of all `sole` and `most-likely` frames to this file, for `check --each`",
 };
 
 pub(crate) const VALUES: Argument = Argument {
     name: "values",
-    form: Form::Valued(FILE),
+    form: ArgumentKind::Valued(FILE),
     help: "Write the soft values to this file, a line per frame, for `judge --each`",
 };
 
 pub(crate) const CODEWORDS: Argument = Argument {
     name: "codewords",
-    form: Form::Valued(FILE),
+    form: ArgumentKind::Valued(FILE),
     help: "Write the decided bits of each frame to this file, eight bits per byte, the first in the highest bit",
 };
 
 pub(crate) const BBFRAMES: Argument = Argument {
     name: "bbframes",
-    form: Form::Valued(FILE),
+    form: ArgumentKind::Valued(FILE),
     help: "Write the BBFRAMEs to this file, for `join`: zeros instead of a lost frame, and zeros before a frame that follows a gap",
 };
 
@@ -470,7 +470,7 @@ macro_rules! file {
     ($name:literal, $help:literal) => {
         Argument {
             name: $name,
-            form: Form::File,
+            form: ArgumentKind::File,
             help: $help,
         }
     };

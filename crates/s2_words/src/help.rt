@@ -1,5 +1,5 @@
 //! The help texts of the program and of its commands, printed below their options.
-use crate::table::Name;
+use crate::table::CommandName;
 
 /// The first line of the program's help.
 pub(crate) const ABOUT: &str =
@@ -305,19 +305,19 @@ Example:
   s2 audit --modcod qpsk1/2 --tuned rows noisy report certificates";
 
 /// The text below the options of a command.
-pub(crate) fn more_of(command: Name) -> &'static str {
+pub(crate) fn more_of(command: CommandName) -> &'static str {
     match command {
-        Name::Modes => MODES_MORE,
-        Name::Rows => ROWS_MORE,
-        Name::Table => TABLE_MORE,
-        Name::Judge => JUDGE_MORE,
-        Name::Check => CHECK_MORE,
-        Name::Mod => MOD_MORE,
-        Name::Noise => NOISE_MORE,
-        Name::Demod => DEMOD_MORE,
-        Name::Run => RUN_MORE,
-        Name::Scan => SCAN_MORE,
-        Name::Join => JOIN_MORE,
-        Name::Audit => AUDIT_MORE,
+        CommandName::Modes => MODES_MORE,
+        CommandName::Rows => ROWS_MORE,
+        CommandName::Table => TABLE_MORE,
+        CommandName::Judge => JUDGE_MORE,
+        CommandName::Check => CHECK_MORE,
+        CommandName::Mod => MOD_MORE,
+        CommandName::Noise => NOISE_MORE,
+        CommandName::Demod => DEMOD_MORE,
+        CommandName::Run => RUN_MORE,
+        CommandName::Scan => SCAN_MORE,
+        CommandName::Join => JOIN_MORE,
+        CommandName::Audit => AUDIT_MORE,
     }
 }

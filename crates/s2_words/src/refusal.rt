@@ -1,11 +1,11 @@
 //! Usage errors. Each is one line with the mistake, the accepted values, and the command that prints the help.
-use crate::arguments::Form;
+use crate::arguments::ArgumentKind;
 use crate::decibels::read_esn0;
 use crate::misuse::{Misuse, misuse_of};
 use crate::options::read_modcod;
 use crate::reading::roll_off_of;
 use crate::seed_range::read_seeds;
-use crate::table::{Entry, arguments_of, commands};
+use crate::table::{CommandHelp, arguments_of, commands};
 use crate::unread::Unread;
 use clap::builder::ValueParser;
 use clap::error::ErrorKind;
@@ -15,7 +15,7 @@ use s2_names::{Case, SymbolRate, constellation};
 use std::alloc::{AllocError, Global};
 
 /// The command of this name.
-fn entry_of(name: &str) -> Option<Entry> {
+fn entry_of(name: &str) -> Option<CommandHelp> {
     for entry in commands() {
         if entry.name == name {
             return Some(*entry);
@@ -25,12 +25,12 @@ fn entry_of(name: &str) -> Option<Entry> {
 }
 
 /// The command that the arguments name, if there is one.
-fn command_in(arguments: &[String]) -> Option<Entry> {
+fn command_in(arguments: &[String]) -> Option<CommandHelp> {
     entry_of(arguments.get(1)?.as_str())
 }
 
 /// Appends the end of a line: the command that prints the help of a command or of the program.
-fn push_way(text: &mut String, command: Option<Entry>) -> Result<(), AllocError> {
+fn push_way(text: &mut String, command: Option<CommandHelp>) -> Result<(), AllocError> {
     match command {
         Some(entry) => {
             let name = entry.name;
@@ -71,12 +71,12 @@ fn push_names(text: &mut String, names: &[&str]) -> Result<(), AllocError> {
 }
 
 /// The parser of the option with this name in the help, for example `--number <N>`.
-fn parser_of(command: Option<Entry>, option: &str) -> ValueParser<'static> {
+fn parser_of(command: Option<CommandHelp>, option: &str) -> ValueParser<'static> {
     let Some(entry) = command else {
         return ValueParser::String;
     };
     for argument in arguments_of(entry.command) {
-        if let Form::Valued(value) = argument.form {
+        if let ArgumentKind::Valued(value) = argument.form {
             if bare(option).strip_prefix("--") == Some(argument.name) {
                 return value.allowed;
             }
@@ -102,7 +102,11 @@ fn push_refused(text: &mut String, option: &str, value: &str) -> Result<(), Allo
 }
 
 /// Appends that a word is neither an option nor a file.
-fn push_unknown(text: &mut String, command: Option<Entry>, word: &str) -> Result<(), AllocError> {
+fn push_unknown(
+    text: &mut String,
+    command: Option<CommandHelp>,
+    word: &str,
+) -> Result<(), AllocError> {
     push_word(text, word)?;
     if !word.starts_with('-') {
         return text.push_str(" is an unexpected argument");
@@ -124,7 +128,7 @@ fn push_lines(alloc: Global, text: &mut String, lines: &str) -> Result<(), Alloc
 fn push_misuse(
     alloc: Global,
     text: &mut String,
-    command: Option<Entry>,
+    command: Option<CommandHelp>,
     misuse: Misuse<'_>,
 ) -> Result<(), AllocError> {
     match misuse {

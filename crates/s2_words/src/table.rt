@@ -12,7 +12,7 @@ use crate::arguments::{
 
 /// The commands.
 #[derive(Clone, Copy)]
-pub(crate) enum Name {
+pub(crate) enum CommandName {
     Modes,
     Rows,
     Table,
@@ -30,78 +30,78 @@ pub(crate) enum Name {
 /// A command, its name and its first line of help. Its options and the rest of its help are separate, so that no proof
 /// contains all texts.
 #[derive(Clone, Copy)]
-pub(crate) struct Entry {
-    pub command: Name,
+pub(crate) struct CommandHelp {
+    pub command: CommandName,
     pub name: &'static str,
     pub about: &'static str,
 }
 
 /// All commands, in the order of the help.
-static COMMANDS: [Entry; 12] = [
-    Entry {
-        command: Name::Demod,
+static COMMANDS: [CommandHelp; 12] = [
+    CommandHelp {
+        command: CommandName::Demod,
         name: "demod",
         about: "Demodulates symbols into a transport stream",
     },
-    Entry {
-        command: Name::Scan,
+    CommandHelp {
+        command: CommandName::Scan,
         name: "scan",
         about: "Finds the modes in a recording, and how to receive it",
     },
-    Entry {
-        command: Name::Mod,
+    CommandHelp {
+        command: CommandName::Mod,
         name: "mod",
         about: "Modulates a transport stream into symbols",
     },
-    Entry {
-        command: Name::Run,
+    CommandHelp {
+        command: CommandName::Run,
         name: "run",
         about: "Sends a transport stream through a noisy channel and receives it",
     },
-    Entry {
-        command: Name::Noise,
+    CommandHelp {
+        command: CommandName::Noise,
         name: "noise",
         about: "Adds noise generated from a seed to symbols",
     },
-    Entry {
-        command: Name::Modes,
+    CommandHelp {
+        command: CommandName::Modes,
         name: "modes",
         about: "Lists the modes",
     },
-    Entry {
-        command: Name::Rows,
+    CommandHelp {
+        command: CommandName::Rows,
         name: "rows",
         about: "Prints a row file generated from a seed",
     },
-    Entry {
-        command: Name::Table,
+    CommandHelp {
+        command: CommandName::Table,
         name: "table",
         about: "Checks whether a row file is the standard's table",
     },
-    Entry {
-        command: Name::Judge,
+    CommandHelp {
+        command: CommandName::Judge,
         name: "judge",
         about: "Decodes soft values",
     },
-    Entry {
-        command: Name::Check,
+    CommandHelp {
+        command: CommandName::Check,
         name: "check",
         about: "Verifies a certificate",
     },
-    Entry {
-        command: Name::Audit,
+    CommandHelp {
+        command: CommandName::Audit,
         name: "audit",
         about: "Checks a report against its certificates, without decoding",
     },
-    Entry {
-        command: Name::Join,
+    CommandHelp {
+        command: CommandName::Join,
         name: "join",
         about: "Reassembles packets from BBFRAMEs",
     },
 ];
 
 /// All commands, in the order of the help.
-pub(crate) fn commands() -> &'static [Entry] {
+pub(crate) fn commands() -> &'static [CommandHelp] {
     &COMMANDS
 }
 
@@ -250,20 +250,20 @@ static AUDIT_ARGUMENTS: [Argument; 11] = [
 ];
 
 /// The arguments of a command.
-pub(crate) fn arguments_of(command: Name) -> &'static [Argument] {
+pub(crate) fn arguments_of(command: CommandName) -> &'static [Argument] {
     match command {
-        Name::Modes => &MODES_ARGUMENTS,
-        Name::Rows => &ROWS_ARGUMENTS,
-        Name::Table => &TABLE_ARGUMENTS,
-        Name::Judge => &JUDGE_ARGUMENTS,
-        Name::Check => &CHECK_ARGUMENTS,
-        Name::Mod => &MOD_ARGUMENTS,
-        Name::Noise => &NOISE_ARGUMENTS,
-        Name::Demod => &DEMOD_ARGUMENTS,
-        Name::Run => &RUN_ARGUMENTS,
-        Name::Scan => &SCAN_ARGUMENTS,
-        Name::Join => &JOIN_ARGUMENTS,
-        Name::Audit => &AUDIT_ARGUMENTS,
+        CommandName::Modes => &MODES_ARGUMENTS,
+        CommandName::Rows => &ROWS_ARGUMENTS,
+        CommandName::Table => &TABLE_ARGUMENTS,
+        CommandName::Judge => &JUDGE_ARGUMENTS,
+        CommandName::Check => &CHECK_ARGUMENTS,
+        CommandName::Mod => &MOD_ARGUMENTS,
+        CommandName::Noise => &NOISE_ARGUMENTS,
+        CommandName::Demod => &DEMOD_ARGUMENTS,
+        CommandName::Run => &RUN_ARGUMENTS,
+        CommandName::Scan => &SCAN_ARGUMENTS,
+        CommandName::Join => &JOIN_ARGUMENTS,
+        CommandName::Audit => &AUDIT_ARGUMENTS,
     }
 }
 
@@ -293,11 +293,11 @@ const SEEDING: Choice = Choice {
 };
 
 /// The choices of a command.
-pub(crate) fn choices_of(command: Name) -> &'static [Choice] {
+pub(crate) fn choices_of(command: CommandName) -> &'static [Choice] {
     match command {
-        Name::Judge => &[CODE],
-        Name::Noise => &[STRENGTH],
-        Name::Run => &[SEEDING, STRENGTH],
+        CommandName::Judge => &[CODE],
+        CommandName::Noise => &[STRENGTH],
+        CommandName::Run => &[SEEDING, STRENGTH],
         _ => &[],
     }
 }
@@ -335,17 +335,17 @@ const NO_PASSES: Rule = Rule {
 };
 
 /// The rules for the options of a command, at most one per option.
-fn rules_of(command: Name) -> &'static [Rule] {
+fn rules_of(command: CommandName) -> &'static [Rule] {
     match command {
-        Name::Modes => &[LENGTH_OF_MODE],
-        Name::Judge => &[WHOLE_SHAPE, LENGTH_OF_MODE, NO_PASSES],
-        Name::Demod | Name::Run => &[NO_PASSES],
+        CommandName::Modes => &[LENGTH_OF_MODE],
+        CommandName::Judge => &[WHOLE_SHAPE, LENGTH_OF_MODE, NO_PASSES],
+        CommandName::Demod | CommandName::Run => &[NO_PASSES],
         _ => &[],
     }
 }
 
 /// The rule for an option of a command, if there is one.
-pub(crate) fn rule_of(command: Name, option: &str) -> Option<Rule> {
+pub(crate) fn rule_of(command: CommandName, option: &str) -> Option<Rule> {
     for rule in rules_of(command) {
         if rule.given.contains(&option) {
             return Some(*rule);
