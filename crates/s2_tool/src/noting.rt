@@ -28,17 +28,18 @@ impl<'t, 'r, 'a, R: Disk> Named<'t, 'r, 'a, R> {
         role: Role,
         name: &'a str,
     ) -> Named<'t, 'r, 'a, R> {
-        let name = if is_standard(role, name) {
-            stream_name(role)
-        } else {
-            name
-        };
-        Named { terminal, name }
+        Named {
+            terminal,
+            name: shown_name(role, name),
+        }
     }
 }
 
-/// The name of a standard stream.
-fn stream_name<'a>(role: Role) -> &'a str {
+/// This name, or that of the standard stream.
+fn shown_name<'a>(role: Role, name: &'a str) -> &'a str {
+    if !is_standard(role, name) {
+        return name;
+    }
     match role {
         Role::Input => "standard input",
         Role::Output => "standard output",
