@@ -42,9 +42,10 @@ FRAME = re.compile(rb"frame \d+ at (\d+) (([a-z-]+) (fixed \d+|lost).*)\n")
 CUT = re.compile(rb"cut at (\d+) symbols (\d+)\n")
 END = re.compile(rb"end frames (\d+) delivered (\d+) packets (\d+) bad (\d+)")
 # Those figures of a frame's line that the end line has sums of, and the greatest sum.
-FIGURES = re.compile(rb" changed (\d+) rounds \d+ known (\d+) payload (\d+)$")
+FIGURES = rb" changed (\d+) rounds \d+ known (\d+) power (\d+) along -?\d+ across -?\d+ payload (\d+) power (\d+) along -?\d+ across -?\d+$"
+FIGURES = re.compile(FIGURES)
 GREATEST = (1 << 64) - 1
-PASSED_OVER = re.compile(rb"s2: note: (\d+) symbols? passed over in (\d+) places?, the first at (\d+)\n")
+SKIPPED_NOTE = re.compile(rb"s2: note: (\d+) symbols? skipped in (\d+) places?, the first at (\d+)\n")
 NO_FRAME = re.compile(rb"(s2: note: no frame of .* in )\d+( symbols.*\n)")
 REFUSED = re.compile(rb"s2: note: of \d+ lost frames? (\d+) had a BCH word whose header is refused\n")
 UNDECODED = b"s2: note: headers are right but no frame is decoded: another scrambling number or other rows? try s2 scan\n"
@@ -241,7 +242,7 @@ class Reception:
                     self.cut = int(found[1]) + self.offset, int(found[2])
         self.index = {frame.at: number for number, frame in enumerate(self.frames)}
         self.notes = text_of(f"{folder}/notes")
-        # If all that lies between frames is passed over, no dummy frame is there.
+        # If all that lies between frames is skipped, no dummy frame is there.
         rest = (self.cut[0] if self.cut else stretch.stop) - before
         between = [frame.at - frame.before for frame in self.frames]
         self.has_dummies = sum(between) + rest * (self.cut is not None or rest >= HEADER) != self.passed_over()[0]
@@ -250,8 +251,8 @@ class Reception:
             self.find_gaps()
 
     def passed_over(self):
-        """The number of symbols passed over, of their places, and the first one."""
-        found = PASSED_OVER.search(self.notes)
+        """The number of symbols skipped, of their places, and the first one."""
+        found = SKIPPED_NOTE.search(self.notes)
         return (int(found[1]), int(found[2]), int(found[3]) + self.offset) if found else (0, 0, 0)
 
     def refused(self):
@@ -399,10 +400,10 @@ class Joiner:
     SYNCD and DFL of a frame matter; a frame of zeros is a gap."""
 
     def __init__(self):
-        self.held, self.torn = None, 0
+        self.held, self.incomplete = None, 0
 
     def drop(self):
-        self.torn += bool(self.held)
+        self.incomplete += bool(self.held)
         self.held = None
 
     def step(self, header):
@@ -431,7 +432,7 @@ class Whole:
         self.count, self.first, self.certified, self.joiner = collections.Counter(), 0, True, Joiner()
         # the sums of figures; the lost frames with a refused header; until a frame is delivered, the energy of all headers
         self.figures, self.refused, self.energy = [], 0, 0
-        # the symbols passed over after the last frame and before the cursor, and the first of them; the note of a stream without a frame
+        # the symbols skipped after the last frame and before the cursor, and the first of them; the note of a stream without a frame
         self.passed, self.no_frame = (0, 0), None
         # the least distance from the cursor at which it is tried to move it on without a frame
         self.least = 2 * DUMMY
@@ -449,14 +450,14 @@ class Whole:
         return Reception(self.receiver, stretch, folder)
 
     def counted(self, stretch, after=b""):
-        """The cut frame in a stretch without whole ones, the number of symbols passed over before it, and the first of them."""
+        """The cut frame in a stretch without whole ones, the number of symbols skipped before it, and the first of them."""
         reception = self.tried(stretch, after=after)
         shutil.rmtree(reception.folder)
         symbols, _, first = reception.passed_over()
         return reception.cut, symbols, first
 
     def gap(self, reception, number):
-        """The symbols passed over before a frame: how many, and the first."""
+        """The symbols skipped before a frame: how many, and the first."""
         frame, follows = reception.frames[number], number > 0 or reception.stretch.follows
         distance = frame.at - frame.before
         if reception.gaps[number] is False or distance < DUMMY or not reception.has_dummies:
@@ -468,7 +469,7 @@ class Whole:
 
     def pass_over(self, stop):
         """Moves the cursor on if no frame came, so that the symbols before it need not be kept. It moves if all symbols up to a position are
-        passed over, or if they are dummy frames. A header that is put after them is found then, and shows which it is."""
+        skipped, or if they are dummy frames. A header that is put after them is found then, and shows which it is."""
         header, until = bytes.fromhex(self.receiver.header), Stretch(self.cursor, stop, self.follows)
         if stop - self.cursor < self.least:
             return
@@ -530,13 +531,16 @@ class Whole:
 
     def count_figures(self, frame):
         if found := FIGURES.search(frame.words):
-            self.figures = [min(GREATEST, one + int(other)) for one, other in zip(self.figures or [0, 0, 0], found.groups())]
+            self.figures = [min(GREATEST, one + int(other)) for one, other in zip(self.figures or 5 * [0], found.groups())]
 
     def sums(self):
         """What the end line has of the figures, if a frame had them."""
         of, frames = self.receiver, self.count["frames"]
-        sizes = zip(("changed", "known", "payload"), self.figures, (of.bits, of.size - of.payload, of.payload))
-        return "".join(f" {name} {number} of {frames * size}" for name, number, size in sizes).encode()
+        if not self.figures:
+            return b""
+        changed, known, known_power, payload, payload_power = self.figures
+        known = f" known {known} of {frames * (of.size - of.payload)} power {known_power}"
+        return f" changed {changed} of {frames * of.bits}{known} payload {payload} of {frames * of.payload} power {payload_power}".encode()
 
     def meets(self, reception):
         """The number of the reception's first frame that comes next here, None if it is not known to be in the state of this receiver."""
@@ -642,13 +646,13 @@ class Whole:
         _, _, packets, bad = self.outputs.joined()
         self.outputs.keep()
         self.outputs.tell(b"end frames %d delivered %d packets %d bad %d%b\n" % (self.count["frames"], self.count["delivered"], packets, bad, self.sums()))
-        count, torn = self.count, self.joiner.torn
+        count, incomplete = self.count, self.joiner.incomplete
         is_empty = self.no_frame and not self.count["frames"] and not cut and total >= HEADER
         lines = [self.no_frame.expand(rb"\g<1>%d\2" % total)] if is_empty else []
         if count["symbols"]:
-            places = f"{counted(count['symbols'], 'symbol')} passed over in {counted(count['places'], 'place')}, the first at {self.first}"
+            places = f"{counted(count['symbols'], 'symbol')} skipped in {counted(count['places'], 'place')}, the first at {self.first}"
             lines.insert(0, f"s2: note: {places}\n".encode())
-        lines += [f"s2: note: {counted(torn, 'packet')} torn\n".encode()] if torn else []
+        lines += [f"s2: note: {counted(incomplete, 'packet')} incomplete\n".encode()] if incomplete else []
         lost = count["frames"] - count["delivered"]
         refused = f"s2: note: of {counted(lost, 'lost frame')} {self.refused} had a BCH word whose header is refused\n"
         lines += [refused.encode()] if self.refused else []

@@ -12,7 +12,7 @@ FEW, STRETCHES, GROUP, HEIGHT = 400, 100, 10, 190
 VERDICTS = {"sole": (2, "circle"), "most-likely": (0, "square"), "parity": (4, "triangle"), "broken": (1, "cross")}
 UNITS = ((1e6, "millions of symbols"), (1e3, "thousands of symbols"), (1, "symbols"))
 ES_N0, ERRORS = "es_n0_db", "bit_error_ratio"
-RATIOS = {"modulation_error_ratio_db": "modulation error ratio", "mer_db": "modulation error ratio"}
+RATIOS = {"mer_db": "modulation error ratio"}
 # Other panels: their title, their unit, and their figures with labels. PLAIN is for frames without figures.
 OTHERS = [
     ("Amplitude", "amplitude", {"amplitude": "amplitude"}),

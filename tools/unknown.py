@@ -5,7 +5,7 @@ import subprocess
 import sys
 import typing
 
-# Symbols of a header; symbols that are looked at, and the form in which they are read: 64-bit floats, which hold every number of each form.
+# Symbols of a header; symbols that are examined, and the form in which they are read: 64-bit floats, which hold every number of each form.
 HEADER, LOOKED, FORM, BYTES = 90, 1 << 15, "cf64_le", 16
 FLOATS, INTEGERS = ("cf32_le", "cf32_be", "cf64_le", "cf64_be"), ("ci16_le", "ci16_be", "ci8", "cu8")
 # Floats of a recording are within this range, and the greatest is at most this multiple of the RMS.

@@ -2,7 +2,8 @@
    register of three words, eight bits a step; syndromes from the rest of the division; Berlekamp and Massey by tables of
    logarithms; and the search over all places, which moves each term of the locator on from place to place. The search is
    there twice: by two tables of 256 entries for each power of alpha, a place at a time, and by shifts, sixteen runs of
-   places at a time. It prints the least microseconds of many frames. */
+   places at a time. The search by shifts is left out if the locator cannot have as many roots in the field as its degree: then
+   x^65536 is not x modulo the locator. It prints the least microseconds of many frames. */
 #include <stdint.h>
 #include <stdio.h>
 #include <stdlib.h>
@@ -132,6 +133,42 @@ static unsigned search_by_lanes(const unsigned *f, unsigned degree, unsigned n, 
     return count;
 }
 
+/* the product by shifts */
+static inline uint16_t product(uint16_t a, uint16_t b) {
+    uint16_t sum = 0;
+    for (unsigned i = 0; i < 16; i++, a >>= 1, b = shift(b, 1)) sum ^= (uint16_t)((a & 1) * b);
+    return sum;
+}
+
+/* x times a remainder modulo x^d + low */
+static void times_x(uint16_t *restrict remainder, const uint16_t *restrict low, unsigned d) {
+    uint16_t top = remainder[d - 1];
+    memmove(remainder + 1, remainder, (d - 1) * sizeof *remainder);
+    remainder[0] = 0;
+    if (top)
+        for (unsigned i = 0; i < d; i++) remainder[i] ^= product(low[i], top);
+}
+
+/* whether x^65536 is x modulo x^d + low */
+static int may_split(const unsigned *f, unsigned d) {
+    uint16_t low[13], remainder[13] = {0, 1}, square[13];
+    if (d < 2) return 1;
+    for (unsigned i = 0; i < d; i++) low[i] = (uint16_t)f[i];
+    for (unsigned k = 0; k < 16; k++) {
+        memset(square, 0, sizeof square);
+        for (unsigned i = d; i-- > 0;) {
+            times_x(square, low, d);
+            times_x(square, low, d);
+            square[0] ^= product(remainder[i], remainder[i]);
+        }
+        memcpy(remainder, square, sizeof remainder);
+    }
+    remainder[1] ^= 1;
+    for (unsigned i = 0; i < d; i++)
+        if (remainder[i]) return 0;
+    return 1;
+}
+
 typedef unsigned Search(const unsigned *f, unsigned degree, unsigned n, unsigned t, unsigned *places);
 
 static int decode(unsigned char *word, unsigned k, unsigned d, unsigned t, Search *search) {
@@ -164,7 +201,7 @@ static int decode(unsigned char *word, unsigned k, unsigned d, unsigned t, Searc
         }
         memcpy(f, next, sizeof f);
     }
-    if (degree > t) return -1;
+    if (degree > t || (search == search_by_lanes && !may_split(f, degree))) return -1;
     unsigned places[13];
     unsigned count = search(f, degree, k + d, t, places);
     if (count > t) return -1;
@@ -187,7 +224,7 @@ static double now(void) {
 int main(void) {
     unsigned k = 32208, t = 12, d = 16 * t, n = k + d, good = 0;
     unsigned char *message = malloc(k), *word = malloc(n), *sent = malloc(n);
-    double encoding = 1e9, testing = 1e9, decoding[2] = {1e9, 1e9};
+    double encoding = 1e9, testing = 1e9, decoding[2] = {1e9, 1e9}, refusing[2] = {1e9, 1e9};
     Search *const searches[2] = {search_by_tables, search_by_lanes};
     make_field();
     make_products();
@@ -211,8 +248,16 @@ int main(void) {
             spent = now() - start;
             if (spent < decoding[way]) decoding[way] = spent;
             good += clean == 0 && changed == (int)t && !memcmp(word, sent, n);
+            for (unsigned j = 0; j < 40; j++) word[600 * j] ^= 1;
+            start = now();
+            changed = decode(word, k, d, t, searches[way]);
+            spent = now() - start;
+            if (spent < refusing[way]) refusing[way] = spent;
+            good += changed == -1;
+            memcpy(word, sent, n);
         }
     }
-    printf("c_encode %.1f\nc_undamaged %.1f\nc_decode %.1f\nc_by_lanes %.1f\nc_good %u\n", encoding, testing, decoding[0], decoding[1], good / 2);
+    printf("c_encode %.1f\nc_undamaged %.1f\nc_decode %.1f\nc_by_lanes %.1f\n", encoding, testing, decoding[0], decoding[1]);
+    printf("c_refuse %.1f\nc_refuse_by_lanes %.1f\nc_good %u\n", refusing[0], refusing[1], good / 4);
     free(message), free(word), free(sent);
 }

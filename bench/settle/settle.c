@@ -54,8 +54,8 @@ static void read_rows(void) {
 
 static inline int32_t raised(int i, int t, int32_t a) { return i == t ? a : -a; }
 
-/* The move of a check with a reserve; whether it is another than before. */
-static inline void choose(int j, int32_t reserve, int *to, int32_t *much) {
+/* The move of a check with a margin; whether it is another than before. */
+static inline void choose(int j, int32_t margin, int *to, int32_t *much) {
   int32_t least = INT32_MAX, next = INT32_MAX;
   int at = members[first_member[j]];
   for (int e = first_member[j]; e < first_member[j + 1]; e++) {
@@ -64,7 +64,7 @@ static inline void choose(int j, int32_t reserve, int *to, int32_t *much) {
     if (input < least) next = least, least = input, at = i;
     else if (input < next) next = input;
   }
-  int64_t gap = next == INT32_MAX ? 2 * (int64_t)MAX_MOVED : (int64_t)next - least - reserve;
+  int64_t gap = next == INT32_MAX ? 2 * (int64_t)MAX_MOVED : (int64_t)next - least - margin;
   *to = at;
   *much = gap <= 0 ? 0 : gap / 2 > MAX_MOVED ? MAX_MOVED : (int32_t)(gap / 2);
 }
@@ -78,10 +78,10 @@ static inline void put(int j, int to, int32_t much) {
   amount[j] = much;
 }
 
-static void layer(int r, int32_t reserve) {
+static void layer(int r, int32_t margin) {
   static int to[GROUP];
   static int32_t much[GROUP];
-  for (int c = 0; c < GROUP; c++) choose(r + c * Q, reserve, &to[c], &much[c]);
+  for (int c = 0; c < GROUP; c++) choose(r + c * Q, margin, &to[c], &much[c]);
   for (int c = 0; c < GROUP; c++) put(r + c * Q, to[c], much[c]);
 }
 
@@ -125,7 +125,7 @@ static int settle(int passes) {
   for (int i = 0; i < N; i++) rests[i] = 16 * soft[i];
   memset(target, 0, sizeof target);
   memset(amount, 0, sizeof amount);
-  int reserve = 256, before = 0, tried = N;
+  int margin = 256, before = 0, tried = N;
   for (int pass = 0;; pass++) {
     int now = lacking();
     if (!now) return 1;
@@ -138,10 +138,10 @@ static int settle(int passes) {
     if (pass >= 2) {
       int fall = before > now ? 320 * (before - now) / before : 0;
       fall = fall < 12 ? 12 : fall > 64 ? 64 : fall;
-      reserve = reserve > fall ? reserve - fall : 0;
+      margin = margin > fall ? margin - fall : 0;
     }
     before = now;
-    for (int r = 0; r < Q; r++) layer(r, reserve);
+    for (int r = 0; r < Q; r++) layer(r, margin);
   }
 }
 

@@ -11,7 +11,7 @@ sys.path.insert(0, os.path.join(os.path.dirname(__file__), "..", "minsum"))
 from values import members  # noqa: E402
 
 SCALE, MAX_MOVED = 16, 2**20
-FIRST_RESERVE, MAX_SERVED = 256, 4000
+FIRST_MARGIN, MAX_SERVED = 256, 4000
 
 
 class Trace:
@@ -29,21 +29,21 @@ def give_moves(rests, check, move, sign):
             rests[i] += sign * (amount if i == target else -amount)
 
 
-def new_move(inputs, reserve):
+def new_move(inputs, margin):
     """The move of a check by what its members give, or None."""
     if len(inputs) == 1:
         return next(iter(inputs)), MAX_MOVED
     (a, i), (b, _) = sorted((v, i) for i, v in inputs.items())[:2]
-    amount = min((b - a - reserve) // 2, MAX_MOVED)
+    amount = min((b - a - margin) // 2, MAX_MOVED)
     return (i, amount) if amount > 0 else None
 
 
-def run_layer(checks, rests, moves, layer, reserve):
+def run_layer(checks, rests, moves, layer, margin):
     new = {}
     for j in layer:
         inputs = {i: rests[i] for i in checks[j]}
         give_moves(inputs, checks[j], moves[j], -1)
-        new[j] = new_move(inputs, reserve)
+        new[j] = new_move(inputs, margin)
     for j in layer:
         give_moves(rests, checks[j], moves[j], -1)
         give_moves(rests, checks[j], new[j], 1)
@@ -95,7 +95,7 @@ def find_moves(checks, q, values, passes, trace):
             checks_of[i].append(j)
     rests = [SCALE * v for v in values]
     moves = [None] * len(checks)
-    reserve, before, tried = FIRST_RESERVE, 0, None
+    margin, before, tried = FIRST_MARGIN, 0, None
     done = 0
     while True:
         now = sum(v < 1 for v in rests)
@@ -111,10 +111,10 @@ def find_moves(checks, q, values, passes, trace):
                 return moves
         if done >= 2:
             fallen = 320 * (before - now) // before if before > now else 0
-            reserve = max(0, reserve - min(64, max(12, fallen)))
+            margin = max(0, margin - min(64, max(12, fallen)))
         before = now
         for r in range(q):
-            run_layer(checks, rests, moves, range(r, len(checks), q), reserve)
+            run_layer(checks, rests, moves, range(r, len(checks), q), margin)
         done += 1
         trace.passes = done
 

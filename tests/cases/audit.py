@@ -150,7 +150,7 @@ def cases(symbols, report, certificates):
         yield stopped("".join(rest[:-1]) + text + "\n", symbols, certificates, "".join(lines), f"report: line {number}")
     yield stopped("".join(rest)[:-1], symbols, certificates, "".join(lines), f"report: line {number}")
     yield stopped("\n" + report, symbols, certificates, "", "report: line 1")
-    # other lines are passed over; a report without an end line is a report
+    # other lines are skipped; a report without an end line is a report
     for text in ("cut at 5 symbols 90", "end", "cut", "end " + 251 * "x"):
         yield case("".join(rest[:-1]) + text + "\n", symbols, certificates, 0, "".join(lines) + last(report))
     yield case("".join(rest[:-1]), symbols, certificates, 0, "".join(lines) + last(report))

@@ -30,7 +30,7 @@ WRONG_MOVED += bytes.fromhex("0000 00000004") + bytes(66)
 
 PACKET = b"\x47" + bytes(187)
 # Of a row file that does not fit the mode of LINK.
-WANTED = "QPSK 1/4, short wants 9 rows of addresses below 12960"
+WANTED = "QPSK 1/4, short needs 9 rows of addresses below 12960"
 ONE = "frame 1 at 0 sole fixed 0\n"
 TWO = ONE + "frame 2 at 8190 sole fixed 0\nend frames 2 delivered 2 packets 2 bad 0\n"
 
@@ -135,13 +135,23 @@ def tuned(lost, frames):
     return f"{lost} of {frames} frames lost: try --tuned"
 
 
+def causes(words, text, given=b"", to=None):
+    """The notes on the cause of a failed read or write: a folder is read, or a full device is written."""
+    full, folder = "No space left on device", "Is a directory"
+    if text == "cannot write":
+        return [f"/dev/full: {full}"] * ("/dev/full" in words.split()) or [f"standard output: {full}"] * (to == "/dev/full")
+    if text == "cannot read":
+        return [f".: {folder}"] * ("." in words.split()) or [f"standard input: {folder}"] * (given == ".")
+    return []
+
+
 def fault(words, text, *notes, cause="No such file or directory", **more):
-    """A case that ends with the line of a fault, after these notes, and prints nothing else. A file that cannot be opened is noted with its
-    cause, and so is each folder that is read."""
-    name, folder = text.removeprefix("cannot open "), ".: Is a directory"
-    folders = [folder] * words.split().count(".") * (text != "cannot open .")
-    causes = [folder if name == "." else f"{name}: {cause}"] * (name != text)
-    return Case(words, FAULT, errors=noted(*folders, *notes, *causes) + f"s2: {text}\n", **more)
+    """A case that ends with the line of a fault, after these notes, and prints nothing else. The cause is noted: of a file that cannot be
+    opened, and of a read or a write that failed."""
+    name = text.removeprefix("cannot open ")
+    opened = [f"{name}: {'Is a directory' if name == '.' else cause}"] * (name != text)
+    failed = causes(words, text, more.get("given"), more.get("to"))
+    return Case(words, FAULT, errors=noted(*notes, *failed, *opened) + f"s2: {text}\n", **more)
 
 
 # The commands, each with its own help.

@@ -39,6 +39,7 @@ FAILING = [
     ("check toy certificate", "printed", WRITE, NOTHING),
     (MOD, "made", READ, NOTHING),
     (MOD, "packets", READ, [(0, 0), (32_760, 0)]),
+    (f"mod --resync {MOD[4:]}", "packets", READ, [(0, 0), (32_760, 0)]),
     (MOD, "out", WRITE, [(0, 0), (32_760, 0)]),
     (MOD, "printed", WRITE, [(65_520, 0)]),
     (NOISE, "two", READ, is_whole_symbols),

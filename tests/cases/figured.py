@@ -5,7 +5,7 @@ from cases import plain_figures
 from cases.common import LINK, NO, PACKET, TWO, Case, fault
 from cases.drawn import spoilt
 from cases.links import NOISY, NONE
-from cases.plain_figures import NAMES, Frames, Mode
+from cases.plain_figures import Frames, Mode
 from cases.plain_receiver import FRAME, broken, checks_of, decided
 
 MODE, ROUNDS, FACTOR, DIVISOR = Mode(1, short=True), 2, 12, 4096
@@ -20,7 +20,7 @@ def with_figures(report, figures):
 
 def clean(report):
     """The report of frames without noise."""
-    return with_figures(report, [dict.fromkeys(NAMES, 0)] * report.count("frame "))
+    return with_figures(report, [plain_figures.clean(MODE)] * report.count("frame "))
 
 
 def noisy(two, rows):
@@ -39,10 +39,10 @@ def cases(two):
     one, other, figured = two[: 4 * FRAME], two[4 * FRAME :], clean(TWO)
     first = clean("frame 1 at 0 sole fixed 0\nend frames 1 delivered 1 packets 1 bad 0\n")
     cut = first.replace("end ", "cut at 8190 symbols 100\nend ")
-    torn, words = "s2: note: 1 packet torn\n", f"demod {LINK} --figures made in"
+    incomplete, words = "s2: note: 1 packet incomplete\n", f"demod {LINK} --figures made in"
     return [
         Case(f"{words} out", out=NONE, reads={"in": b""}, writes={"out": b""}),
-        Case(f"{words} out", NO, cut, torn, reads={"in": one + other[:400]}, writes={"out": PACKET}),
+        Case(f"{words} out", NO, cut, incomplete, reads={"in": one + other[:400]}, writes={"out": PACKET}),
         Case(f"{words} -", out=2 * PACKET, errors=figured, reads={"in": two}),
         Case(f"{words} --strict --uncertified out", out=figured, reads={"in": two}, writes={"out": 2 * PACKET}),
         fault(f"{words} out", "cannot write", reads={"in": two}, to="/dev/full", writes={"out": PACKET}),

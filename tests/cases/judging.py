@@ -93,7 +93,7 @@ LEFT = [
 ]
 # Codes of made rows of weight 3, by group, groups, q and seed, passes, and values of the word of zeros. Settling finds a certificate in
 # exactly this number of passes, or gives up in at most 60 (None), as `bench/settle/shares.py` computes it. With another number in the rule
-# each of these would end otherwise: the first pass before which it may give up, the number of bits that counts as few, the reserve.
+# each of these would end otherwise: the first pass before which it may give up, the number of bits that counts as few, the margin.
 SETTLED = [
     ((14, 8, 7, 186), 8, (
         b"54 38 14 70 99 70 85 24 57 -25 14 61 86 20 43 91 57 -10 63 64 31 4 45 14 -9 103 49 76 63 52 18 17 60 100 64 76 15 9 -4 "

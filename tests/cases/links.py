@@ -124,6 +124,7 @@ MOD = [
     *(fault("mod --modcod 1 --quiet normal4 in out", no_sync(at)[0], reads={"in": packets}, writes={"out": b""}) for packets, at, _ in SIZES),
     *(case for it in BEGINNINGS for case in begun(*it)),
     refused(bytes(111) + 5 * PACKET, no_sync(1), beginning(111, 188, "'it'\\''s'"), "mod --modcod 1 normal4 it's out", links={"it's": ("hard", "in")}),
+    refused(bytes(111) + 5 * PACKET, no_sync(1), beginning(111, 188, "FILE"), "mod --modcod 1 normal4 it\x1b[31m out", links={"it\x1b[31m": ("hard", "in")}),
     # the full frame is written
     fault(f"mod {LINK} made in out", *no_sync(3), reads={"in": 2 * PACKET + b"\x48" + bytes(187)}, writes={"out": size(32_760)}),
     fault(f"mod {LINK} made in -", *no_sync(1), reads={"in": bytes(188)}),
@@ -177,7 +178,7 @@ def demod(two, single):
         received(wrong_headers(two, 12), 0, TWO, 2 * PACKET),
         received(single, 0, SINGLE, PACKET, "--modcod 1 normal4"),
         # the second packet began in the first frame
-        *(received(two[:size], *cut(1, count), PACKET, errors=noted("1 packet torn") if count else "") for size, count in cut_two),
+        *(received(two[:size], *cut(1, count), PACKET, errors=noted("1 packet incomplete") if count else "") for size, count in cut_two),
         *(
             received(single[: 4 * count], *cut(0, count if count >= 90 else 0), b"", "--modcod 1 normal4")
             for count in (0, 89, 90, 32_489)
@@ -198,27 +199,27 @@ def demod(two, single):
 
 
 def is_passed_over(notes):
-    return any("passed over" in note for note in notes)
+    return any("skipped" in note for note in notes)
 
 
 def losing(two):
     """The cases of losses in the symbols of the two packets: their notes, the exit statuses of strict commands, and quiet ones."""
     one, other, gap = two[:32_760], two[32_760:], bytes(400)
-    first, torn = ONE + "frame 2 at 8290 sole fixed 0\nend frames 2 delivered 2 packets 1 bad 0\n", "1 packet torn"
-    nothing = "100 symbols passed over in 1 place, the first at 0", "no frame of QPSK 1/4, short in 100 symbols: try s2 scan"
+    first, incomplete = ONE + "frame 2 at 8290 sole fixed 0\nend frames 2 delivered 2 packets 1 bad 0\n", "1 packet incomplete"
+    nothing = "100 symbols skipped in 1 place, the first at 0", "no frame of QPSK 1/4, short in 100 symbols: try s2 scan"
     cases = [
         # before the frames, between them, after them, and before a cut one
-        (gap + two, 0, TWO.replace("at 0 ", "at 100 ").replace("8190", "8290"), 2 * PACKET, ["100 symbols passed over in 1 place, the first at 0"]),
-        (one + gap + other, 0, first, PACKET, ["100 symbols passed over in 1 place, the first at 8190", torn]),
-        (two + gap, 0, TWO, 2 * PACKET, ["100 symbols passed over in 1 place, the first at 16380"]),
+        (gap + two, 0, TWO.replace("at 0 ", "at 100 ").replace("8190", "8290"), 2 * PACKET, ["100 symbols skipped in 1 place, the first at 0"]),
+        (one + gap + other, 0, first, PACKET, ["100 symbols skipped in 1 place, the first at 8190", incomplete]),
+        (two + gap, 0, TWO, 2 * PACKET, ["100 symbols skipped in 1 place, the first at 16380"]),
         (two + gap[:356], 0, TWO, 2 * PACKET, []),
-        (gap[:8] + two + gap, 0, TWO.replace("at 0 ", "at 2 ").replace("8190", "8192"), 2 * PACKET, ["102 symbols passed over in 2 places, the first at 0"]),
+        (gap[:8] + two + gap, 0, TWO.replace("at 0 ", "at 2 ").replace("8190", "8192"), 2 * PACKET, ["102 symbols skipped in 2 places, the first at 0"]),
         (
             one + gap[:4] + other[:400], NO, ONE + "cut at 8191 symbols 100\nend frames 1 delivered 1 packets 1 bad 0\n", PACKET,
-            ["1 symbol passed over in 1 place, the first at 8190", torn],
+            ["1 symbol skipped in 1 place, the first at 8190", incomplete],
         ),
         # a header that names another place
-        (one + one, 0, TWO, 2 * PACKET, [torn]),
+        (one + one, 0, TWO, 2 * PACKET, [incomplete]),
         (gap, 0, NONE, b"", nothing),
         (two, 0, TWO, 2 * PACKET, []),
     ]
@@ -239,19 +240,19 @@ def losing(two):
 def silent(two):
     """Symbols without frames, for a frame's length or less: notes at once, one pair for each place."""
     one, other, size = two[:32_760], two[32_760:], 8190
-    torn, cases = "1 packet torn", []
+    incomplete, cases = "1 packet incomplete", []
     for count in (size - 1, size, 5 * size):
         at, said = size + count, missing((size, size + count)) if count >= size else []
         report = ONE + f"frame 2 at {at} sole fixed 0\nend frames 2 delivered 2 packets 1 bad 0\n"
-        cases.append((one + bytes(4 * count) + other, report, PACKET, [*said, f"{count} symbols passed over in 1 place, the first at {size}", torn]))
+        cases.append((one + bytes(4 * count) + other, report, PACKET, [*said, f"{count} symbols skipped in 1 place, the first at {size}", incomplete]))
     for count in (2 * size - 1, 2 * size, 5 * size):
         said = missing((2 * size,)) if count >= 2 * size else []
-        cases.append((two + bytes(4 * count), TWO, 2 * PACKET, [*said, f"{count} symbols passed over in 1 place, the first at {2 * size}"]))
+        cases.append((two + bytes(4 * count), TWO, 2 * PACKET, [*said, f"{count} symbols skipped in 1 place, the first at {2 * size}"]))
     # before the first frame, and between both
     far = bytes(8 * size)
     report = f"frame 1 at {2 * size} sole fixed 0\nframe 2 at {5 * size} sole fixed 0\nend frames 2 delivered 2 packets 1 bad 0\n"
-    twice = f"{4 * size} symbols passed over in 2 places, the first at 0"
-    cases.append((far + one + far + other, report, PACKET, [*missing((0, 2 * size), (3 * size, 5 * size)), twice, torn]))
+    twice = f"{4 * size} symbols skipped in 2 places, the first at 0"
+    cases.append((far + one + far + other, report, PACKET, [*missing((0, 2 * size), (3 * size, 5 * size)), twice, incomplete]))
     return [
         case
         for symbols, report, packets, notes in cases
@@ -292,13 +293,13 @@ def strong(two):
         # the energy is that of all headers
         received(one + loud(other, 7000), NO, lost, b"", f"{words} made", undelivered((7035, "0.1407"), tuned(2, 2))),
         # one frame is delivered, or all are
-        received(one + loud(other[:360], 7000) + bytes(32_400), NO, ANY, PACKET, errors=noted("1 packet torn", refused_headers(1, 1))),
+        received(one + loud(other[:360], 7000) + bytes(32_400), NO, ANY, PACKET, errors=noted("1 packet incomplete", refused_headers(1, 1))),
         received(loud(two, 7000), 0, TWO, 2 * PACKET),
     ]
     # the second frame's payload is backwards
-    mixed, torn = one + other[:360] + b"".join(other[at : at + 4] for at in range(len(other) - 4, 356, -4)), "1 packet torn"
+    mixed, incomplete = one + other[:360] + b"".join(other[at : at + 4] for at in range(len(other) - 4, 356, -4)), "1 packet incomplete"
     cases += [
-        received(mixed, NO, ANY, PACKET, f"{LINK} {words} made", noted(torn, *notes))
+        received(mixed, NO, ANY, PACKET, f"{LINK} {words} made", noted(incomplete, *notes))
         for words, notes in [("", [tuned(1, 2)]), ("--exit-by delivery", [tuned(1, 2)]), ("--tuned", []), ("--tuned --exit-by delivery", [])]
     ]
     # the line of a lost frame is printed also if --every does not select it
@@ -427,15 +428,15 @@ def among(two, dummies):
             0,
             TWO.replace("at 0 ", "at 9280 ").replace("8190", "17470"),
             2 * PACKET,
-            errors=noted(*missing((0, 9280)), "5950 symbols passed over in 1 place, the first at 0"),
+            errors=noted(*missing((0, 9280)), "5950 symbols skipped in 1 place, the first at 0"),
         ),
-        # a symbol before a dummy frame is passed over, so that the packet that the next frame ends is lost
+        # a symbol before a dummy frame is skipped, so that the packet that the next frame ends is lost
         received(
             one + bytes(4) + dummy + other,
             0,
             ONE + line.format(2, 11_521) + end.format(1),
             PACKET,
-            errors=noted("1 symbol passed over in 1 place, the first at 8190", "1 packet torn"),
+            errors=noted("1 symbol skipped in 1 place, the first at 8190", "1 packet incomplete"),
         ),
         *(
             received(symbols, 0, NONE, b"", errors=noted(*said, f"no frame of QPSK 1/4, short in {len(symbols) // 4} symbols: try s2 scan"))
@@ -471,7 +472,7 @@ def heard(words, symbols, code, end, packets, errors=""):
 def worded(two):
     """Symbols with pilots and another scrambling number, received with other words too."""
     words, end = f"{LINK} --pilots", "end frames 2 delivered {0} packets {0} bad 0\n"
-    no_sync = *missing((0,)), "16740 symbols passed over in 1 place, the first at 0", "no frame of QPSK 1/4, short in 16740 symbols: try s2 scan"
+    no_sync = *missing((0,)), "16740 symbols skipped in 1 place, the first at 0", "no frame of QPSK 1/4, short in 16740 symbols: try s2 scan"
     return [
         heard(f"{words} --number 7", two, 0, end.format(2), 2 * PACKET),
         heard(words, two, NO, end.format(0), b"", noted(UNDECODED)),

@@ -47,7 +47,7 @@ assert [f"{(kbch(m, False, 360 * g) - 80) / frame(m, False, 0):.6f}" for m, word
 # One rate in several ways.
 RATE_TEXTS = "27500000 27.5M 27500k 27500K 27.5e6 27.5E6 275e5 27500000.0 0027.500M 0.0275e9".split()
 QPSK, PSK = f"a mode: QPSK has {', '.join(NAMES[:11])}", f"a mode: 8PSK has {', '.join(NAMES[11:])}"
-NOTHING, FORMS = '""', "1 to 17 or a name"
+NOTHING, FORMS = '""', "1 to 17 or the name of a mode"
 SWITCH = "--pilots takes no value"
 REST = {
     "modes": "",
@@ -107,7 +107,7 @@ MISUSES = [
     ("mod --modcod 1 --ro", "--ro: the value is missing"),
     # the fault is another word's
     ("mod --modcod 1 --short=1 --pilots made packets out", "--short takes no value"),
-    ("mod --modcod 1 --pilots made packets out more", "more is one argument too many"),
+    ("mod --modcod 1 --pilots made packets out more", "more is an unexpected argument"),
     ("mod --modcod 1 --pilot made packets out", "--pilot is not an option of mod"),
     ("noise --seed 1 --level 1 --pilots packets out", "--pilots is not an option of noise"),
     ("noise --seed 1 --level 1 --ro 0 packets out", "--ro is not an option of noise"),
@@ -117,7 +117,7 @@ MISUSES = [
     ("modes --modcod 18", no_mode(18)),
     ("modes --modcod 7 --pilots", "--pilots is not an option of modes"),
     ("modes --rate", "--rate: the value is missing"),
-    ("modes all", "all is one argument too many"),
+    ("modes all", "all is an unexpected argument"),
 ]
 
 CASES = [
@@ -137,9 +137,9 @@ CASES = [
     *(misused(name, f"--modcod qpsk1/4 --ro={text}", no_roll_off(text)) for name in LINKED for text in ("5", "")),
     *(misused(name, f"--modcod 1 {words}", SWITCH) for name in LINKED for words in SWITCHES),
     *(misuse(words, text) for words, text in MISUSES),
-    Case("demod --help", out=option("parity", "try --passes 96")),
-    Case("demod --help", out=option("broken", "the packets are whole all the same; try --rounds 200")),
-    Case("judge --help", out=option("broken cost C check J", "this is no codeword")),
+    Case("demod --help", out=option("parity", "with `fixed` the packets are good")),
+    Case("demod --help", out=option("broken", "the packets are good all the same")),
+    Case("judge --help", out=option("broken cost C check J", "is the first that fails")),
     Case("run --help", out=option("2  ", "a frame is lost, cut, parity or broken")),
 ]
 # Their files; the first does not exist.

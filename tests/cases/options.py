@@ -9,8 +9,9 @@ from cases.common import (
 )  # fmt: skip
 from cases.drawn import gaussian, made_rows, spoilt
 from cases.judging import HARD_NOTE, LEFT
-from cases.links import NOISY, NONE, PARITY, SAMPLES, wrong_headers
+from cases.links import NOISY, NONE, PARITY, SAMPLES, no_sync, wrong_headers
 from cases.modes import PACKETS, WORDS
+from cases.strength import nothing_found
 from cases.words import WANTED_NORMAL
 
 
@@ -58,7 +59,7 @@ def too_large(rows, bound):
     return f"rows: address too large in line {1 + next(at for at, most in enumerate(lines) if most >= bound)}"
 
 
-OTHER_SHORT = too_large(made_rows(360, 9, 36, 3, 1), 10_800), "QPSK 1/3, short wants 15 rows of addresses below 10800"
+OTHER_SHORT = too_large(made_rows(360, 9, 36, 3, 1), 10_800), "QPSK 1/3, short needs 15 rows of addresses below 10800"
 
 
 def rows_effects():
@@ -126,7 +127,7 @@ def few_effects():
 def scan_effects(two):
     """Two frames: the second header ends with symbol 8279."""
     found = ended(Rule("qpsk1/4 short, and its command", lambda got: got.startswith(b"qpsk1/4 short no-pilots seen 2 ") and b" rows in received.ts\n" in got))
-    ends = {"": found} | each("--first", (8279, 8280, 16380, 4294967295), (ended("nothing found\n", NO), *3 * [found]))
+    ends = {"": found} | each("--first", (8279, 8280, 16380, 4294967295), (ended(nothing_found(two[: 4 * 8279]), NO), *3 * [found]))
     yield Effect("--first", "scan {} in", ends, {"reads": {"in": two}})
 
 
@@ -160,7 +161,7 @@ def audit_effects(two):
 def mod_effects(two, dummy):
     by_words = {words: ended("packets 2 frames 1\n", out=digest(number)) for words, _, _, number in WORDS if words != "--short"}
     usual, reads = by_words[""], {"reads": {"in": PACKETS, "rows": made_rows(360, 90, 90, 3, 1)}}
-    many = too_large(reads["reads"]["rows"], 25_920), "QPSK 3/5, normal wants 108 rows of addresses below 25920"
+    many = too_large(reads["reads"]["rows"], 25_920), "QPSK 3/5, normal needs 108 rows of addresses below 25920"
     yield Effect("--modcod", "mod {} rows in out", each("--modcod", (4, "qpsk1/2", 5), (usual, usual, refused(*many, out=b""))), reads)
     yield Effect("--pilots", "mod --modcod 4 {} rows in out", {"": usual, "--pilots": by_words["--pilots"]}, reads)
     yield Effect("--number", "mod --modcod 4 {} rows in out", by_default("--number", 0, 262141, usual, by_words["--number 262141"]), reads)
@@ -170,6 +171,11 @@ def mod_effects(two, dummy):
     yield Effect("--short", "mod --modcod 1 {} made packets out", {"--short": whole, "": refused(TOO_FEW, WANTED_NORMAL, out=b"")})
     yield Effect("--dummy", f"mod {LINK} {{}} made packets out", by_default("--dummy", 0, 1, whole, apart))
     yield Effect("--quiet", f"mod {LINK} {{}} made packets out", {"": ended(sent, FINE, noted(ROWS_NOTE), out=two), "--quiet": whole}, {"noted": True})
+    spoilt_packet, left_out = {"reads": {"in": 2 * PACKET + b"\x48" + bytes(187)}}, noted("188 bytes left out in 1 place")
+    ends = {"": refused(*no_sync(3), out=one), "--resync": ended(sent, NO, left_out, out=two)}
+    yield Effect("--resync", f"mod {LINK} {{}} made in out", ends, spoilt_packet)
+    ends = {"": refused(*no_sync(3), out=b""), "--resync": ended(TWO, NO, left_out, out=2 * PACKET)}
+    yield Effect("--resync", f"run {LINK} {{}} --seed 1 --level 0 made in out", ends, spoilt_packet)
     for option, text in records.sent(two).items():
         yield Effect(option, f"mod {LINK} {{}} made packets out", {"": whole, f"{option} record": ended(sent, out=two, record=text)})
 
@@ -188,7 +194,7 @@ SUMS = ["sum frames {0} delivered {0} certified {0}\n".format(count) for count i
 EVERY = {"": WELL, "--every 1": received(f"every 1\n{FIRST}{SUMS[0]}{SECOND}{SUMS[1]}{LAST}")}
 EVERY |= {"--every 2": received(f"every 2\n{SECOND}{SUMS[1]}{LAST}")} | {f"--every {count}": received(f"every {count}\n{LAST}") for count in (3, 2**32 - 1)}
 # If the second of two frames is not found.
-PASSED = ["8190 symbols passed over in 1 place, the first at 8190"]
+PASSED = ["8190 symbols skipped in 1 place, the first at 8190"]
 UNFOUND = received("frame 1 at 0 sole fixed 0\nend frames 1 delivered 1 packets 1 bad 0\n", FINE, PACKET, PASSED)
 
 
@@ -252,10 +258,10 @@ def record_effects(two):
 
 def demod_effects(two, pilots):
     words, end = f"{LINK} --pilots", "end frames 2 delivered {0} packets {0} bad 0\n"
-    no_sync = received(NONE, FINE, b"", ["no frame since symbol 0", "16740 symbols passed over in 1 place, the first at 0", "no frame of QPSK 1/4, short in 16740 symbols: try s2 scan"])
+    none = received(NONE, FINE, b"", ["no frame since symbol 0", "16740 symbols skipped in 1 place, the first at 0", "no frame of QPSK 1/4, short in 16740 symbols: try s2 scan"])
     heard = received(TWO.replace("8190", "8370"))
     lost = received(Rule("lost frames", lambda got: got.decode().endswith(end.format(0))), NO, b"", [UNDECODED])
-    yield Effect("--pilots", f"demod {LINK} --number 7 {{}} made in out", {"": no_sync, "--pilots": heard}, {"reads": {"in": pilots}})
+    yield Effect("--pilots", f"demod {LINK} --number 7 {{}} made in out", {"": none, "--pilots": heard}, {"reads": {"in": pilots}})
     yield Effect("--number", f"demod {words} {{}} made in out", by_default("--number", 0, 7, lost, heard), {"reads": {"in": pilots}})
     # a receiver accepts any roll-off
     yield Effect("--ro", f"demod {LINK} {{}} made in out", dict.fromkeys(("", "--ro 0", "--ro 1", "--ro 2"), WELL), {"reads": {"in": two}})
@@ -266,11 +272,11 @@ def demod_effects(two, pilots):
         by_lock = {f"--lock {lock}": WELL if wrong <= lock else UNFOUND for lock in sorted({12, wrong - 1, wrong, 30, 40})}
         ends = {"": by_lock["--lock 30"]} | by_lock
         yield Effect("--lock", f"demod {LINK} --tuned {{}} made in out", ends, {"reads": {"in": wrong_headers(two, wrong)}})
-    gap = ["100 symbols passed over in 1 place, the first at 16380"]
+    gap = ["100 symbols skipped in 1 place, the first at 16380"]
     ends = {"": received(TWO, notes=gap), "--strict": received(TWO, NO, notes=gap)}
     yield Effect("--strict", f"demod {LINK} {{}} made in out", ends, {"reads": {"in": two + bytes(400)}})
     yield Effect("--every", f"demod {LINK} {{}} made in out", EVERY, {"reads": {"in": two}})
-    # the frames are certified, and symbols were passed over
+    # the frames are certified, and symbols were skipped
     ends = by_default("--exit-by", "certainty", "delivery", ends[""], ends["--strict"])
     yield Effect("--exit-by", f"demod {LINK} {{}} made in out", ends, {"reads": {"in": two + bytes(400)}})
 
@@ -294,8 +300,8 @@ def run_effects(report, others):
     yield Effect("--pilots", f"run {LINK} --seed 1 --level 0 {{}} made packets out", {"": WELL, "--pilots": received(TWO.replace("8190", "8370"))})
     apart = received(TWO.replace("8190", "11520"))
     yield Effect("--dummy", f"run {LINK} --seed 1 --level 0 {{}} made packets out", by_default("--dummy", 0, 1, WELL, apart))
-    no_sync = ["16380 symbols passed over in 1 place, the first at 0", "no frame of QPSK 1/4, short in 16380 symbols: try s2 scan"]
-    ends = {"": received(NONE, FINE, b"", no_sync), "--strict": received(NONE, NO, b"", no_sync)}
+    none = ["16380 symbols skipped in 1 place, the first at 0", "no frame of QPSK 1/4, short in 16380 symbols: try s2 scan"]
+    ends = {"": received(NONE, FINE, b"", none), "--strict": received(NONE, NO, b"", none)}
     yield Effect("--strict", f"run {LINK} --seed 1 --level 65535 {{}} made packets out", ends)
     # 13 to 30 bits of the second header are wrong
     one, both_found = (

@@ -10,7 +10,7 @@ QPSK = [(i, q) for i in (DIAGONAL, -DIAGONAL) for q in (DIAGONAL, -DIAGONAL)]
 # by the three bits of a point, the first one the highest
 PSK = [(DIAGONAL, DIAGONAL), (AXIS, 0), (-AXIS, 0), (-DIAGONAL, -DIAGONAL), (0, AXIS), (DIAGONAL, -DIAGONAL), (-DIAGONAL, DIAGONAL), (0, -AXIS)]
 TURNED = [lambda i, q: (i, q), lambda i, q: (-q, i), lambda i, q: (-i, -q), lambda i, q: (q, -i)]
-NAMES = ("header", "changed", "rounds", "known", "payload")
+NAMES = ("header", "changed", "rounds", *(f"{part}{name}" for part in ("known", "payload") for name in ("", "_power", "_along", "_across")))
 
 
 @dataclass(frozen=True)
@@ -52,6 +52,18 @@ def quarter_turns(number, count):
     return [low + 2 * high for low, high in zip(z[:count], z[count:])]
 
 
+def correlated(part, pairs):
+    """The squared error of received symbols, their power, and the sum of their products with the conjugates of those that were sent."""
+    products = sum(r * s.conjugate() for r, s in pairs)
+    values = sum(norm(r - s) for r, s in pairs), sum(norm(r) for r, _ in pairs), round(products.real), round(products.imag)
+    return dict(zip((part, f"{part}_power", f"{part}_along", f"{part}_across"), values))
+
+
+def norm(number):
+    """The square of a complex number's size, for whole parts."""
+    return round(number.real) ** 2 + round(number.imag) ** 2
+
+
 class Frames:
     """Frames of a mode: what each of their symbols is."""
 
@@ -86,11 +98,19 @@ class Frames:
 
     def figures(self, symbols, soft, word):
         """All figures but the rounds."""
-        errors = {False: 0, True: 0}
-        for (i, q), ((sent_i, sent_q), known) in zip(symbols, self.sent(word), strict=True):
-            errors[known] += (i - sent_i) ** 2 + (q - sent_q) ** 2
-        changed = sum((value < 0) != bool(bit) for value, bit in zip(soft, word, strict=True))
-        return {"header": self.wrong(symbols), "changed": changed, "known": errors[True], "payload": errors[False]}
+        found = {"header": self.wrong(symbols), "changed": sum((value < 0) != bool(bit) for value, bit in zip(soft, word, strict=True))}
+        pairs = [*zip((complex(*it) for it in symbols), self.sent(word), strict=True)]
+        for part in ("known", "payload"):
+            found |= correlated(part, [(r, complex(*s)) for r, (s, known) in pairs if known == (part == "known")])
+        return found
+
+
+def clean(mode):
+    """The figures of a QPSK frame without noise: nothing is wrong, and the received symbols are those that were sent."""
+    found = dict.fromkeys(NAMES, 0)
+    for part, count in (("known", mode.known()), ("payload", mode.payload())):
+        found |= dict.fromkeys((f"{part}_power", f"{part}_along"), 2 * DIAGONAL**2 * count)
+    return found
 
 
 def unpacked(codeword):
@@ -100,7 +120,7 @@ def unpacked(codeword):
 
 def words(figures):
     """What a frame's line has of its figures."""
-    return "".join(f" {name} {figures[name]}" for name in NAMES)
+    return "".join(f" {name.rpartition('_')[2]} {figures[name]}" for name in NAMES)
 
 
 def sums(mode, lines):
@@ -108,4 +128,6 @@ def sums(mode, lines):
     if not lines:
         return ""
     sizes = {"changed": mode.bits(), "known": mode.known(), "payload": mode.payload()}
-    return "".join(f" {name} {sum(it[name] for it in lines)} of {len(lines) * size}" for name, size in sizes.items())
+    totals = {name: sum(it[name] for it in lines) for name in NAMES}
+    parts = {name: f" {name} {totals[name]} of {len(lines) * size}" for name, size in sizes.items()}
+    return f"{parts['changed']}{parts['known']} power {totals['known_power']}{parts['payload']} power {totals['payload_power']}"

@@ -17,9 +17,9 @@ RANGES = [
 ]
 END = re.compile(rb"^end frames (\d+) delivered (\d+) packets (\d+) bad (\d+)", re.M)
 NOTES = {
-    "passed": re.compile(rb"s2: note: (\d+) symbols? passed over in (\d+) places?, the first at (\d+)\n"),
+    "skipped": re.compile(rb"s2: note: (\d+) symbols? skipped in (\d+) places?, the first at (\d+)\n"),
     "none": re.compile(rb"(s2: note: no frame of .* in )(\d+)( symbols: try s2 scan\n)"),
-    "torn": re.compile(rb"s2: note: (\d+) packets? torn\n"),
+    "incomplete": re.compile(rb"s2: note: (\d+) packets? incomplete\n"),
     "refused": re.compile(rb"s2: note: of (\d+) lost frames? (\d+) had a BCH word whose header is refused\n"),
     "amplitude": re.compile(rb"s2: note: the headers' amplitude, noise included, is (\d+), not 990: use --gain \d+\.\d{4} of tools/convert\n"),
 }
@@ -43,17 +43,17 @@ def counted(number, noun):
 
 
 def noted(reports, notes, is_tuned):
-    """The notes of all. The symbol that is named is the first of the first run that passed over some."""
+    """The notes of all. The symbol that is named is the first of the first run that skipped some."""
     frames, delivered, _, _ = totals(reports)
-    lines, passed, torn, refused = [], found(notes, "passed"), found(notes, "torn"), found(notes, "refused")
-    if passed:
-        symbols, places, _ = map(sum, zip(*passed))
-        lines.append(f"s2: note: {counted(symbols, 'symbol')} passed over in {counted(places, 'place')}, the first at {passed[0][2]}\n")
+    lines, skipped, incomplete, refused = [], found(notes, "skipped"), found(notes, "incomplete"), found(notes, "refused")
+    if skipped:
+        symbols, places, _ = map(sum, zip(*skipped))
+        lines.append(f"s2: note: {counted(symbols, 'symbol')} skipped in {counted(places, 'place')}, the first at {skipped[0][2]}\n")
     if not frames and not any(b"\ncut at " in b"\n" + it for it in reports):
         first = NOTES["none"].search(notes[0])
         lines.append(f"{first[1].decode()}{sum(it for it, in found(notes, 'none'))}{first[3].decode()}")
-    if torn:
-        lines.append(f"s2: note: {counted(sum(it for it, in torn), 'packet')} torn\n")
+    if incomplete:
+        lines.append(f"s2: note: {counted(sum(it for it, in incomplete), 'packet')} incomplete\n")
     if refused:
         lines.append(f"s2: note: of {counted(frames - delivered, 'lost frame')} {sum(it for _, it in refused)} had a BCH word whose header is refused\n")
     amplitudes = [it for it, in found(notes, "amplitude")] if frames and not delivered else []

@@ -40,7 +40,7 @@ CASES = [
     misuse("table made", "missing: --modcod <M>"),
     misuse(f"table {LINK}", "missing: <ROWS>"),
     misuse(f"table {LINK} --pilots made", "--pilots is not an option of table"),
-    Case("table --help", out=first_line("Tells whether rows are the standard's")),
+    Case("table --help", out=first_line("Checks whether a row file is the standard's table")),
     Case("table --help", out=option("2  ", "other")),
     # a note is printed if there is no fault, and before a report on standard error
     noted(f"mod {LINK} made packets out", "QPSK 1/4, short", writes={"out": ANY}),

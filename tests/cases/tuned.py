@@ -23,7 +23,7 @@ SHORT = [
 DEFINED = {
     "s2_tuning/specs/Best.antt": {"best_max_header_errors": LOCK},
     "s2_settle/specs/Plain.antt": {
-        "settling_scale": 16, "first_reserve": 256, "full_passes": 2, "fall_part": 320, "least_fall": 12, "max_fall": 64,
+        "settling_scale": 16, "first_margin": 256, "full_passes": 2, "fall_part": 320, "least_fall": 12, "max_fall": 64,
         "bits_a_few": 200, "first_end": 3, "growth_part": 64, "max_served": 4000,
     },
 }  # fmt: skip

@@ -3,25 +3,26 @@ import itertools
 
 from cases.common import ANY, DIVISORS, FAULT, LINK, NO, PACKET, PAIR, STORED, TOY, TWO, WANTED, Case, fault, first_line, misuse, noted, option, size
 from cases.drawn import made_rows
+from cases.strength import nothing_found
 
 HELP = """A DVB-S2 modem with maximum-likelihood certificates. \
-Without a command it judges the 20 soft values of standard input under a toy code
+Without a command it decides on 20 soft values of a toy code, read from standard input
 
 Usage: s2 [COMMAND]
 
 Commands:
+  demod  Demodulates symbols into a transport stream
+  scan   Finds the modes in a recording, and how to receive it
+  mod    Modulates a transport stream into symbols
+  run    Sends a transport stream through a noisy channel and receives it
+  noise  Adds noise generated from a seed to symbols
   modes  Lists the modes
-  rows   Prints a row file that a seed determines
-  table  Tells whether rows are the standard's
-  judge  Decides on soft values
-  check  Checks a certificate that its word is most likely
-  mod    Makes the symbols of packets
-  noise  Adds noise that a seed determines to symbols
-  demod  Receives the packets of symbols
-  run    Sends packets, adds noise, and receives them
-  scan   Tells which modes a recording has, and how to receive it
-  join   Joins the packets of BBFRAMEs
-  audit  Checks a report by the certificates of its frames, without decoding
+  rows   Prints a row file generated from a seed
+  table  Checks whether a row file is the standard's table
+  judge  Decodes soft values
+  check  Verifies a certificate
+  audit  Checks a report against its certificates, without decoding
+  join   Reassembles packets from BBFRAMEs
   help   Print this message or the help of the given subcommand(s)
 
 Options:
@@ -29,14 +30,14 @@ Options:
   -V, --version  Print version
 
 Files:
-  -    standard input where it is read, standard output where it is written: a report then stands on standard error
+  -    standard input for a file that is read, standard output for one that is written: the report then goes to standard error
 
-Exits:
-  0  all went well
-  1  a usage fault, or a fault that standard error tells
-  2  the answer is no, or something was lost: each command's help tells what
+Exit status:
+  0  success
+  1  a usage error, or an error reported on standard error
+  2  the answer is no, or data was lost: see the command's help
 """
-CHECK_HELP = """Checks a certificate that its word is most likely
+CHECK_HELP = """Verifies a certificate
 
 Usage: s2 check [OPTIONS] <ROWS> <CERT>
 
@@ -45,60 +46,66 @@ Arguments:
   <CERT>  Certificate file
 
 Options:
-      --each   Certificates of any number of frames, one after the other: a line of the report for each
+      --each   Read any number of certificates, one after another: a line of the report per certificate
       --quiet  No notes on standard error
   -h, --help   Print help
 
-The report, a line for each certificate:
-  sole cost C           accepted: the word costs C, every other codeword costs more
-  yes cost C            accepted: the word costs C, no codeword costs less
-  no shape              the certificate is of other rows: give those that it was made by
-  no check J            the word is no codeword: check J, from 0 on, does not hold
-  no bound              the certificate proves less than the word's cost: make it anew
+The report, a line per certificate:
+  sole cost C           accepted: the word costs C, and every other codeword costs more
+  yes cost C            accepted: the word costs C, and no codeword costs less
+  no shape              the certificate belongs to other rows: pass the ones it was made with
+  no check J            the word is not a codeword: check J, counted from 0, fails
+  no bound              the bound that the certificate proves is below the word's cost: it proves nothing
 
-Exits:
+Exit status:
   0  sole or yes: the certificate is accepted
-  1  a usage fault, or a fault that standard error tells
-  2  no: it is not accepted; with --each one of them is not
+  1  a usage error, or an error reported on standard error
+  2  no: it is not accepted; with --each, at least one is not accepted
 
 Example:
   s2 check rows certificate
   s2 check --each rows certificates
 """
-SCAN_HELP = """Tells which modes a recording has, and how to receive it
+SCAN_HELP = """Finds the modes in a recording, and how to receive it
 
 Usage: s2 scan [OPTIONS] <SYMBOLS>
 
 Arguments:
-  <SYMBOLS>  Recording, four bytes a symbol: I and Q, signed, in either byte order
+  <SYMBOLS>  Recording, four bytes per symbol: I and Q, signed 16 bits each, in either byte order
 
 Options:
-      --first <N>  Symbols that are looked at, 1 to 4294967295; without it all
-      --quiet      No notes on standard error, and no progress but by --progress
-      --progress   Progress on standard error, also where that is no terminal: a line that is rewritten once a second
+      --first <N>  Examine only the first N symbols, 1 to 4294967295; by default all
+      --quiet      No notes on standard error, and no progress without --progress
+      --progress   Show progress on standard error even if it is not a terminal: a line that is rewritten once a second
   -h, --help       Print help
 
-The report, a line for each mode, the likeliest first:
-  MODE LENGTH PILOTS         the mode, as qpsk3/4; normal or short; pilots or no-pilots
-  seen N first S             headers that were found, and the symbol of the first, from 0 on
-  every D                    the usual distance from one to the next
-  turn K conjugate yes|no    the symbols were multiplied by the K-th power of i, and then conjugated, or not
+The report, a line per mode, the most probable first:
+  MODE LENGTH PILOTS         the mode, for example qpsk3/4; normal or short; pilots or no-pilots
+  seen N first S             number of headers found, and the symbol of the first, counted from 0
+  every D                    the most frequent distance between two headers, in symbols
+  turn K conjugate yes|no    rotation: the symbols were multiplied by i to the power of K, then conjugated if yes
   bytes big|little           the byte order
-  amplitude A                of the N headers, without their noise; `mod` sends 990
+  amplitude A                of the N headers, without noise; `mod` sends 990
 
 The line before the last:
-  number N                          the scrambling number, by the pilots of the likeliest frames that have some
-  number not looked for: no pilots  the command of the last line takes 0: try others with --number
+  number N                          the scrambling number, found from the pilots of the most probable mode that has pilots
+  number not looked for: no pilots  the command of the last line assumes 0: try others with --number
 
 The last line:
-  tools/convert .. | ./s2 demod ..    receives the first mode of the list that `demod` takes; rows is the mode's row file
-  ./s2 demod ..                       the same, where nothing is to be converted: an amplitude of 833 to 1177 needs no gain
-  s2 demod receives none of these     16APSK, 32APSK or dummy frames alone
-  nothing found                       no header came twice at its frame's distance: try a longer recording
+  tools/convert .. | ./s2 demod ..    a command that receives the first mode in the list that `demod` supports; rows is that mode's row file
+  ./s2 demod ..                       the same without conversion; amplitudes of 833 to 1177 need no gain
+  s2 demod receives none of these     only 16APSK, 32APSK or dummy frames were found
+  nothing found                       no header is repeated one frame later: try a longer recording
 
-Exits:
-  0  some header came twice at its frame's distance
-  1  a usage fault, or a fault that standard error tells
+After nothing found, a line for each byte order:
+  symbols N                  number of symbols examined: all, or the first 4194304
+  rms R                      the root of their mean power; `mod` sends 990
+  clipped C                  number of symbols with a component of -32768, -32767 or 32767: the receiver's input may be too strong
+  bytes big|little           the byte order
+
+Exit status:
+  0  a header is repeated one frame later
+  1  a usage error, or an error reported on standard error
   2  nothing found
 
 Example:
@@ -106,7 +113,7 @@ Example:
   receiver | s2 scan --first 1000000 -
 """
 RUN = "run --modcod 1 --seed 1 --level 1"
-WANTED_NORMAL = "QPSK 1/4, normal wants 45 rows of addresses below 48600"
+WANTED_NORMAL = "QPSK 1/4, normal needs 45 rows of addresses below 48600"
 
 
 def beyond(value, word, least, most):
@@ -114,33 +121,33 @@ def beyond(value, word, least, most):
 
 
 def no_mode(value):
-    return f"--modcod: {value} is not 1 to 17 or a name"
+    return f"--modcod: {value} is not 1 to 17 or the name of a mode"
 
 
 def no_range(text):
-    return f"--seeds: {text} is not two numbers of 64 bits with two points between them, the first at most the second, as 1..100"
+    return f"--seeds: {text} is not two unsigned 64-bit numbers with two dots between them, the first at most the second, for example 1..100"
 
 
 def no_ratio(text):
-    return f"--esn0: {text} is not -10 to 40, with at most two digits after the point"
+    return f"--esn0: {text} is not -10 to 40, with at most two decimals"
 
 
 # Invalid Es/N0: out of range, with more than two decimals, and in another notation.
 RATIOS = ["-10.01", "40.01", "-11", "41", "655.36", "6.205", "6.", ".5", "6.2.1", "6,2", "1e1", "x", "+", "+-6", "6.-2", "6.+2", "99999999999"]
 # The options of demod and run that name a file for records, and what each file takes.
 RECORDS = {
-    "--certificates": "for the certificates of all frames that are sole or most likely, as `check --each` reads them",
-    "--values": "for the soft values of each frame, a line each, as `judge` reads one",
-    "--codewords": "for the decided bits of each frame, eight to a byte, the first one highest",
-    "--bbframes": "for the BBFRAMEs, as `join` reads them: zeros for a frame that is lost, and before one that follows a gap",
+    "--certificates": "Write the certificates of all `sole` and `most-likely` frames to this file, for `check --each`",
+    "--values": "Write the soft values to this file, a line per frame, for `judge --each`",
+    "--codewords": "Write the decided bits of each frame to this file, eight bits per byte, the first in the highest bit",
+    "--bbframes": "Write the BBFRAMEs to this file, for `join`: zeros instead of a lost frame, and zeros before a frame that follows a gap",
 }
 NOT_BOTH = "--uncertified cannot be used with --passes <P>"
 # Invalid ranges of seeds.
 RANGES = ["x", "1", "1..", "..2", "..", "2..1", "1.2", "1...2", "1..2..3", "1..=2", "-1..2", "1..-2", "0x1..2", f"1..{2**64}"]
 # The options of mod that name a file for records, and what each file takes.
 SENT = {
-    "--codewords": "for the codeword of each frame, eight bits to a byte, the first one highest, as `demod --codewords` writes it",
-    "--bbframes": "for the BBFRAME of each frame, not scrambled, as `join` reads it and `demod --bbframes` writes it",
+    "--codewords": "Write the codeword of each frame to this file, in the format of `demod --codewords`",
+    "--bbframes": "Write the BBFRAME of each frame before scrambling to this file, in the format of `demod --bbframes`, for `join`",
 }
 # Arguments that no command has, and the message.
 MISUSES = [
@@ -148,7 +155,7 @@ MISUSES = [
     ("help send", "send is not a command"),
     ("--esn0 1", "--esn0 is not an option of s2"),
     ("-x", "-x is not an option of s2"),
-    ("-- check toy certificate", "check is one argument too many"),
+    ("-- check toy certificate", "check is an unexpected argument"),
     ("demod -x", "-x is not an option of demod"),
     ("demod --esn0 1 --modcod 1 made packets out", "--esn0 is not an option of demod"),
     ("demod --esn0=1 --modcod 1 made packets out", "--esn0 is not an option of demod"),
@@ -250,7 +257,7 @@ MISUSES = [
     (f"{RUN} --uncertified --passes 0 made packets out", NOT_BOTH),
     (f"{RUN} --tuned=1 made packets out", "--tuned takes no value"),
     ("scan", "missing: <SYMBOLS>"),
-    ("scan one other", "other is one argument too many"),
+    ("scan one other", "other is an unexpected argument"),
     ("scan --modcod 1 one", "--modcod is not an option of scan"),
     ("scan --first 0 one", beyond(0, "first", 1, 4294967295)),
     ("scan --first 4294967296 one", beyond(4294967296, "first", 1, 4294967295)),
@@ -267,8 +274,8 @@ MISUSES = [
     ("audit --modcod 1 --rounds 50 made in report certificates", "--rounds is not an option of audit"),
     (f"rows {PAIR} --weight 0 --seed 1", beyond(0, "weight", 1, 24)),
     (f"rows {PAIR} --weight 25 --seed 1", beyond(25, "weight", 1, 24)),
-    (f"rows {PAIR} --weight 1 --seed -1", "--seed: -1 is not a number of 64 bits"),
-    (f"rows {PAIR} --weight 1 --seed {2**64}", f"--seed: {2**64} is not a number of 64 bits"),
+    (f"rows {PAIR} --weight 1 --seed -1", "--seed: -1 is not an unsigned 64-bit number"),
+    (f"rows {PAIR} --weight 1 --seed {2**64}", f"--seed: {2**64} is not an unsigned 64-bit number"),
 ]
 # Arguments that are not UTF-8, as the errors show them. The byte 255 is in no text.
 NO_TEXTS = [
@@ -286,83 +293,87 @@ NO_DIVISORS = ["4095", "0", "04096", "x", "131072"]
 BYS = "[possible values: certainty, delivery]"
 NO_BYS = ["deliver", "Delivery", "0", "certainty,delivery"]
 ABOUTS = {
+    "demod": "Demodulates symbols into a transport stream",
+    "mod": "Modulates a transport stream into symbols",
+    "run": "Sends a transport stream through a noisy channel and receives it",
+    "noise": "Adds noise generated from a seed to symbols",
     "modes": "Lists the modes",
-    "rows": "Prints a row file that a seed determines",
-    "table": "Tells whether rows are the standard's",
-    "judge": "Decides on soft values",
-    "mod": "Makes the symbols of packets",
-    "noise": "Adds noise that a seed determines to symbols",
-    "demod": "Receives the packets of symbols",
-    "run": "Sends packets, adds noise, and receives them",
-    "join": "Joins the packets of BBFRAMEs",
-    "audit": "Checks a report by the certificates of its frames, without decoding",
+    "rows": "Prints a row file generated from a seed",
+    "table": "Checks whether a row file is the standard's table",
+    "judge": "Decodes soft values",
+    "audit": "Checks a report against its certificates, without decoding",
+    "join": "Reassembles packets from BBFRAMEs",
 }
 RECEIVING = ("demod --modcod 1", RUN)
 ENDS = {
-    "modes": "all modes are listed, or the one of --modcod",
-    "rows": "the rows are printed",
+    "modes": "the modes are listed, or the mode of --modcod",
+    "rows": "the rows were printed",
     "table": "standard",
-    "judge": "sole or most-likely: nothing is to be done",
+    "judge": "sole or most-likely",
     "check": "sole or yes: the certificate is accepted",
-    "mod": "all packets are sent",
-    "noise": "all symbols are written, and nothing is printed",
+    "mod": "all packets were sent",
+    "noise": "all symbols were written; nothing is printed",
     "demod": "every frame is delivered, and sole or most-likely",
     "run": "every frame is delivered, and sole or most-likely",
-    "scan": "some header came twice at its frame's distance",
-    "join": "every frame has a good header, and no packet is bad",
-    "audit": "all are proved, and no certificate is left over",
+    "scan": "a header is repeated one frame later",
+    "join": "every frame has a valid header, and no packet is bad",
+    "audit": "all frames called sole or most-likely are proved, and no certificate is left over",
 }
 # What a word says, and the value where it is left out.
 WORDS = [
-    ("rows", "--group <G>", "Bits of a group, 1 to 360"),
-    ("rows", "--weight <W>", "Addresses of each row, 1 to 24"),
-    ("judge", "--cert <FILE>", "sole or most likely: none is made without it"),
+    ("rows", "--group <G>", "Bits per group, 1 to 360"),
+    ("rows", "--weight <W>", "Addresses per row, 1 to 24"),
+    ("judge", "--cert <FILE>", "Write the certificate of a `sole` or `most-likely` word to this file"),
     ("judge", "--passes <P>", "0 to 1000 [default: 0]"),
-    ("mod", "--modcod <M>", "as qpsk3/4 or 8PSK2/3: `s2 modes` lists them"),
-    ("mod", "--short", "Frames of 16200 bits, and not of 64800"),
+    ("mod", "--modcod <M>", "for example qpsk3/4 or 8PSK2/3: `s2 modes` lists them"),
+    ("mod", "--short", "Short frames: 16200 bits instead of 64800"),
     ("mod", "--pilots", "Frames with pilot blocks; takes no value"),
     ("mod", "--number <N>", "Scrambling number, 0 to 262141 [default: 0]"),
     ("mod", "--ro <R>", "0 for 0.35, 1 for 0.25, 2 for 0.20 [default: 0]"),
-    *((name, "--ro <R>", "without effect: headers of any roll-off are received [default: 0]") for name in ("demod", "audit")),
+    *((name, "--ro <R>", "no effect: headers with any roll-off are accepted [default: 0]") for name in ("demod", "audit")),
     ("run", "--ro <R>", "0 for 0.35, 1 for 0.25, 2 for 0.20 [default: 0]"),
-    *((name, "frame I at SYMBOL VERDICT lost", "or --number or ROWS are not the sender's") for name in ("demod", "run")),
+    *((name, "frame I at SYMBOL VERDICT lost", "or another --number or other ROWS than the sender's") for name in ("demod", "run")),
     ("mod", "--dummy <D>", "0 to 65535: 0 for none [default: 0]"),
-    ("noise", "--level <L>", "0.816 L in each component, where a QPSK point has 700"),
-    *((name, "--esn0 <DB>", "Gaussian noise, for symbols of the amplitude that `mod` sends") for name in ("noise", "run")),
-    ("demod", "--rounds <K>", "Rounds of min-sum at most for each frame, 1 to 200 [default: 50]"),
+    ("noise", "--level <L>", "0.816 L in I and in Q; a QPSK point has 700 in each"),
+    *((name, "--esn0 <DB>", "Gaussian noise, relative to the amplitude that `mod` sends") for name in ("noise", "run")),
+    ("demod", "--rounds <K>", "Maximum number of min-sum rounds (iterations) per frame, 1 to 200 [default: 50]"),
     ("demod", "--passes <P>", "0 to 1000 [default: 0]"),
-    *((name, "--uncertified", "which is `parity` then; not with --passes") for name in ("judge", "demod", "run")),
-    ("judge", "--group <G>", "Bits of a group, 1 to 360"),
-    ("judge", "--modcod <M>", "as qpsk3/4 or 8PSK2/3: `s2 modes` lists them"),
-    ("judge", "--short", "Frames of 16200 bits, and not of 64800"),
-    ("judge", "--hard", "in the place of soft values: 0 is the value 1, and 1 is -1"),
-    ("judge", "--each", "one after the other: a line of the report for each, and all certificates in one file"),
-    ("judge", "these look like hard decisions: use --hard", "no value is other than 0 and 1"),
+    *((name, "--uncertified", "such frames are reported as `parity`; excludes --passes") for name in ("judge", "demod", "run")),
+    ("judge", "--group <G>", "Bits per group, 1 to 360"),
+    ("judge", "--modcod <M>", "for example qpsk3/4 or 8PSK2/3: `s2 modes` lists them"),
+    ("judge", "--short", "Short frames: 16200 bits instead of 64800"),
+    ("judge", "--hard", "instead of soft values: 0 becomes the value 1, and 1 becomes -1"),
+    ("judge", "--each", "one after another: a line of the report per frame, and all certificates in one file"),
+    ("judge", "these look like hard decisions: use --hard", "all values are 0 or 1"),
     *((name, f"{option} <FILE>", says) for name in ("demod", "run") for option, says in RECORDS.items()),
     *(("mod", f"{option} <FILE>", says) for option, says in SENT.items()),
     *((name, "A frame's records", "A file keeps its contents until the rows are accepted.") for name in ("mod", "demod")),
-    ("run", "A frame's records", "A file keeps its contents until the rows are accepted, and the packets."),
-    *((name, "--tuned", "words that stand beside it win") for name in ("demod", "run")),
-    *((name, "--figures", "at the end of each frame's line, and their sums at the end of the last line") for name in ("demod", "run")),
-    *((name, "header H", "symbols of the header that were decided wrongly, of 90") for name in ("demod", "run")),
-    *((name, "changed B of T known E of N payload P of M", "N symbols of headers and pilots, and M of payloads") for name in ("demod", "run")),
-    *((name, "packet I begins at byte B", "and what to strip of packets of 192 or 204 bytes") for name in ("mod", "run")),
-    *((name, "with --exit-by delivery: every frame", "none is cut, and no symbols were passed over") for name in ("demod", "run")),
-    *((name, "with --exit-by delivery: a frame", "is lost or cut, or symbols were passed over") for name in ("demod", "run")),
-    ("run", "--seeds <A..B>", "one run for each seed from A to B, both among them, and a last line of sums"),
-    ("run", "seeds N frames F delivered D packets P bad B", "behind the lines of all N runs: the sums of their last lines"),
-    ("modes", "--rate <R>", "also as 27.5M, 27.5e6 or 27500k: adds the bits a second of the transport stream"),
-    ("modes", "--modcod <M>", "as qpsk3/4 or 8PSK2/3: `s2 modes` lists them"),
-    ("modes", "--short", "Frames of 16200 bits, and not of 64800"),
-    ("join", "--modcod <M>", "as qpsk3/4 or 8PSK2/3: `s2 modes` lists them"),
-    ("join", "--short", "Frames of 16200 bits, and not of 64800"),
-    ("join", "cut at BYTE bytes COUNT", "the file ends within a frame, of which COUNT bytes are there"),
+    ("run", "A frame's records", "A file keeps its contents until the rows and the packets are accepted."),
+    *((name, "--tuned", "options given explicitly override it") for name in ("demod", "run")),
+    *((name, "--figures", "to the line of each frame, and their totals to the last line") for name in ("demod", "run")),
+    *((name, "header H", "wrong symbols in the header, of 90") for name in ("demod", "run")),
+    *((name, "changed B of T known E of N power W payload E of N power W", "N symbols of headers and pilots, or of payloads") for name in ("demod", "run")),
+    *((name, "packet I begins at byte B", "and what to strip if the packets have 192 or 204 bytes") for name in ("mod", "run")),
+    *((name, "with --exit-by delivery: every frame", "none is cut, and no symbols were skipped") for name in ("demod", "run")),
+    *((name, "with --exit-by delivery: a frame", "is lost or cut, or symbols were skipped") for name in ("demod", "run")),
+    ("run", "--seeds <A..B>", "one run per seed from A to B inclusive, then a line of totals"),
+    ("run", "seeds N frames F delivered D packets P bad B", "after all N runs: the totals of their last lines"),
+    ("modes", "--rate <R>", "also as 27.5M, 27.5e6 or 27500k: adds the net bit rate to each line"),
+    ("modes", "--modcod <M>", "for example qpsk3/4 or 8PSK2/3: `s2 modes` lists them"),
+    ("modes", "--short", "Short frames: 16200 bits instead of 64800"),
+    ("join", "--modcod <M>", "for example qpsk3/4 or 8PSK2/3: `s2 modes` lists them"),
+    ("join", "--short", "Short frames: 16200 bits instead of 64800"),
+    ("join", "cut at BYTE bytes COUNT", "the file ends inside a frame: only COUNT of its bytes are there"),
     ("audit", "--number <N>", "Scrambling number, 0 to 262141 [default: 0]"),
-    ("audit", "frame I at SYMBOL sole cost C", "proved: the decided bits cost C, every other codeword costs more"),
-    ("audit", "other values", "of another recording, or of another --divisor or --tuned"),
-    ("audit", "--tuned", "if the report was made with --tuned; --divisor wins"),
-    *((name, "five sync bytes at distance D begin at byte B", "whose first or second is refused, and what to try") for name in ("mod", "run")),
-    ("mod", "packets P frames F", "P packets were taken, and F frames written, dummy frames not counted"),
+    ("audit", "frame I at SYMBOL sole cost C", "proved: the decided bits cost C, and every other codeword costs more"),
+    ("audit", "other values", "of another recording, or with another --divisor or --tuned"),
+    ("audit", "--tuned", "if the report was made with --tuned; --divisor overrides it"),
+    *((name, "five sync bytes at distance D begin at byte B", "if the first or second is refused, and what to try") for name in ("mod", "run")),
+    *((name, "--resync", "continue at the next place with five sync bytes at distance 188; count the bytes left out") for name in ("mod", "run")),
+    ("mod", "N bytes left out in M places", "a wrong sync byte and the bytes after it, up to the next five sync bytes"),
+    ("run", "N bytes left out in M places", "a wrong sync byte and the bytes after it, up to the next five; the exit is 2"),
+    ("mod", "2", "with --resync: bytes were left out"),
+    ("mod", "packets P frames F", "P packets were read, and F frames were written, not counting dummy frames"),
 ]
 # The commands that show how far they are, those that may be strict, those that decide, and a line of each command with what it
 # needs.
@@ -407,7 +418,7 @@ ENDED = {
     "run": {"out": TWO, "writes": {"out": 2 * PACKET}},
     "audit": {"out": "audit frames 0 sole 0 most-likely 0\n", "reads": {"empty": b""}},
     "join": {"out": "end frames 0 delivered 0 packets 0 bad 0\n", "reads": {"empty": b""}, "writes": {"out": b""}},
-    "scan": {"code": NO, "out": "nothing found\n"},
+    "scan": {"code": NO, "out": nothing_found(2 * PACKET)},
 }
 
 
@@ -503,7 +514,7 @@ CASES = [
     *(Case(f"{name} --help", out=option("0  ", end)) for name, end in ENDS.items()),
     *(Case(f"{name} --help", out=option(word, says)) for name, word, says in WORDS),
     *(
-        Case(f"{name} --help", out=option("--quiet", f"No notes on standard error{', and no progress but by --progress' * (name in SHOWING)}"))
+        Case(f"{name} --help", out=option("--quiet", f"No notes on standard error{', and no progress without --progress' * (name in SHOWING)}"))
         for name in QUIET
     ),
     *(Case(f"{name} --help", out=option("--progress", "a line that is rewritten once a second")) for name in SHOWING),
@@ -512,7 +523,7 @@ CASES = [
     *(taken("--quiet", name) for name in ENDED if name in QUIET),
     *(refused("--quiet", name) for name in LINES if name not in QUIET),
     *(taken(word, name) for name in SHOWING for word in ("--progress", "--quiet --progress")),
-    *(Case(f"{name} --help", out=option("--every <N>", "a line of sums after each N: no report for `audit`")) for name in STRICT),
+    *(Case(f"{name} --help", out=option("--every <N>", "a line of totals after every N frames: `audit` cannot use this report")) for name in STRICT),
     *(Case(f"{name} --help", out=option("sum frames F delivered D certified C", "D were delivered, C of them sole or most-likely")) for name in STRICT),
     *(taken(word, name) for name in STRICT for word in ("--exit-by certainty", "--exit-by delivery", "--exit-by=delivery --strict")),
     *(taken(word, name) for name in STRICT for word in ("--strict", "--lock 40", "--tuned", "--tuned --uncertified", "--tuned --passes 0 --lock 12")),
@@ -528,7 +539,7 @@ CASES = [
     *(refused("--each", name) for name in LINES if name not in ("judge", "check")),
     Case("--help", FAULT, to="/dev/full"),
     *(misuse(words, text) for words, text in MISUSES),
-    *(misuse(words, f"{shown} is not text in UTF-8", "s2 --help") for words, shown in NO_TEXTS),
+    *(misuse(words, f"{shown} is not valid UTF-8", "s2 --help") for words, shown in NO_TEXTS),
     Case(f"mod {LINK} made caf\u00e9 out", out="packets 2 frames 2\n", reads={"caf\u00e9": 2 * PACKET}, writes={"out": size(65_520)}),
     *(no_divisor(command, value) for command in RECEIVING for value in NO_DIVISORS),
     *(misuse(f"{command} made packets old --divisor", "--divisor: the value is missing") for command in (*RECEIVING, "audit --modcod 1")),
@@ -536,7 +547,7 @@ CASES = [
     *(misuse(f"{command} --exit-by {value} made packets old", f"--exit-by: {value} is not certainty or delivery") for command in RECEIVING for value in NO_BYS),
     *(Case(f"{name} --help", out=option("--divisor <D>", f" [default: 4096] {POSSIBLE}")) for name in ("demod", "run", "audit")),
     *(Case(f"{name} --help", out=option("--factor <F>", " [default: 12]")) for name in DECIDING),
-    *(Case(f"{name} --help", out=option("--lock <H>", "12 to 40; elsewhere 12 may [default: 12]")) for name in STRICT),
+    *(Case(f"{name} --help", out=option("--lock <H>", "12 to 40; elsewhere it is always 12 [default: 12]")) for name in STRICT),
     *(fault(words, f"cannot open {name}") for words, name in MISSING),
     # the cause is before it, also with --quiet
     fault("mod --modcod 1 --quiet none packets old", "cannot open none"),
@@ -544,6 +555,10 @@ CASES = [
     fault("scan old/out", "cannot open old/out", cause="Not a directory", reads={"old": b"old"}),
     fault(f"scan {LONG_NAME}", f"cannot open {LONG_NAME}", cause="File name too long"),
     fault(f"demod --modcod 1 --values {LONG_NAME} made packets out", f"cannot open {LONG_NAME}", cause="File name too long", writes={"out": b""}),
+    # control characters of a name are escaped
+    fault("scan a\x1b[31mb", "cannot open a\\u{1b}[31mb"),
+    fault(f"judge {TOY} toy a\x07", "cannot open a\\u{7}"),
+    fault(f"mod {LINK} made a\x7fb a\x7fb", "a\\u{7f}b is used twice", reads={"a\x7fb": PACKET}),
     fault("mod --modcod 1 none packets none", "cannot open none"),
     fault("scan .", "cannot read"),
     fault("join --modcod 1 --short . out", "cannot read", writes={"out": b""}),

@@ -23,20 +23,20 @@ use Rattle.s2_audit.specs.declared.entry.Entry.{Entry}
 use Rattle.s2_audit.specs.declared.entry.Entry.TheVariants as entries
 use Rattle.s2_audit.specs.declared.judging.Finding.{Finding}
 use Rattle.s2_audit.specs.declared.judging.Finding.TheVariants.{Shown, Failed}
-use Rattle.s2_audit.specs.declared.turning.Turn.{Turn}
-use Rattle.s2_audit.specs.declared.turning.Turn.TheVariants as turns
+use Rattle.s2_audit.specs.declared.outcome.Outcome.{Outcome}
+use Rattle.s2_audit.specs.declared.outcome.Outcome.TheVariants as outcomes
 use Rattle.s2_console.specs.declared.exit.Exit.{Exit}
 use Rattle.s2_console.specs.declared.fault.Fault.{Fault}
 use Rattle.s2_console.specs.declared.fault.Fault.TheVariants as faults
 use Rattle.s2_mode.specs.Mode.{symbols_in}
-use Rattle.s2_audit.specs.Desks.{Terms, ReadsFrame, frame_soft}
+use Rattle.s2_audit.specs.Auditors.{Terms, ReadsFrame, frame_soft}
 use Rattle.s2_audit.specs.Entries.{certified_in, certified_of, counted, counted_with, counts_of, entry_in, is_frame, is_most_likely, is_sole, text_of, IsLine}
 use Rattle.s2_audit.specs.Limits.{frame_bytes, max_lines}
 use Rattle.s2_audit.specs.Lines.{shown_line}
 use Rattle.s2_audit.specs.Reading.{GivesEntry, NextEntry}
 use Rattle.s2_audit.specs.Showing.{Finds, FindsFile, FindsParsed}
-use Rattle.s2_audit.specs.Turns.{Evidence, EndTurn, EntryTurn, FrameTurn, Judges, LineTurn, SilentTurn, Standing, Turns, standing}
-use Rattle.s2_audit.specs.Auditing.{Audits, AuditsToEnd, Checked, IsAt, IsChecked, IsReadable, LieApart, LineIs, PrintsTurn, ReachesLimit, Shows, last_of, line_of, turn_exit, turn_text}
+use Rattle.s2_audit.specs.Outcomes.{Evidence, EndOutcome, EntryOutcome, FrameOutcome, Judges, LineOutcome, SilentOutcome, Standing, HasOutcome, standing}
+use Rattle.s2_audit.specs.Auditing.{Audits, AuditsToEnd, Checked, IsAt, IsChecked, IsReadable, LieApart, LineIs, PrintsOutcome, ReachesLimit, Shows, last_of, line_of, outcome_exit, outcome_text}
 
 -- ---- the counts of one line more
 
@@ -233,37 +233,37 @@ moved_on t r r' old new new' o o' o'' lines place behind a same here none =
     }))
 
 module _ (t : Terms) (r r' r'' : Option (List ℕ)) (old new new' : Evidence) (o o' o'' : Option (List ℕ)) (lines : List (List ℕ)) (place behind : ℕ) (a : Audits t r r' old new o o' lines place) where
-  after_entry : (line : List ℕ) (entry : Entry) (turn : Turn) → GivesEntry r' r'' line entry → EntryTurn t place behind new new' entry (Ok turn) → None ≡ turn_exit turn → Appends o' o'' (turn_text turn)
+  after_entry : (line : List ℕ) (entry : Entry) (outcome : Outcome) → GivesEntry r' r'' line entry → EntryOutcome t place behind new new' entry (Ok outcome) → None ≡ outcome_exit outcome → Appends o' o'' (outcome_text outcome)
       → Audits t r r'' old new' o o'' (lines ++ line ∷ []) behind
-  after_entry line entries.Other turns.Silent given (is, here, same) goes app =
+  after_entry line entries.Other outcomes.Silent given (is, here, same) goes app =
       moved_on t r r'' old new new' o o' o'' (lines ++ line ∷ []) place behind (goes_silent t r r' r'' old new o o' lines line entries.Other place a given refl) same here app
-  after_entry line entries.Other (turns.Shown text) given (is, here, same) goes app = cc
-  after_entry line entries.Other (turns.Ended printed) given h goes app = cc
-  after_entry line (entries.Frame frame) turns.Silent given (inl (un, (is, here, same))) goes app =
+  after_entry line entries.Other (outcomes.Shown text) given (is, here, same) goes app = cc
+  after_entry line entries.Other (outcomes.Ended printed) given h goes app = cc
+  after_entry line (entries.Frame frame) outcomes.Silent given (inl (un, (is, here, same))) goes app =
       moved_on t r r'' old new new' o o' o'' (lines ++ line ∷ []) place behind
       (goes_silent t r r' r'' old new o o' lines line (entries.Frame frame) place a given (ap (λ b. if b then frame ∷ [] else []) un)) same here app
-  after_entry line (entries.Frame frame) turns.Silent given (inr (certified, h)) goes app = absurd h
-  after_entry line (entries.Frame frame) (turns.Shown text) given (inl (un, (is, here, same))) goes app = cc
-  after_entry line (entries.Frame frame) (turns.Shown text) given (inr (certified, (found, judged, said))) goes app =
+  after_entry line (entries.Frame frame) outcomes.Silent given (inr (certified, h)) goes app = absurd h
+  after_entry line (entries.Frame frame) (outcomes.Shown text) given (inl (un, (is, here, same))) goes app = cc
+  after_entry line (entries.Frame frame) (outcomes.Shown text) given (inr (certified, (found, judged, said))) goes app =
       goes_shown t r r' r'' old new new' o o' o'' lines line frame place behind a given certified found judged (subst (Appends o' o'') said app)
-  after_entry line (entries.Frame frame) (turns.Ended printed) given h goes app = cc
+  after_entry line (entries.Frame frame) (outcomes.Ended printed) given h goes app = cc
 
-no_end : (counts : Counts) (a b : Option (List ℕ)) (turn : Turn) → EndTurn counts a b (Ok turn) → None ≡ turn_exit turn → ⊥
-no_end counts a b turns.Silent h e = h
-no_end counts a b (turns.Shown text) h e = h
-no_end counts a b (turns.Ended printed) h e = cc
+no_end : (counts : Counts) (a b : Option (List ℕ)) (outcome : Outcome) → EndOutcome counts a b (Ok outcome) → None ≡ outcome_exit outcome → ⊥
+no_end counts a b outcomes.Silent h e = h
+no_end counts a b (outcomes.Shown text) h e = h
+no_end counts a b (outcomes.Ended printed) h e = cc
 
 pub goes_on : (t : Terms) (n : ℕ) (r r' r'' : Option (List ℕ)) (old new new' : Evidence) (o o' o'' : Option (List ℕ)) (is is' : Standing)
     → Progress t n r r' old new o o' is → LineIs t (n + 1) is is' r' r'' new new' o' o'' (Ok None) → Progress t (n + 1) r r'' old new' o o'' is'
-goes_on t n r r' r'' old new new' o o' o'' is is' p (turn, inl l, (goes, app)) = record {
+goes_on t n r r' r'' old new new' o o' o'' is is' p (outcome, inl l, (goes, app)) = record {
   lines = p.lines ++ l.line ∷ [];
-  audits = after_entry t r r' r'' old new new' o o' o'' p.lines is.place is'.place p.audits l.line l.entry turn l.given l.turn goes app;
+  audits = after_entry t r r' r'' old new new' o o' o'' p.lines is.place is'.place p.audits l.line l.entry outcome l.given l.outcome goes app;
   number = length-append p.lines (l.line ∷ []) ∙ ap (λ k. k + 1) p.number;
   counts = l.counted_is ∙ ap (λ c. counted_with c l.entry) p.counts ∙ sym (counts_push p.lines l.line l.entry l.given.says);
 }
-goes_on t n r r' r'' old new new' o o' o'' is is' p (turn, inr (inl last), (goes, app)) = absurd (no_end is.counts new.certificates new'.certificates turn last.turn goes)
-goes_on t n r r' r'' old new new' o o' o'' is is' p (turn, inr (inr (inl (bad, u))), (goes, app)) = cc
-goes_on t n r r' r'' old new new' o o' o'' is is' p (turn, inr (inr (inr bad)), (goes, app)) = cc
+goes_on t n r r' r'' old new new' o o' o'' is is' p (outcome, inr (inl last), (goes, app)) = absurd (no_end is.counts new.certificates new'.certificates outcome last.outcome goes)
+goes_on t n r r' r'' old new new' o o' o'' is is' p (outcome, inr (inr (inl (bad, u))), (goes, app)) = cc
+goes_on t n r r' r'' old new new' o o' o'' is is' p (outcome, inr (inr (inr bad)), (goes, app)) = cc
 
 pub ends : (t : Terms) (n place : ℕ) (counts : Counts) (r r' r'' : Option (List ℕ)) (old new new' : Evidence) (o o' o'' : Option (List ℕ)) (is' : Standing) (result : Result Exit Fault)
     → Progress t n r r' old new o o' (standing place counts) → LineIs t (n + 1) (standing place counts) is' r' r'' new new' o' o'' (last_of result) → AuditsToEnd t r r'' old new' o o'' result
@@ -308,36 +308,36 @@ few_counts t n r r' old new o o' is p few =
 
 -- ---- a turn
 
-pub turn_fault : (t : Terms) (n : ℕ) (was is : Standing) (r r' : Option (List ℕ)) (old new : Evidence) (f : Fault) → NextEntry n r r' (Err f) → Turns t n was is r r' old new (Err f)
-turn_fault t n was is r r' old new faults.Read h = inr (inr (inr refl))
-turn_fault t n was is r r' old new faults.Write (e, u) = inr (inr (inl (ap Err e, u)))
-turn_fault t n was is r r' old new faults.TooLong (e, u) = inr (inr (inl (ap Err e, u)))
-turn_fault t n was is r r' old new faults.NoMemory (e, u) = inr (inr (inl (ap Err e, u)))
-turn_fault t n was is r r' old new (faults.Open name) (e, u) = inr (inr (inl (ap Err e, u)))
-turn_fault t n was is r r' old new (faults.UsedTwice name) (e, u) = inr (inr (inl (ap Err e, u)))
-turn_fault t n was is r r' old new (faults.Rows text) (e, u) = inr (inr (inl (ap Err e, u)))
-turn_fault t n was is r r' old new (faults.Refused text) (e, u) = inr (inr (inl (ap Err e, u)))
+pub outcome_fault : (t : Terms) (n : ℕ) (was is : Standing) (r r' : Option (List ℕ)) (old new : Evidence) (f : Fault) → NextEntry n r r' (Err f) → HasOutcome t n was is r r' old new (Err f)
+outcome_fault t n was is r r' old new faults.Read h = inr (inr (inr refl))
+outcome_fault t n was is r r' old new faults.Write (e, u) = inr (inr (inl (ap Err e, u)))
+outcome_fault t n was is r r' old new faults.TooLong (e, u) = inr (inr (inl (ap Err e, u)))
+outcome_fault t n was is r r' old new faults.NoMemory (e, u) = inr (inr (inl (ap Err e, u)))
+outcome_fault t n was is r r' old new (faults.Open name) (e, u) = inr (inr (inl (ap Err e, u)))
+outcome_fault t n was is r r' old new (faults.UsedTwice name) (e, u) = inr (inr (inl (ap Err e, u)))
+outcome_fault t n was is r r' old new (faults.Rows text) (e, u) = inr (inr (inl (ap Err e, u)))
+outcome_fault t n was is r r' old new (faults.Refused text) (e, u) = inr (inr (inl (ap Err e, u)))
 
-pub turn_end : (t : Terms) (n : ℕ) (was is : Standing) (r r' : Option (List ℕ)) (old new : Evidence) (result : Result Turn Fault) → NextEntry n r r' (Ok None) → EndTurn was.counts old.certificates new.certificates result → Turns t n was is r r' old new result
-turn_end t n was is r r' old new result (none, end) h = inr (inl (record { none = none; end = end; turn = h }))
+pub outcome_end : (t : Terms) (n : ℕ) (was is : Standing) (r r' : Option (List ℕ)) (old new : Evidence) (result : Result Outcome Fault) → NextEntry n r r' (Ok None) → EndOutcome was.counts old.certificates new.certificates result → HasOutcome t n was is r r' old new result
+outcome_end t n was is r r' old new result (none, end) h = inr (inl (record { none = none; end = end; outcome = h }))
 
-pub turn_line : (t : Terms) (n : ℕ) (was is : Standing) (r r' : Option (List ℕ)) (old new : Evidence) (entry : Entry) (result : Result Turn Fault)
-    → NextEntry n r r' (Ok (Some entry)) → is.counts ≡ counted_with was.counts entry → EntryTurn t was.place is.place old new entry result → Turns t n was is r r' old new result
-turn_line t n was is r r' old new entry result ((line, given), small) counted h = inl (record { line = line; entry = entry; given = given; turn = h; counted_is = counted })
+pub outcome_line : (t : Terms) (n : ℕ) (was is : Standing) (r r' : Option (List ℕ)) (old new : Evidence) (entry : Entry) (result : Result Outcome Fault)
+    → NextEntry n r r' (Ok (Some entry)) → is.counts ≡ counted_with was.counts entry → EntryOutcome t was.place is.place old new entry result → HasOutcome t n was is r r' old new result
+outcome_line t n was is r r' old new entry result ((line, given), small) counted h = inl (record { line = line; entry = entry; given = given; outcome = h; counted_is = counted })
 
 -- a turn does not write
-pub never_write : (t : Terms) (n : ℕ) (was is : Standing) (r r' : Option (List ℕ)) (old new : Evidence) → Turns t n was is r r' old new (Err faults.Write) → ⊥
-never_write t n was is r r' old new (inl l) = by_entry l.entry l.turn
+pub never_write : (t : Terms) (n : ℕ) (was is : Standing) (r r' : Option (List ℕ)) (old new : Evidence) → HasOutcome t n was is r r' old new (Err faults.Write) → ⊥
+never_write t n was is r r' old new (inl l) = by_entry l.entry l.outcome
   where
-    by_entry : (entry : Entry) → EntryTurn t was.place is.place old new entry (Err faults.Write) → ⊥
+    by_entry : (entry : Entry) → EntryOutcome t was.place is.place old new entry (Err faults.Write) → ⊥
     by_entry entries.Other (bad, here, same) = cc
     by_entry (entries.Frame frame) (inl (un, (bad, here, same))) = cc
     by_entry (entries.Frame frame) (inr (certified, (bad, cut))) = cc
-never_write t n was is r r' old new (inr (inl last)) = last.turn
+never_write t n was is r r' old new (inr (inl last)) = last.outcome
 never_write t n was is r r' old new (inr (inr (inl (bad, u)))) = cc
 never_write t n was is r r' old new (inr (inr (inr bad))) = cc
 
-pub line_fails : (t : Terms) (n : ℕ) (was is : Standing) (r r' : Option (List ℕ)) (old new : Evidence) (o : Option (List ℕ)) (f : Fault) → Turns t n was is r r' old new (Err f) → LineIs t n was is r r' old new o o (Err f)
+pub line_fails : (t : Terms) (n : ℕ) (was is : Standing) (r r' : Option (List ℕ)) (old new : Evidence) (o : Option (List ℕ)) (f : Fault) → HasOutcome t n was is r r' old new (Err f) → LineIs t n was is r r' old new o o (Err f)
 line_fails t n was is r r' old new o faults.Write h = absurd (never_write t n was is r r' old new h)
 line_fails t n was is r r' old new o faults.Read h = (h, refl)
 line_fails t n was is r r' old new o faults.TooLong h = (h, refl)
@@ -347,17 +347,17 @@ line_fails t n was is r r' old new o (faults.UsedTwice name) h = (h, refl)
 line_fails t n was is r r' old new o (faults.Rows text) h = (h, refl)
 line_fails t n was is r r' old new o (faults.Refused text) h = (h, refl)
 
-pub line_prints : (t : Terms) (n : ℕ) (was is : Standing) (r r' : Option (List ℕ)) (old new : Evidence) (o o' : Option (List ℕ)) (turn : Turn) (result : Result (Option Exit) Fault)
-    → Turns t n was is r r' old new (Ok turn) → PrintsTurn turn o o' result → LineIs t n was is r r' old new o o' result
-line_prints t n was is r r' old new o o' turn (Ok exit) h p = (turn, h, p)
-line_prints t n was is r r' old new o o' turn (Err faults.Write) h p = (turn, h, p)
-line_prints t n was is r r' old new o o' turn (Err faults.Read) h p = absurd p
-line_prints t n was is r r' old new o o' turn (Err faults.TooLong) h p = absurd p
-line_prints t n was is r r' old new o o' turn (Err faults.NoMemory) h p = absurd p
-line_prints t n was is r r' old new o o' turn (Err (faults.Open name)) h p = absurd p
-line_prints t n was is r r' old new o o' turn (Err (faults.UsedTwice name)) h p = absurd p
-line_prints t n was is r r' old new o o' turn (Err (faults.Rows text)) h p = absurd p
-line_prints t n was is r r' old new o o' turn (Err (faults.Refused text)) h p = absurd p
+pub line_prints : (t : Terms) (n : ℕ) (was is : Standing) (r r' : Option (List ℕ)) (old new : Evidence) (o o' : Option (List ℕ)) (outcome : Outcome) (result : Result (Option Exit) Fault)
+    → HasOutcome t n was is r r' old new (Ok outcome) → PrintsOutcome outcome o o' result → LineIs t n was is r r' old new o o' result
+line_prints t n was is r r' old new o o' outcome (Ok exit) h p = (outcome, h, p)
+line_prints t n was is r r' old new o o' outcome (Err faults.Write) h p = (outcome, h, p)
+line_prints t n was is r r' old new o o' outcome (Err faults.Read) h p = absurd p
+line_prints t n was is r r' old new o o' outcome (Err faults.TooLong) h p = absurd p
+line_prints t n was is r r' old new o o' outcome (Err faults.NoMemory) h p = absurd p
+line_prints t n was is r r' old new o o' outcome (Err (faults.Open name)) h p = absurd p
+line_prints t n was is r r' old new o o' outcome (Err (faults.UsedTwice name)) h p = absurd p
+line_prints t n was is r r' old new o o' outcome (Err (faults.Rows text)) h p = absurd p
+line_prints t n was is r r' old new o o' outcome (Err (faults.Refused text)) h p = absurd p
 
 -- ---- the loop
 
@@ -380,8 +380,8 @@ not_failed said f ok bad = cc
 
 -- ---- what a turn prints
 
-pub prints_silent : (turn : Turn) (o : Option (List ℕ)) → turn ≡ turns.Silent → PrintsTurn turn o o (Ok None)
-prints_silent turn o is = subst (λ (x : Turn). PrintsTurn x o o (Ok None)) (sym is) (refl, Appends-nil o)
+pub prints_silent : (outcome : Outcome) (o : Option (List ℕ)) → outcome ≡ outcomes.Silent → PrintsOutcome outcome o o (Ok None)
+prints_silent outcome o is = subst (λ (x : Outcome). PrintsOutcome x o o (Ok None)) (sym is) (refl, Appends-nil o)
 
 pub reaches : (t : Terms) (n : ℕ) (r r' : Option (List ℕ)) (old new : Evidence) (o o' : Option (List ℕ)) (is : Standing) → Progress t n r r' old new o o' is → n ≡ max_lines → ReachesLimit r r'
 reaches t n r r' old new o o' is p most = (p.lines, p.number ∙ most, p.audits.report_read)

@@ -2,7 +2,7 @@ pub mod NumberLemmas
 pub mod EntryLemmas
 pub mod ReadingLemmas
 pub mod ValueLemmas
-pub mod DeskLemmas
-pub mod TurnLemmas
+pub mod AuditorLemmas
+pub mod OutcomeLemmas
 pub mod AuditLemmas
 pub mod CommandLemmas

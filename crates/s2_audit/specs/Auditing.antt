@@ -1,4 +1,4 @@
--- An audit: the certificates of a report's frames, one after another, and what is printed (own).
+-- An audit: the certificates of the frames of a report, one after another, and the printed lines (own).
 use Rattle.std.specs.Prelude.{◌≡◌, ◌≢◌, ◌⊎◌, ℕ, ◌+◌, ◌*◌, ◌≤◌, ℤ, List, [], ◌++◌, All, length, map, Option, Some, None, Result, Ok, Err}
 use Rattle.std.specs.List.{flat_map, AllPairs}
 use Rattle.std.specs.Io.KnownBytes.{Appends, Consumes}
@@ -17,13 +17,13 @@ use Rattle.s2_console.specs.declared.exit.Exit.{Exit}
 use Rattle.s2_console.specs.declared.fault.Fault.{Fault}
 use Rattle.s2_console.specs.declared.fault.Fault.TheVariants as faults
 use Rattle.s2_audit.specs.declared.entry.Frame.{Frame}
-use Rattle.s2_audit.specs.declared.turning.Turn.{Turn}
-use Rattle.s2_audit.specs.declared.turning.Turn.TheVariants as turns
-use Rattle.s2_audit.specs.Desks.{Terms, frame_soft}
+use Rattle.s2_audit.specs.declared.outcome.Outcome.{Outcome}
+use Rattle.s2_audit.specs.declared.outcome.Outcome.TheVariants as outcomes
+use Rattle.s2_audit.specs.Auditors.{Terms, frame_soft}
 use Rattle.s2_audit.specs.Entries.{certified_in, counts_of, entry_in, text_of, IsLine}
 use Rattle.s2_audit.specs.Limits.{certificate_bytes, frame_bytes, max_lines}
 use Rattle.s2_audit.specs.Lines.{shown_line}
-use Rattle.s2_audit.specs.Turns.{Evidence, Standing, Turns, standing}
+use Rattle.s2_audit.specs.Outcomes.{Evidence, Standing, HasOutcome, standing}
 
 -- a certificate with a frame's soft values, which the checker accepts under these rows, and strictly if the verdict is
 -- sole
@@ -52,7 +52,7 @@ pub record IsChecked (t : Terms) (recording : List ℕ) (c : Checked) : Type 0 w
   pub parsed : file_of_bytes c.block ≡ Ok c.file
   pub shown : Shows t.rows (frame_soft t c.symbols) c.frame.verdict c.file
 
--- the line of a frame that is shown, with the cost of its bits
+-- the line of a proved frame, with the cost of its bits
 abbrev pub line_of : Checked → List ℕ
 line_of c = shown_line c.frame (cost c.file.soft c.file.bits)
 
@@ -65,7 +65,7 @@ abbrev pub IsReadable : List ℕ → Type 0
 IsReadable line = IsLine line × (entry_in line ≢ None)
 
 -- These lines of the report were read, and each of their frames that is reported sole or most likely is shown by the
--- certificate in its turn. No two of these frames overlap. So many symbols were read, and the line of each of these
+-- next certificate. No two of these frames overlap. This number of symbols was read, and the line of each of these
 -- frames is printed
 pub record Audits (t : Terms) (report report_new : Option (List ℕ)) (old new : Evidence) (out out_new : Option (List ℕ)) (lines : List (List ℕ)) (place : ℕ) : Type 0 where
   pub checked : List Checked
@@ -80,38 +80,38 @@ pub record Audits (t : Terms) (report report_new : Option (List ℕ)) (old new :
   pub certificates_read : Consumes old.certificates new.certificates (flat_map (λ c. c.block) checked)
   pub printed : Appends out out_new (flat_map line_of checked)
 
--- what a turn prints
-abbrev pub turn_text : Turn → List ℕ
-turn_text turns.Silent = []
-turn_text (turns.Shown text) = text
-turn_text (turns.Ended printed) = printed.text
+-- the printed line of an outcome
+abbrev pub outcome_text : Outcome → List ℕ
+outcome_text outcomes.Silent = []
+outcome_text (outcomes.Shown text) = text
+outcome_text (outcomes.Ended printed) = printed.text
 
--- the exit, if a turn is the last
-abbrev pub turn_exit : Turn → Option Exit
-turn_exit turns.Silent = None
-turn_exit (turns.Shown text) = None
-turn_exit (turns.Ended printed) = Some printed.exit
+-- the exit, if the audit ends with this outcome
+abbrev pub outcome_exit : Outcome → Option Exit
+outcome_exit outcomes.Silent = None
+outcome_exit (outcomes.Shown text) = None
+outcome_exit (outcomes.Ended printed) = Some printed.exit
 
--- what a turn says is printed: all of it, or a first part if the writer failed
-abbrev pub PrintsTurn : Turn → Option (List ℕ) → Option (List ℕ) → Result (Option Exit) Fault → Type 0
-PrintsTurn turn out out_new (Ok exit) = (exit ≡ turn_exit turn) × Appends out out_new (turn_text turn)
-PrintsTurn turn out out_new (Err faults.Write) = AppendsPart (turn_text turn) out out_new
-PrintsTurn turn out out_new (Err f) = ⊥
+-- the line of an outcome is printed: all of it, or a first part if the writer failed
+abbrev pub PrintsOutcome : Outcome → Option (List ℕ) → Option (List ℕ) → Result (Option Exit) Fault → Type 0
+PrintsOutcome outcome out out_new (Ok exit) = (exit ≡ outcome_exit outcome) × Appends out out_new (outcome_text outcome)
+PrintsOutcome outcome out out_new (Err faults.Write) = AppendsPart (outcome_text outcome) out out_new
+PrintsOutcome outcome out out_new (Err f) = ⊥
 
--- a turn was made, and printed; or it has a fault, and nothing is printed
+-- a report line was audited, and its outcome is printed; or there is a fault, and nothing is printed
 abbrev pub LineIs : Terms → (number : ℕ) → (was is : Standing) → Option (List ℕ) → Option (List ℕ) → Evidence → Evidence → Option (List ℕ) → Option (List ℕ) → Result (Option Exit) Fault → Type 0
 LineIs t number was is report report_new old new out out_new (Ok exit) =
-    (turn : Turn) × Turns t number was is report report_new old new (Ok turn) × PrintsTurn turn out out_new (Ok exit)
+    (outcome : Outcome) × HasOutcome t number was is report report_new old new (Ok outcome) × PrintsOutcome outcome out out_new (Ok exit)
 LineIs t number was is report report_new old new out out_new (Err faults.Write) =
-    (turn : Turn) × Turns t number was is report report_new old new (Ok turn) × AppendsPart (turn_text turn) out out_new
-LineIs t number was is report report_new old new out out_new (Err f) = Turns t number was is report report_new old new (Err f) × (out_new ≡ out)
+    (outcome : Outcome) × HasOutcome t number was is report report_new old new (Ok outcome) × AppendsPart (outcome_text outcome) out out_new
+LineIs t number was is report report_new old new out out_new (Err f) = HasOutcome t number was is report report_new old new (Err f) × (out_new ≡ out)
 
--- the result of the last turn
+-- the result of the last outcome
 abbrev pub last_of : Result Exit Fault → Result (Option Exit) Fault
 last_of (Ok exit) = Ok (Some exit)
 last_of (Err f) = Err f
 
--- Some lines were audited, and the turn of the next one is the last. Or they are the most lines that one audit takes
+-- Some lines were audited, and the audit ends with the next one. Or one audit takes no more lines than these
 pub record AuditsToEnd (t : Terms) (report report_new : Option (List ℕ)) (old new : Evidence) (out out_new : Option (List ℕ)) (result : Result Exit Fault) : Type 0 where
   pub lines : List (List ℕ)
   pub place : ℕ
@@ -123,6 +123,6 @@ pub record AuditsToEnd (t : Terms) (report report_new : Option (List ℕ)) (old 
   pub last : LineIs t (length lines + 1) (standing place (counts_of lines)) behind report_between report_new between new out_between out_new (last_of result)
       ⊎ ((result ≡ Err faults.Read) × (length lines ≡ max_lines) × (out_new ≡ out_between))
 
--- the lines that were read are the most that one audit takes
+-- one audit takes no more lines than these
 abbrev pub ReachesLimit : Option (List ℕ) → Option (List ℕ) → Type 0
 ReachesLimit report report_new = (lines : List (List ℕ)) × (length lines ≡ max_lines) × Consumes report report_new (text_of lines)

@@ -11,8 +11,8 @@ use Rattle.s2_console.specs.Screens.{Screen}
 use Rattle.s2_link.specs.Link.{Link, link_of}
 use Rattle.s2_link.specs.declared.setup.Setup.{Setup}
 use Rattle.s2_inputs.specs.Inputs.{rows_in}
-use Rattle.s2_audit.specs.Desks.{terms_of}
-use Rattle.s2_audit.specs.Turns.{Evidence}
+use Rattle.s2_audit.specs.Auditors.{terms_of}
+use Rattle.s2_audit.specs.Outcomes.{Evidence}
 use Rattle.s2_audit.specs.Auditing.{AuditsToEnd, ReachesLimit}
 
 -- the unread bytes of the files of an audit, if they are known, and how many of their calls have failed
@@ -51,8 +51,8 @@ AuditRuns setup divisor old new out out_new result =
     RefusesRows setup old.rows out out_new result
     ⊎ ((rows : Rows) × IfSome old.rows (λ xs. rows_in (shape_in setup.mode) xs ≡ Ok rows) × AuditsLink (link_of setup rows) divisor old.report new.report old.evidence new.evidence out out_new result)
 
--- Only failed calls were counted, and their fault is reported. If a fault of reading is reported, a read failed, or as
--- many lines came as one audit takes
+-- Only failed calls were counted, and their fault is reported. If a read fault is reported, a read failed, or
+-- the maximum number of lines was read
 pub record Causes (ended : Result Exit Fault) (report report_new : Option (List ℕ)) (reads reads_after prints prints_after : ℕ) : Type 0 where
   pub only : OnlyFailed (ended ≡ Err faults.Read) (ended ≡ Err faults.Write) (counted reads prints) (counted reads_after prints_after)
   pub read : ended ≡ Err faults.Read → (reads_after ≡ reads + 1) ⊎ ReachesLimit report report_new

@@ -75,7 +75,7 @@ abbrev pub entry_with : Option Frame → Option Entry
 entry_with (Some frame) = Some (entries.Frame frame)
 entry_with None = None
 
--- what the words of a line say: `frame` begins the line of a frame, `cut` and `end` begin other lines
+-- parses a line: `frame` begins the line of a frame, `cut` and `end` begin other lines
 abbrev pub entry_of : List (List ℕ) → Option Entry
 entry_of [] = None
 entry_of (word ∷ words) =
@@ -83,7 +83,7 @@ entry_of (word ∷ words) =
     else if is_text word (codes "cut") || is_text word (codes "end") then Some entries.Other
     else None
 
--- what a line says, if it is readable; it has at most 255 bytes
+-- parses a line; a readable line has at most 511 bytes
 abbrev pub entry_in : List ℕ → Option Entry
 entry_in line = if nat_le (length line) line_bytes then entry_of (words_of line) else None
 

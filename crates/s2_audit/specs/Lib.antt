@@ -1,9 +1,9 @@
 pub mod Limits
 pub mod Entries
 pub mod Reading
-pub mod Desks
+pub mod Auditors
 pub mod Showing
 pub mod Lines
-pub mod Turns
+pub mod Outcomes
 pub mod Auditing
 pub mod Commands

@@ -3,11 +3,11 @@ use Rattle.std.specs.Prelude.{◌≡◌, ℕ, ◌+◌, ◌*◌, ◌/◌, ◌^◌
 use Rattle.s2_mode.specs.Mode.{Mode, n_of, q_of, symbols_in}
 use Rattle.s2_audit.specs.declared.limits.TheConstants.{LINE_BYTES, MAX_LINES}
 
--- the most bytes of a line of a report, without its LF
+-- the maximum length of a report line in bytes, without its LF
 abbrev pub line_bytes : ℕ
-line_bytes = 255
+line_bytes = 511
 
--- the most lines of a report
+-- the maximum number of lines of a report
 abbrev pub max_lines : ℕ
 max_lines = 2 ^ 40
 

@@ -1,4 +1,4 @@
--- What an audit reads of a report and of a recording (own).
+-- How an audit reads a report and a recording (own).
 use Rattle.std.specs.Prelude.{◌≡◌, ◌⊎◌, ℕ, ◌+◌, ◌*◌, ◌<◌, Bool, true, false, List, [], ◌∷◌, ◌++◌, length, codes, decimal, Option, Some, None, Result, Ok, Err, ⊤}
 use Rattle.std.specs.Io.KnownBytes.{Consumes, IsAtEnd}
 use Rattle.s2_console.specs.declared.fault.Fault.{Fault}
@@ -12,7 +12,7 @@ abbrev pub GivesByte : Option (List ℕ) → Option (List ℕ) → Option ℕ �
 GivesByte old new (Some b) = Consumes old new (b ∷ [])
 GivesByte old new None = Consumes old new [] × IsAtEnd new
 
--- a line was read with its LF; or there was none before the end, or among the most bytes of a line
+-- a line was read with its LF; or there was none before the end, or among the maximum length of a line in bytes
 abbrev pub GivesLine : Option (List ℕ) → Option (List ℕ) → List ℕ → (ended : Bool) → Type 0
 GivesLine old new line true = IsLine line × Consumes old new (line ++ 10 ∷ [])
 GivesLine old new line false = IsLine line × Consumes old new line × (IsAtEnd new ⊎ (line_bytes < length line))
@@ -23,7 +23,7 @@ pub record GivesEntry (old new : Option (List ℕ)) (line : List ℕ) (entry : E
   pub read : Consumes old new (line ++ 10 ∷ [])
   pub says : entry_in line ≡ Some entry
 
--- the next line has its LF and says nothing that an audit reads; or no LF follows, at the end or after 255 bytes
+-- the next line has its LF and says nothing that an audit reads; or no LF follows, at the end or after 511 bytes
 abbrev pub IsUnreadable : Option (List ℕ) → Option (List ℕ) → Type 0
 IsUnreadable old new =
     (line : List ℕ) × IsLine line

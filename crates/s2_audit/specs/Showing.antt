@@ -1,4 +1,4 @@
--- What a certificate shows of a frame's soft values (own).
+-- What a certificate proves about the soft values of a frame (own).
 use Rattle.std.specs.Prelude.{◌≡◌, ◌≢◌, ◌⊎◌, ℕ, ℤ, List, ◌++◌, codes, Result, Ok, Err}
 use Rattle.s2_rows.specs.Rows.{Rows}
 use Rattle.s2_certfile.specs.File.{File}
@@ -16,7 +16,7 @@ use Rattle.s2_audit.specs.declared.judging.Reason.TheVariants as reasons
 use Rattle.s2_audit.specs.declared.judging.Finding.{Finding}
 use Rattle.s2_audit.specs.declared.judging.Finding.TheVariants.{Shown, Failed}
 
--- What is found of a certificate as a view for its rows: the cost of its bits if it shows the verdict, else the first
+-- The finding on a certificate as a view for its rows: the cost of its bits if it proves the verdict, else the first
 -- reason why it does not
 abbrev pub FindsView : Rows → List ℤ → Verdict → View → Finding → Type 0
 FindsView rows soft verdict view (Shown found) =
@@ -27,7 +27,7 @@ FindsView rows soft verdict view (Failed reasons.NotSole) =
     (view.soft ≡ soft) × IsCertificate rows view × (verdict ≡ Sole) × ¬ IsStrict rows view
 FindsView rows soft verdict view (Failed reason) = ⊥
 
--- what is found of a certificate; one that does not suit the rows is not accepted
+-- the finding on a certificate; one with another shape than the rows is not accepted
 abbrev pub FindsFile : Rows → List ℤ → Verdict → File → Finding → Type 0
 FindsFile rows soft verdict file finding =
     (Suits rows file × FindsView rows soft verdict (view_of rows file) finding) ⊎ (¬ Suits rows file × (finding ≡ Failed reasons.NotAccepted))
@@ -37,11 +37,11 @@ abbrev pub FindsParsed : Rows → List ℤ → Verdict → Result File CertFault
 FindsParsed rows soft verdict (Ok file) finding = FindsFile rows soft verdict file finding
 FindsParsed rows soft verdict (Err fault) finding = finding ≡ Failed reasons.NotAccepted
 
--- what is found of the bytes of a certificate
+-- the finding on the bytes of a certificate
 abbrev pub Finds : Rows → List ℤ → Verdict → List ℕ → Finding → Type 0
 Finds rows soft verdict bytes finding = FindsParsed rows soft verdict (file_of_bytes bytes) finding
 
--- the words of each reason
+-- the text of each reason
 abbrev pub reason_text : Reason → List ℕ
 reason_text reasons.NoCertificate = codes "no certificate"
 reason_text reasons.NoSymbols = codes "no symbols"

@@ -4,11 +4,11 @@ ghost use Rattle.s2_mode.specs.Counts.{CanCount};
 ghost use Rattle.s2_console.specs.Screens.{CanShow};
 ghost use Rattle.s2_link.specs.Link.{setup_of};
 ghost use Rattle.s2_audit.specs.Commands.{AuditExits, AuditRuns, AuditsLink, files_by};
-ghost use Rattle.s2_audit.specs.Turns.{evidence_by};
+ghost use Rattle.s2_audit.specs.Outcomes.{evidence_by};
 ghost use Rattle.s2_audit.specs.Auditing.{ReachesLimit};
 
 use crate::auditing::audit_lines;
-use crate::desk::Desk;
+use crate::auditor::Auditor;
 use s2_console::{Console, Exit, Fault};
 use s2_inputs::read_matrix;
 use s2_link::{Link, LinkSetup};
@@ -37,8 +37,8 @@ fn audit_link<R: CountedRead, O: CountedWrite>(
     ensures write { result ≡ Err Fault.Write → O.count out.new ≡ O.count out.old + 1 }
     ensures no_write { result ≢ Err Fault.Write → O.count out.new ≡ O.count out.old }
 {
-    match Desk::new(alloc, link, divisor) {
-        Ok(mut desk) => audit_lines(alloc, &mut desk, report, symbols, certificates, out),
+    match Auditor::new(alloc, link, divisor) {
+        Ok(mut auditor) => audit_lines(alloc, &mut auditor, report, symbols, certificates, out),
         Err(_) => Err(Fault::NoMemory),
     }
 }
@@ -80,7 +80,8 @@ fn audit_files<R: CountedRead, O: CountedWrite>(
 /// their soft values by this divisor, and the checker must accept it, strictly if the frame is sole. A line for each
 /// such frame is printed before the next line of the report is read. The last line has the counts.
 ///
-/// Exit 0 if each such frame is shown and no certificate is left over. Else exit 2, after a line with the first reason.
+/// Exit 0 if each such frame is proved and no certificate is left over. Else exit 2, after a line with the first
+/// reason.
 ///
 /// - `rows: ..`: the rows are refused, and nothing is read of the other files.
 /// - `report: line N`: the line is unreadable. `certificate: cut`: the certificates end within one.
@@ -118,5 +119,5 @@ pub fn audit_command<R: CountedRead, O: CountedWrite, E: CountedWrite>(
         certificates,
         &mut console.output,
     );
-    console.conclude(ended)
+    console.finish(ended)
 }

@@ -15,7 +15,7 @@ pub(crate) struct Frame {
     pub(crate) verdict: Verdict,
 }
 
-/// What a line of a report says.
+/// The content of a report line.
 #[derive(Clone, Copy)]
 pub(crate) enum Entry {
     Frame(Frame),
@@ -115,7 +115,7 @@ fn frame_of(line: &[u8]) -> Option<Frame>
     frame_with(number, symbol, verdict)
 }
 
-/// What the words of a line say.
+/// Parses a line.
 fn entry_of(line: &[u8]) -> Option<Entry>
     ensures is { result ≡ entry_of (words_of line.now) }
     ensures small { IfSome result IsSmallEntry }
@@ -135,7 +135,7 @@ fn entry_of(line: &[u8]) -> Option<Entry>
     None
 }
 
-/// What a line says, if it is readable.
+/// Parses a line. `None` if it is unreadable.
 pub(crate) fn read_entry(line: &[u8]) -> Option<Entry>
     ensures is { result ≡ entry_in line.now }
     ensures small { IfSome result IsSmallEntry }

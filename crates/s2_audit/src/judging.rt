@@ -1,4 +1,4 @@
-//! What a certificate shows of a frame's soft values.
+//! What a certificate proves about the soft values of a frame.
 ghost use Rattle.std.specs.Prelude.{◌≡◌, ◌≢◌, ◌↔◌, ◌≤◌, IsTrue, Err, IfOk, IsOkUnless, length};
 ghost use Rattle.s2_mode.specs.Shape.{code_bits};
 ghost use Rattle.s2_check.specs.CertificateFiles.{Suits, view_of};
@@ -9,7 +9,7 @@ use s2_console::Fault;
 use s2_matrix::Matrix;
 use std::alloc::Global;
 
-/// Why a frame is not shown.
+/// Why a frame is not proved.
 #[derive(Clone, Copy, Debug, PartialEq, Eq)]
 pub(crate) enum Reason {
     NoCertificate,
@@ -20,7 +20,7 @@ pub(crate) enum Reason {
 }
 
 impl Reason {
-    /// The words of the reason.
+    /// The text of the reason.
     pub(crate) fn text(self) -> &'static str
         ensures is { result.now ≡ reason_text self }
         ensures short { length result.now ≤ 14 }
@@ -35,7 +35,7 @@ impl Reason {
     }
 }
 
-/// What is found of a frame: the cost of its bits, or why it is not shown.
+/// The finding on a frame: the cost of its bits, or why it is not proved.
 #[derive(Clone, Copy, Debug, PartialEq, Eq)]
 pub(crate) enum Finding {
     Shown { cost: i64 },
@@ -56,7 +56,7 @@ fn has_values(view: &CertView<'_>, soft: &[i16]) -> bool
     true
 }
 
-/// What is found of a certificate with the frame's soft values.
+/// The finding on a certificate that has the frame's soft values.
 fn examined(matrix: &Matrix, view: &CertView<'_>, verdict: Verdict) -> Finding
     ensures { FindsView matrix.now view.now.soft verdict view.now result }
 {
@@ -70,7 +70,7 @@ fn examined(matrix: &Matrix, view: &CertView<'_>, verdict: Verdict) -> Finding
     Finding::Shown { cost: view.cost() }
 }
 
-/// What is found of a certificate that suits the rows.
+/// The finding on a certificate that has the shape of the rows.
 fn compared(matrix: &Matrix, view: &CertView<'_>, soft: &[i16], verdict: Verdict) -> Finding
     requires { length soft.now ≡ code_bits view.now.rows.shape }
     ensures { FindsView matrix.now soft.now verdict view.now result }
@@ -81,7 +81,7 @@ fn compared(matrix: &Matrix, view: &CertView<'_>, soft: &[i16], verdict: Verdict
     examined(matrix, view, verdict)
 }
 
-/// What is found of a certificate.
+/// The finding on a certificate.
 fn judged(matrix: &Matrix, certificate: &Certificate, soft: &[i16], verdict: Verdict) -> Finding
     requires { length soft.now ≡ code_bits matrix.now.shape }
     ensures { FindsFile matrix.now soft.now verdict certificate.now result }
@@ -92,7 +92,7 @@ fn judged(matrix: &Matrix, certificate: &Certificate, soft: &[i16], verdict: Ver
     }
 }
 
-/// What is found of the bytes of a certificate. Only memory can run out.
+/// The finding on the bytes of a certificate. The only error is that memory runs out.
 pub(crate) fn judge_bytes(
     alloc: Global,
     matrix: &Matrix,

@@ -14,17 +14,17 @@
 #![tactic(auto)]
 
 mod auditing;
+mod auditor;
 mod command;
 mod counts;
-mod desk;
 mod entry;
 mod judging;
 pub mod laws;
 mod limits;
 mod lines;
 mod number;
+mod outcome;
 mod report;
-mod turning;
 
 pub use command::audit_command;
 pub use limits::MAX_LINES;

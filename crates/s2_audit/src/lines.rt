@@ -19,7 +19,7 @@ fn frame_words(frame: Frame) -> Line
     line
 }
 
-/// The line of a frame that is shown.
+/// The line of a proved frame.
 #[tactic(auto, unfolding(crate::specs::Lines::shown_line))]
 pub(crate) fn shown_line(frame: Frame, cost: i64) -> Line
     ensures { result ≡ shown_line frame cost }
@@ -32,7 +32,7 @@ pub(crate) fn shown_line(frame: Frame, cost: i64) -> Line
     line
 }
 
-/// The line of a frame that is not shown.
+/// The line of a frame that is not proved.
 #[tactic(auto, unfolding(crate::specs::Lines::failed_line))]
 pub(crate) fn failed_line(frame: Frame, reason: Reason) -> Line
     ensures { result ≡ failed_line frame reason }
@@ -44,7 +44,7 @@ pub(crate) fn failed_line(frame: Frame, reason: Reason) -> Line
     line
 }
 
-/// The line of certificates that are left over.
+/// The line for certificates after the last frame.
 pub(crate) fn left_over_line() -> Line
     ensures { result ≡ left_over_line }
 {

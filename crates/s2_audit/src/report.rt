@@ -10,7 +10,7 @@ use s2_console::Fault;
 use s2_mode::{CountedRead, FaultText, ReadFault, read_full};
 
 /// The bytes of a line, with room for one too many.
-type LineBytes = ArrayVec<u8, 256>;
+type LineBytes = ArrayVec<u8, 512>;
 
 /// The next byte, or `None` at the end.
 pub(crate) fn read_byte<R: CountedRead>(reader: &mut R) -> Result<Option<u8>, ReadFault>
@@ -25,7 +25,7 @@ pub(crate) fn read_byte<R: CountedRead>(reader: &mut R) -> Result<Option<u8>, Re
     Ok(Some(byte[0]))
 }
 
-/// Reads a line into an empty buffer, without its LF. False if no LF came, before the end or among 256 bytes.
+/// Reads a line into an empty buffer, without its LF. False if no LF came, before the end or among 512 bytes.
 fn read_line<R: CountedRead>(reader: &mut R, line: &mut LineBytes) -> Result<bool, ReadFault>
     requires reader { CanCount (R.count reader.old) }
     requires empty { line.old.items ≡ [] }

@@ -1,16 +1,19 @@
 -- The decoder's theorem: a word within t places of a multiple is flipped into it.
-use Rattle.std.specs.Prelude.{ℕ, suc, ◌≡◌, ◌≢◌, ◌+◌, ◌<◌, ◌≤◌, refl, Bool, true, false, List, [], ◌∷◌, ◌++◌, length}
-use Rattle.std.proofs.Common.{sym, ◌∙◌, ap, ap₂, subst, arith, get_or, length-append, append_assoc}
+use Rattle.std.specs.Prelude.{ℕ, suc, ◌≡◌, ◌≢◌, ◌+◌, ◌<◌, ◌≤◌, refl, Bool, true, false, List, [], ◌∷◌, ◌++◌, length, take}
+use Rattle.std.proofs.Common.{sym, ◌∙◌, ap, ap₂, subst, arith, get_or, length-append, length-take-le, append_assoc}
 use Rattle.s2_field.specs.Operations.{Operations}
 use Rattle.s2_field.specs.Laws.{FieldLaws}
 use Rattle.s2_field.specs.Polynomials as P
 use Rattle.s2_bch.specs.Sequences as S
 use Rattle.s2_bch.specs.Flips as flips
-use Rattle.s2_bch.proofs.LocatorTheory.{Each, AllDiffer, dot-same, monic-length, degree-least, elements-are-roots, roots-are-elements}
+use Rattle.s2_bch.specs.Splitting as splitting
+use Rattle.s2_bch.specs.Splitting.{Each, AllDiffer}
+use Rattle.s2_bch.proofs.LocatorTheory.{each_map, dot-same, monic-length, degree-least, elements-are-roots, roots-are-elements}
 use Rattle.s2_bits.specs.Bits.{xor, added, differences}
 use Rattle.s2_bch.specs.Words.{IsMultiple}
 use Rattle.s2_bch.proofs.WordFacts.{length-added}
 use Rattle.s2_bch.proofs.ValueFacts.{value, value-sum, multiple-root, locators, locators-differ, locators-nonzero, locators-apart, value-power_sum, length-locators, PowersDiffer}
+use Rattle.s2_bch.proofs.SplittingFacts.{monic_root, places_fixed}
 
 module _ {F : Type 0} (field : Operations F) (L : FieldLaws field) where
   open L use {add_comm, add_assoc, add_zero, add_self, mul_comm, mul_assoc, mul_one, mul_add, mul_inv, one_ne_zero}
@@ -113,57 +116,65 @@ module _ {F : Type 0} (field : Operations F) (L : FieldLaws field) where
             equal false true e = e
             equal false false e = refl
 
-  pub decoded : (a : F) (bound t d : ℕ) (g r v w : List Bool) (S' f b : List F) (delta : F)
-      → a ≢ field.zero → PowersDiffer field L a bound → 0 < length g
-      → ((j : ℕ) → j < t + t → value field L g (power a (suc j)) ≡ field.zero)
-      → IsMultiple g v → length r ≡ length v → length v ≤ bound → differences (length r) r v ≤ t
-      → ((j : ℕ) → j < t + t → get_or S' j field.zero ≡ value field L r (power a (suc j)))
-      → S.Shortest field (t + t) d f b delta (S.sequence_of field.zero S')
-      → flips.FlipsRoots field a f r w → w ≡ v
-  decoded a bound t d g r v w S' f b delta na p hg roots mv e h near syndromes H k =
-      let error : List Bool = added r v in
-      let xs : List F = places a error in
-      let le : length error ≡ length v = length-added r v in
-      let H' : S.Shortest field (t + t) d f b delta (S.power_sum field xs (λ x. x)) =
-      shortest-along (t + t) d f b delta _ _
-      (λ j hj.
-      syndromes j hj
-      ∙ sym (value-sum field L r v (power a (suc j)) e
-      ∙ ap (field.sum (value field L r (power a (suc j)))) (multiple-root field L g v (power a (suc j)) hg mv (roots j hj))
-      ∙ add_zero _)
-      ∙ value-power_sum field L a error j)
-      H in
-      let few : length xs + length xs ≤ t + t = omega (arith, length-locators field L a r v e) in
-      let apart : AllDiffer xs = locators-differ field L a bound p error (omega arith) in
-      let present : Each (λ x. x ≢ field.zero) xs = locators-nonzero field L a na error in
-      flipped a bound p f [] r v w e (omega arith)
-      (elements-are-roots field L (t + t) d f b delta xs (λ x. x) H' few apart present)
-      (roots-are-elements field L (t + t) d f b delta xs (λ x. x) H' few apart present)
-      k
+  -- v is a multiple of g within t places of r, and f is the shortest locator of r's syndromes
+  module _ (a : F) (bound t d : ℕ) (g r v : List Bool) (S' f b : List F) (delta : F)
+      (na : a ≢ field.zero) (p : PowersDiffer field L a bound) (hg : 0 < length g)
+      (roots : (j : ℕ) → j < t + t → value field L g (power a (suc j)) ≡ field.zero)
+      (mv : IsMultiple g v) (e : length r ≡ length v) (h : length v ≤ bound) (near : differences (length r) r v ≤ t)
+      (syndromes : (j : ℕ) → j < t + t → get_or S' j field.zero ≡ value field L r (power a (suc j)))
+      (H : S.Shortest field (t + t) d f b delta (S.sequence_of field.zero S')) where
+    abbrev error : List Bool
+    error = added r v
 
-  -- a locator for a word within t places has degree t at most
-  pub degree_few : (a : F) (bound t d : ℕ) (g r v : List Bool) (S' f b : List F) (delta : F)
-      → a ≢ field.zero → PowersDiffer field L a bound → 0 < length g
-      → ((j : ℕ) → j < t + t → value field L g (power a (suc j)) ≡ field.zero)
-      → IsMultiple g v → length r ≡ length v → length v ≤ bound → differences (length r) r v ≤ t
-      → ((j : ℕ) → j < t + t → get_or S' j field.zero ≡ value field L r (power a (suc j)))
-      → S.Shortest field (t + t) d f b delta (S.sequence_of field.zero S') → d ≤ t
-  degree_few a bound t d g r v S' f b delta na p hg roots mv e h near syndromes H =
-      let error : List Bool = added r v in
-      let xs : List F = places a error in
-      let le : length error ≡ length v = length-added r v in
-      let H' : S.Shortest field (t + t) d f b delta (S.power_sum field xs (λ x. x)) =
-      shortest-along (t + t) d f b delta _ _
-      (λ j hj.
-      syndromes j hj
-      ∙ sym (value-sum field L r v (power a (suc j)) e
-      ∙ ap (field.sum (value field L r (power a (suc j)))) (multiple-root field L g v (power a (suc j)) hg mv (roots j hj))
-      ∙ add_zero _)
-      ∙ value-power_sum field L a error j)
-      H in
-      let size : length xs ≡ differences (length r) r v = length-locators field L a r v e in
-      let few : length xs + length xs ≤ t + t = omega arith in
-      let apart : AllDiffer xs = locators-differ field L a bound p error (omega arith) in
-      let present : Each (λ x. x ≢ field.zero) xs = locators-nonzero field L a na error in
-      let least : d ≤ length xs = degree-least field L (t + t) d f b delta xs (λ x. x) H' few apart present in
-      omega arith
+    abbrev xs : List F
+    xs = places a error
+
+    locates : S.Shortest field (t + t) d f b delta (S.power_sum field xs (λ x. x))
+    locates =
+        shortest-along (t + t) d f b delta _ _
+        (λ j hj.
+        syndromes j hj
+        ∙ sym (value-sum field L r v (power a (suc j)) e
+        ∙ ap (field.sum (value field L r (power a (suc j)))) (multiple-root field L g v (power a (suc j)) hg mv (roots j hj))
+        ∙ add_zero _)
+        ∙ value-power_sum field L a error j)
+        H
+
+    few : length xs + length xs ≤ t + t
+    few = omega (arith, length-locators field L a r v e)
+
+    apart : AllDiffer xs
+    apart = locators-differ field L a bound p error (omega (arith, length-added r v))
+
+    present : Each (λ x. x ≢ field.zero) xs
+    present = locators-nonzero field L a na error
+
+    are_roots : Each (λ x. evaluate f x ≡ field.zero) xs
+    are_roots = elements-are-roots field L (t + t) d f b delta xs (λ x. x) locates few apart present
+
+    least : d ≤ length xs
+    least = degree-least field L (t + t) d f b delta xs (λ x. x) locates few apart present
+
+    -- its degree is t at most
+    pub degree_few : d ≤ t
+    degree_few = omega (arith, least, few)
+
+    -- it has as many roots in the field as its degree
+    pub splits : (q : ℕ) → power a q ≡ a → (ys : List F) × splitting.AreItsRoots field q (take d f) ys
+    splits q fixed = (
+      xs,
+      record {
+        enough = omega (arith, least, length-take-le d f (omega (arith, monic-length field L d f H.monic)));
+        differ = apart;
+        roots = each_map (λ x. evaluate f x ≡ field.zero) (λ x. splitting.IsRoot field (take d f) x)
+            (λ x z. monic_root field L d f x H.monic z) xs are_roots;
+        elements = places_fixed field L a q fixed error;
+      },
+    )
+
+    -- its roots are the places that differ
+    pub decoded : (w : List Bool) → flips.FlipsRoots field a f r w → w ≡ v
+    decoded w k =
+        flipped a bound p f [] r v w e (omega (arith, length-added r v)) are_roots
+        (roots-are-elements field L (t + t) d f b delta xs (λ x. x) locates few apart present)
+        k

@@ -11,6 +11,7 @@ mod MessageFacts
 mod Locators
 mod TermLemmas
 mod Places
+mod SplittingFacts
 mod Shortest
 mod Decoder
 mod RootFacts

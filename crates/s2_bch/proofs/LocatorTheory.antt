@@ -1,21 +1,12 @@
 -- Power sums over a field, and what short vanishing stretches of them say.
-use Rattle.std.specs.Prelude.{ℕ, zero, suc, ◌≡◌, ◌≢◌, ◌+◌, ◌-◌, ◌<◌, ◌≤◌, refl, List, [], ◌∷◌, length, ⊤}
+use Rattle.std.specs.Prelude.{ℕ, zero, suc, ◌≡◌, ◌≢◌, ◌+◌, ◌-◌, ◌<◌, ◌≤◌, refl, List, [], ◌∷◌, length}
 use Rattle.std.proofs.Common.{sym, ◌∙◌, ap, ap₂, subst, arith, inl, inr}
 use Rattle.std.proofs.lemmas.Bool.{cases_lt}
 use Rattle.s2_field.specs.Operations.{Operations}
 use Rattle.s2_field.specs.Polynomials as polynomials
 use Rattle.s2_bch.specs.Sequences as sequences
+use Rattle.s2_bch.specs.Splitting.{Each, AllDiffer}
 use Rattle.s2_field.specs.Laws.{FieldLaws}
-
--- P holds of each element
-abbrev pub Each : {X : Type 0} → (X → Type 0) → List X → Type 0
-Each P [] = ⊤
-Each P (x ∷ xs) = P x × Each P xs
-
--- no two elements are equal
-abbrev pub AllDiffer : {X : Type 0} → List X → Type 0
-AllDiffer [] = ⊤
-AllDiffer (x ∷ xs) = Each (λ y. y ≢ x) xs × AllDiffer xs
 
 pub each_map : {X : Type 0} (P Q : X → Type 0) → ((x : X) → P x → Q x) → (xs : List X) → Each P xs → Each Q xs
 each_map P Q f [] h = tt
@@ -64,7 +55,7 @@ module _ {F : Type 0} (field : Operations F) (L : FieldLaws field) where
   no_zero_divisors a b h nb =
       sym (mul_one a) ∙ ap (field.product a) (sym (mul_inv b nb)) ∙ sym (mul_assoc a b (field.inverse b)) ∙ ap (λ x. field.product x (field.inverse b)) h ∙ zero-mul (field.inverse b)
 
-  mul_swap : (a b c : F) → field.product a (field.product b c) ≡ field.product b (field.product a c)
+  pub mul_swap : (a b c : F) → field.product a (field.product b c) ≡ field.product b (field.product a c)
   mul_swap a b c = sym (mul_assoc a b c) ∙ ap (λ x. field.product x c) (mul_comm a b) ∙ mul_assoc b a c
 
   -- each term times y + x
@@ -419,6 +410,10 @@ module _ {F : Type 0} (field : Operations F) (L : FieldLaws field) where
   rests z [] = []
   rests z (c ∷ f) = eval (c ∷ f) z ∷ rests z f
 
+  pub length-rests : (z : F) (f : List F) → length (rests z f) ≡ length f
+  length-rests z [] = refl
+  length-rests z (c ∷ f) = ap suc (length-rests z f)
+
   rests-monic : (d : ℕ) (z : F) (f : List F) → IsMonic d f → IsMonic d (rests z f)
   rests-monic d z [] m = absurd m
   rests-monic zero z (c ∷ f) m = (
@@ -451,6 +446,19 @@ module _ {F : Type 0} (field : Operations F) (L : FieldLaws field) where
       ∙ sym (add_assoc (field.product y r) (field.product (field.sum y z) (field.product y q)) (field.product z r)))
       ∙ cancel-pair c (field.sum (field.product y r) (field.product (field.sum y z) (field.product y q))) (field.product z r) field.zero)
 
+  -- the other roots of a ∷ g are roots of its quotient by y + z, where z is a root
+  pub rests-roots : (z a : F) (g xs : List F) → eval (a ∷ g) z ≡ field.zero → Each (λ x. x ≢ z) xs → Each (λ x. eval (a ∷ g) x ≡ field.zero) xs
+      → Each (λ x. eval (rests z g) x ≡ field.zero) xs
+  rests-roots z a g xs e others roots =
+      each_map₂ (λ x. eval (a ∷ g) x ≡ field.zero) (λ x. x ≢ z) (λ x. eval (rests z g) x ≡ field.zero)
+      (λ x r ne. no_zero_divisors (eval (rests z g) x) (field.sum x z)
+      (mul_comm (eval (rests z g) x) (field.sum x z)
+      ∙ sym (add_zero (field.product (field.sum x z) (eval (rests z g) x)))
+      ∙ ap (field.sum (field.product (field.sum x z) (eval (rests z g) x))) (sym e)
+      ∙ sym (eval-rests z a g x) ∙ r)
+      (λ w. ne (equal_of_sum x z w)))
+      xs roots others
+
   module _ (n d : ℕ) (f b : List F) (delta : F) (xs : List F) (c : F → F)
       (S : Shortest n d f b delta (power_sum xs c)) (enough : length xs + length xs ≤ n)
       (differ : AllDiffer xs) (present : Each (λ x. c x ≢ field.zero) xs) where
@@ -476,14 +484,6 @@ module _ {F : Type 0} (field : Operations F) (L : FieldLaws field) where
         go zero (a ∷ g) m e roots least =
             one_ne_zero (sym (ap₂ field.sum m.0 (ap (λ w. field.product z (eval w z)) m.1 ∙ mul-zero z) ∙ add_zero field.one) ∙ e)
         go (suc k) (a ∷ g) m e roots least =
-            let quotient : Each (λ x. eval (rests z g) x ≡ field.zero) xs =
-            each_map₂ (λ x. eval (a ∷ g) x ≡ field.zero) (λ x. x ≢ z) (λ x. eval (rests z g) x ≡ field.zero)
-            (λ x r ne. no_zero_divisors (eval (rests z g) x) (field.sum x z)
-            (mul_comm (eval (rests z g) x) (field.sum x z)
-            ∙ sym (add_zero (field.product (field.sum x z) (eval (rests z g) x)))
-            ∙ ap (field.sum (field.product (field.sum x z) (eval (rests z g) x))) (sym e)
-            ∙ sym (eval-rests z a g x) ∙ r)
-            (λ w. ne (equal_of_sum x z w)))
-            xs roots others in
+            let quotient : Each (λ x. eval (rests z g) x ≡ field.zero) xs = rests-roots z a g xs e others roots in
             let short : suc k ≤ k = least k (rests z g) (rests-monic k z g m) (annihilates-roots n k (rests z g) xs c quotient) in
             absurd (omega arith)

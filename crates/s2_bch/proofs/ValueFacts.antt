@@ -6,7 +6,8 @@ use Rattle.s2_field.specs.Operations.{Operations}
 use Rattle.s2_field.specs.Laws.{FieldLaws}
 use Rattle.s2_bch.specs.Values as V
 use Rattle.s2_bch.specs.Values.{pick}
-use Rattle.s2_bch.proofs.LocatorTheory.{Each, AllDiffer, pow, power_sum, coefficients-vanish, zero-mul, mul-zero, zero-add as nil-add, add-mul, add_swap, no_zero_divisors}
+use Rattle.s2_bch.specs.Splitting.{Each, AllDiffer}
+use Rattle.s2_bch.proofs.LocatorTheory.{pow, power_sum, coefficients-vanish, zero-mul, mul-zero, zero-add as nil-add, add-mul, add_swap, no_zero_divisors}
 use Rattle.s2_bits.specs.Bits.{xor, added, differences}
 use Rattle.s2_bch.specs.Words.{times_bit, product, IsMultiple}
 use Rattle.s2_bch.proofs.Distances.{distance-cons}

@@ -5,6 +5,7 @@ pub mod Minimal
 pub mod Values
 pub mod Flips
 pub mod Terms
+pub mod Splitting
 pub mod Codes
 pub mod Decoding
 pub mod Workspaces

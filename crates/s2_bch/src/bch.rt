@@ -191,8 +191,8 @@ fn correct_errors(
     ensures only { (v : List Bool) → IsBchWord mode v → differences (length candidate.old) candidate.old v ≤ t_of mode → candidate.new ≡ v }
 {
     match workspace {
-        Workspace::Normal(workspace) => workspace.correct_errors(rest, candidate),
-        Workspace::Short(workspace) => workspace.correct_errors(rest, candidate),
+        Workspace::Normal(workspace) => workspace.correct_errors(16, rest, candidate),
+        Workspace::Short(workspace) => workspace.correct_errors(14, rest, candidate),
     }
 }
 

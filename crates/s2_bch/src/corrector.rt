@@ -1,5 +1,5 @@
 //! The corrector: the places in which a word differs from a codeword.
-ghost use Rattle.std.specs.Prelude.{◌≡◌, ◌<◌, ◌≤◌, ◌+◌, ℕ, Bool, List, length, IfOk};
+ghost use Rattle.std.specs.Prelude.{◌≡◌, ◌<◌, ◌≤◌, ◌+◌, ◌^◌, ℕ, Bool, List, length, IfOk};
 ghost use Rattle.s2_bits.specs.Bits.{differences};
 ghost use Rattle.s2_bch.specs.Words.{IsMultiple};
 ghost use Rattle.s2_bch.specs.Values.{HasRoots, HaveSameValues};
@@ -8,6 +8,7 @@ ghost use Rattle.s2_bch.specs.Workspaces.{HasSizes};
 use crate::berlekamp_massey::shortest_locator;
 use crate::chien::chien_search;
 use crate::lanes::LANES;
+use crate::splitting::may_split;
 use crate::syndromes::put_syndromes;
 use s2_field::Field;
 use std::alloc::{AllocError, Global};
@@ -65,8 +66,9 @@ impl<F: Field> FieldWorkspace<F> {
 
     /// Flips the only bits whose change can make the word a codeword, at most t. The code has the
     /// first 2t powers of `alpha` as roots. Returns the number of flipped bits. `rest` has the
-    /// word's values at these roots.
-    pub(crate) fn correct_errors(&mut self, rest: &[bool], word: &mut [bool]) -> usize
+    /// word's values at these roots. The field has 2^m elements.
+    pub(crate) fn correct_errors(&mut self, m: u32, rest: &[bool], word: &mut [bool]) -> usize
+        requires field { 2 ^ m ≡ F.ORDER + 1 }
         requires short { length word.old < F.ORDER }
         requires few { length word.old < 65536 }
         requires rest { HaveSameValues F.field F.alpha (self.old + self.old) rest.now word.old }
@@ -84,6 +86,14 @@ impl<F: Field> FieldWorkspace<F> {
             &mut self.next,
         );
         if degree > self.t {
+            return 0;
+        }
+        if !may_split(
+            &self.locator[..degree],
+            m,
+            &mut self.auxiliary,
+            &mut self.next,
+        ) {
             return 0;
         }
         chien_search(

@@ -12,7 +12,8 @@
 //! the nearest word. Only `Bch::new` takes memory.
 //!
 //! The decoder is the usual one: syndromes of the remainder, the Berlekamp-Massey algorithm for the
-//! error locator polynomial, and a Chien search for its roots.
+//! error locator polynomial, and a Chien search for its roots. Before the search a cheap test refuses
+//! a polynomial that has not enough roots in the field.
 //!
 //! ```
 //! let mut bch = Bch::new(alloc, mode)?;
@@ -30,6 +31,7 @@ mod generators;
 mod lanes;
 pub mod laws;
 mod register;
+mod splitting;
 mod syndromes;
 
 pub use bch::Bch;

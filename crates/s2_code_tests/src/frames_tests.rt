@@ -10,7 +10,7 @@ use s2_check::CertView;
 use s2_matrix::Matrix;
 use s2_mode::{Counting, Shape};
 use s2_rows::make_rows;
-use s2_settle::Settler;
+use s2_settle::DualAscent;
 use std::alloc::Global;
 use std::process::Abort;
 use std::test::Fail;
@@ -158,22 +158,22 @@ fn checksum(alloc: Global, view: &CertView<'_>) -> Result<u32, Fail> {
 fn settled(
     alloc: Global,
     matrix: &Matrix,
-    settler: &mut Settler<'_>,
+    ascent: &mut DualAscent<'_>,
     soft: &[i16],
     word: &Bits,
 ) -> Result<u32, Fail>
-    requires settler { settler.old.rows ≡ matrix.now }
+    requires ascent { ascent.old.rows ≡ matrix.now }
     requires soft { length soft.now ≡ (code_of matrix.now).bits }
     requires range { All IsSoft soft.now }
     requires codeword { IsCodeword (code_of matrix.now) word.now }
 {
-    if !settler.certify(soft, word, 40) {
+    if !ascent.certify(soft, word, 40) {
         return Ok(0);
     }
-    checksum(alloc, &settler.held(soft, word))
+    checksum(alloc, &ascent.held(soft, word))
 }
 
-/// The checksum of what a new settler finds for a word.
+/// The checksum of what a new ascent finds for a word.
 fn settled_anew<R: Abort + AllocGlobal>(
     rt: &R,
     matrix: &Matrix,
@@ -183,8 +183,8 @@ fn settled_anew<R: Abort + AllocGlobal>(
     assert_eq!(rt; (soft.len(), word.len()), (matrix.bits(), matrix.bits()));
     assert!(rt; are_soft(soft));
     assert!(rt; matrix.satisfied(word));
-    let mut settler = Settler::new(rt.alloc(), matrix)?;
-    settled(rt.alloc(), matrix, &mut settler, soft, word)
+    let mut ascent = DualAscent::new(rt.alloc(), matrix)?;
+    settled(rt.alloc(), matrix, &mut ascent, soft, word)
 }
 
 /// The matrix of a frame's made rows.

@@ -8,7 +8,7 @@ use super::values::are_soft;
 use s2_bits::Bits;
 use s2_check::{Answer, CertView, Examined, examine};
 use s2_matrix::Matrix;
-use s2_settle::Settler;
+use s2_settle::DualAscent;
 use std::alloc::{AllocError, Global};
 use std::process::Abort;
 use std::test::Fail;
@@ -144,13 +144,13 @@ fn codeword_of<R: Abort + AllocGlobal>(
 }
 
 /// Whether a certificate of a codeword is found.
-fn is_certified(settler: &mut Settler<'_>, soft: &[i16], word: &Bits, passes: u32) -> bool
-    requires soft { length soft.now ≡ (code_of settler.old.rows).bits }
+fn is_certified(ascent: &mut DualAscent<'_>, soft: &[i16], word: &Bits, passes: u32) -> bool
+    requires soft { length soft.now ≡ (code_of ascent.old.rows).bits }
     requires range { All IsSoft soft.now }
-    requires codeword { IsCodeword (code_of settler.old.rows) word.now }
-    ensures { settler.new.rows ≡ settler.old.rows }
+    requires codeword { IsCodeword (code_of ascent.old.rows) word.now }
+    ensures { ascent.new.rows ≡ ascent.old.rows }
 {
-    settler.certify(soft, word, passes)
+    ascent.certify(soft, word, passes)
 }
 
 /// The shares that are found for a word with ones at these places in this number of passes, if any.
@@ -166,50 +166,50 @@ struct Found<'a> {
 fn assert_settled<R: Abort + AllocGlobal>(
     rt: &R,
     matrix: &Matrix,
-    settler: &mut Settler<'_>,
+    ascent: &mut DualAscent<'_>,
     frame: &Found<'_>,
 ) -> Result<(), Fail>
-    requires { settler.old.rows ≡ matrix.now }
-    ensures { settler.new.rows ≡ matrix.now }
+    requires { ascent.old.rows ≡ matrix.now }
+    ensures { ascent.new.rows ≡ matrix.now }
 {
     assert_eq!(rt; frame.soft.len(), matrix.bits());
     assert!(rt; are_soft(frame.soft));
     let word = codeword_of(rt, matrix, frame.ones)?;
-    let found = is_certified(settler, frame.soft, &word, frame.passes);
+    let found = is_certified(ascent, frame.soft, &word, frame.passes);
     assert_eq!(rt; found, frame.shares.is_some());
     if let Some(shares) = frame.shares {
-        let view = settler.held(frame.soft, &word);
+        let view = ascent.held(frame.soft, &word);
         assert_shares(rt, matrix, &view, shares);
     }
     Ok(())
 }
 
-/// Asserts what a settler finds, frame after frame.
+/// Asserts what a ascent finds, frame after frame.
 fn assert_frames<R: Abort + AllocGlobal>(
     rt: &R,
     matrix: &Matrix,
-    settler: &mut Settler<'_>,
+    ascent: &mut DualAscent<'_>,
     frames: &[Found<'_>],
 ) -> Result<(), Fail>
-    requires { settler.old.rows ≡ matrix.now }
+    requires { ascent.old.rows ≡ matrix.now }
 {
     for frame in frames {
-        assert_settled(rt, matrix, settler, frame)?;
+        assert_settled(rt, matrix, ascent, frame)?;
     }
     Ok(())
 }
 
-/// Asserts what a new settler finds, frame after frame.
+/// Asserts what a new ascent finds, frame after frame.
 fn assert_settled_anew<R: Abort + AllocGlobal>(
     rt: &R,
     matrix: &Matrix,
     frames: &[Found<'_>],
 ) -> Result<(), Fail> {
-    let mut settler = Settler::new(rt.alloc(), matrix)?;
-    assert_frames(rt, matrix, &mut settler, frames)
+    let mut ascent = DualAscent::new(rt.alloc(), matrix)?;
+    assert_frames(rt, matrix, &mut ascent, frames)
 }
 
-/// Asserts what a new settler finds, frame after frame, in the code of a row file.
+/// Asserts what a new ascent finds, frame after frame, in the code of a row file.
 fn assert_all_settled<R: Abort + AllocGlobal>(
     rt: &R,
     code: Code<'_>,
@@ -288,7 +288,7 @@ fn finds_them_in_groups_of_any_size(rt: HostRuntime) -> Result<(), Fail> {
     assert_found(&rt, nine, &GROUP_9, &GROUP_9_ONES, 3, &GROUP_9_SHARES)
 }
 
-/// One settler, frame after frame.
+/// One ascent, frame after frame.
 #[test]
 fn forgets_the_moves_of_an_earlier_frame(rt: HostRuntime) -> Result<(), Fail> {
     let one = Found {

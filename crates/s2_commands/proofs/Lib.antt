@@ -3,5 +3,5 @@ pub mod LinkLemmas
 pub mod NoteLemmas
 pub mod ReceiveLemmas
 pub mod SentLemmas
-pub mod HearingLemmas
+pub mod NoisyReceptionLemmas
 pub mod SeedLemmas

@@ -16,10 +16,10 @@ pub use Rattle.s2_console.specs.declared.fault.Fault.{Fault}
 pub use Rattle.s2_rows.specs.Rows.{Rows}
 pub use Rattle.s2_link.specs.Link.{Link, link_of, setup_of}
 pub use Rattle.s2_link.specs.declared.setup.Setup.{Setup}
-pub use Rattle.s2_words.specs.declared.request.NoteWords.{NoteWords}
+pub use Rattle.s2_words.specs.declared.request.NoteArguments.{NoteArguments}
 pub use Rattle.s2_receive.specs.declared.report.Received.{Received}
 pub use Rattle.s2_inputs.specs.Inputs.{rows_in}
-pub use Rattle.s2_mode.specs.Limits.{max_symbols}
+pub use Rattle.s2_receive.specs.Limits.{max_symbols}
 pub use Rattle.s2_tuning.specs.Tuning.{Tuning}
 pub use Rattle.s2_modem.specs.Reception.{Receiver, IsNew, link_rules, rules_for}
 pub use Rattle.s2_send.specs.Transmitter.{Transmitter, new_transmitter}
@@ -31,7 +31,7 @@ pub use Rattle.s2_mode.specs.declared.stream_fault.StreamFault.{StreamFault}
 pub use Rattle.s2_receive.specs.Receiving.{Rules, State, begun}
 pub use Rattle.s2_receive.specs.Sinks.{Taking, RunAnswersWith}
 pub use Rattle.s2_commands.specs.Ends.{Ends, ends_of, BeginsWith, CausesWith}
-pub use Rattle.s2_commands.specs.Hearing.{ReceivesNoisy, ReceivesWithNoise, written_by}
+pub use Rattle.s2_commands.specs.NoisyReception.{ReceivesNoisy, ReceivesWithNoise, written_by}
 pub use Rattle.s2_commands.specs.Looping.{FinishesRun, Loops, LoopsBy, ReceivesRuns}
 pub use Rattle.s2_commands.specs.Losses.{Answered, Finishes, exit_by, notes_of}
 unfoldable pub use Rattle.s2_commands.specs.Losses.{amplitude_start}

@@ -1,5 +1,5 @@
 -- Notes after a report.
-use Rattle.s2_commands.proofs.Names.{◌≡◌, ℕ, ◌<◌, List, [], ◌∷◌, ◌++◌, Ok, Err, Result, inl, inr, refl, sym, subst, ◌∙◌, arith, Appends, Exit, Fault, Screen, Remarks, NotesLost, fault_line, Bool, Mode, NoteWords, Received, Sent, Answered, Finishes, FinishesRun, Concludes, refusal_fault, refusal_note, fault_note, if◌then◌else◌}
+use Rattle.s2_commands.proofs.Names.{◌≡◌, ℕ, ◌<◌, List, [], ◌∷◌, ◌++◌, Ok, Err, Result, inl, inr, refl, sym, subst, ◌∙◌, arith, Appends, Exit, Fault, Screen, Remarks, NotesLost, fault_line, Bool, Mode, NoteArguments, Received, Sent, Answered, Finishes, FinishesRun, Concludes, refusal_fault, refusal_note, fault_note, if◌then◌else◌}
 
 -- if two lists together are empty, each is (the first part shows `grind` which lists are meant)
 pub both_empty : (xs ys : List ℕ) → xs ++ ys ≡ [] → (xs ++ ys ≡ []) × (xs ≡ []) × (ys ≡ [])
@@ -31,14 +31,14 @@ lost_from : (notes : List ℕ) (ended : Result Exit Fault) (old mid new : Screen
 lost_from notes ended old mid new count (some, is, up) = (some, is, subst (λ n. n < new.errors_failed) count up)
 
 -- and it ends with the same notes
-answered_from : (words : NoteWords) (m : Mode) (reception : Result Received Fault) (ended : Result Exit Fault) (notes : List ℕ) (old mid new : Screen) → mid.errors_failed ≡ old.errors_failed
+answered_from : (words : NoteArguments) (m : Mode) (reception : Result Received Fault) (ended : Result Exit Fault) (notes : List ℕ) (old mid new : Screen) → mid.errors_failed ≡ old.errors_failed
     → Answered words m reception ended notes mid new → Answered words m reception ended notes old new
 answered_from words m (Ok r) ended notes old mid new count (are, inl is) = (are, inl is)
 answered_from words m (Ok r) ended notes old mid new count (are, inr lost) = (are, inr (lost_from notes ended old mid new count lost))
 answered_from words m (Err f) ended notes old mid new count h = h
 
 -- so a command that received finishes
-pub finishes_from : (words : NoteWords) (m : Mode) (reception : Result Received Fault) (exit : Exit) (old mid new : Screen) → mid.errors ≡ old.errors → mid.errors_failed ≡ old.errors_failed
+pub finishes_from : (words : NoteArguments) (m : Mode) (reception : Result Received Fault) (exit : Exit) (old mid new : Screen) → mid.errors ≡ old.errors → mid.errors_failed ≡ old.errors_failed
     → Finishes words m reception exit mid new → Finishes words m reception exit old new
 finishes_from words m reception exit old mid new same count h =
     record {
@@ -50,7 +50,7 @@ finishes_from words m reception exit old mid new same count h =
     }
 
 -- so a command that heard this does
-pub finishes_run_from : (words : NoteWords) (m : Mode) (ended : Result (Sent Received) Fault) (exit : Exit) (old mid new : Screen) → mid.errors ≡ old.errors → mid.errors_failed ≡ old.errors_failed
+pub finishes_run_from : (words : NoteArguments) (m : Mode) (ended : Result (Sent Received) Fault) (exit : Exit) (old mid new : Screen) → mid.errors ≡ old.errors → mid.errors_failed ≡ old.errors_failed
     → FinishesRun words m ended exit mid new → FinishesRun words m ended exit old new
 finishes_run_from words m (Ok (Ok received)) exit old mid new same count h = finishes_from words m (Ok received) exit old mid new same count h
 finishes_run_from words m (Ok (Err refusal)) exit old mid new same count h =

@@ -4,7 +4,7 @@ pub mod Refusals
 pub mod Sending
 pub mod AddingNoise
 pub mod Receptions
-pub mod Hearing
+pub mod NoisyReception
 pub mod Sums
 pub mod Seeding
 pub mod Looping

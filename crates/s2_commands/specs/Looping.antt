@@ -1,6 +1,6 @@
 -- What `run` does: `mod`, `noise` and `demod`, with the symbols in memory (own).
 use Rattle.std.specs.Prelude.{◌≡◌, ℕ, Bool, false, if◌then◌else◌, List, [], Option, Some, None, Result, Ok, Err}
-use Rattle.s2_mode.specs.Limits.{max_symbols}
+use Rattle.s2_receive.specs.Limits.{max_symbols}
 use Rattle.s2_mode.specs.Mode.{Mode}
 use Rattle.s2_rows.specs.Rows.{Rows}
 use Rattle.s2_link.specs.declared.setup.Setup.{Setup}
@@ -20,7 +20,7 @@ use Rattle.s2_console.specs.Notes.{Remarks}
 use Rattle.s2_console.specs.Files.{Files, reporting}
 use Rattle.s2_console.specs.Screens.{Screen}
 use Rattle.s2_commands.specs.declared.choices.Channel.{Channel}
-use Rattle.s2_words.specs.declared.request.NoteWords.{NoteWords}
+use Rattle.s2_words.specs.declared.request.NoteArguments.{NoteArguments}
 use Rattle.s2_commands.specs.declared.choices.RunOptions.{RunOptions}
 use Rattle.s2_words.specs.declared.request.Seeds.{Seeds}
 use Rattle.s2_commands.specs.Ends.{BeginsWith, CausesWith, Ends, ends_of}
@@ -28,7 +28,7 @@ use Rattle.s2_commands.specs.Links.{LinkCommand, OnLink}
 use Rattle.s2_commands.specs.Losses.{Finishes}
 use Rattle.s2_commands.specs.Refusals.{Sent, refused_by, refusal_fault, refusal_note, sent_by}
 use Rattle.s2_commands.specs.Sending.{RunsTransmitter, transmitter_on}
-use Rattle.s2_commands.specs.Hearing.{hearing, ReceivesWithNoise}
+use Rattle.s2_commands.specs.NoisyReception.{hearing, ReceivesWithNoise}
 use Rattle.s2_commands.specs.Seeding.{HearsRange}
 
 -- sent symbols are received with the noise of the channel's seed; or, after the output is begun, once for each seed of a range
@@ -67,7 +67,7 @@ Loops takes fails words link begun old new ended =
 
 -- the end of a command that heard this, and its exit; before the line of a refused packet its note is on the errors, unless
 -- notes are left out
-abbrev pub FinishesRun : NoteWords → Mode → Result (Sent Received) Fault → Exit → Screen → Screen → Type 0
+abbrev pub FinishesRun : NoteArguments → Mode → Result (Sent Received) Fault → Exit → Screen → Screen → Type 0
 FinishesRun words m (Ok (Ok received)) exit old new = Finishes words m (Ok received) exit old new
 FinishesRun words m (Ok (Err refusal)) exit old new =
     (exit ≡ exits.Fault) × Remarks (if words.quiet then [] else refusal_note refusal) (Err (refusal_fault refusal)) old new

@@ -6,10 +6,10 @@ use Rattle.s2_names.specs.Names.{mode_words}
 use Rattle.s2_receive.specs.declared.report.Received.{Received}
 use Rattle.s2_receive.specs.declared.report.Totals.{Totals}
 use Rattle.s2_scan.specs.Lines.{gain_of, is_usual}
-use Rattle.s2_scan.specs.Sightings.{amplitude_by}
+use Rattle.s2_scan.specs.Strength.{amplitude_by}
 use Rattle.s2_words.specs.declared.request.ExitBy.{ExitBy}
 use Rattle.s2_words.specs.declared.request.ExitBy.TheVariants as deciders
-use Rattle.s2_words.specs.declared.request.NoteWords.{NoteWords}
+use Rattle.s2_words.specs.declared.request.NoteArguments.{NoteArguments}
 use Rattle.s2_table.specs.Wanted.{fault_note}
 use Rattle.s2_console.specs.declared.exit.Exit.{Exit}
 use Rattle.s2_console.specs.declared.exit.Exit.TheVariants as exits
@@ -37,17 +37,17 @@ has_come deciders.Delivery r = all_delivered r.totals
 
 -- the exit of a stream that was received to its end: 0 if what decides it has come and, for a strict command, nothing
 -- was lost
-abbrev pub exit_by : NoteWords → Received → Exit
+abbrev pub exit_by : NoteArguments → Received → Exit
 exit_by words r = if has_come words.exit_by r && (not words.strict || (is_clean r.totals && not (no_sync r))) then exits.Fine else exits.No
 
 -- a number and a noun, which is plural unless the number is 1
 unfoldable pub counted : ℕ → List ℕ → List ℕ
 counted n noun = decimal n ++ (noun ++ (if nat_eq n 1 then [] else codes "s"))
 
--- N symbols passed over in M places, the first at S
+-- N symbols skipped in M places, the first at S
 unfoldable pub skipped_note : Totals → List ℕ
 skipped_note t =
-    (codes "s2: note: " ++ counted t.skipped (codes " symbol")) ++ (codes " passed over in " ++ counted t.places (codes " place")) ++ (codes ", the first at " ++ decimal t.first) ++ codes "\n"
+    (codes "s2: note: " ++ counted t.skipped (codes " symbol")) ++ (codes " skipped in " ++ counted t.places (codes " place")) ++ (codes ", the first at " ++ decimal t.first) ++ codes "\n"
 
 -- the end of the note that no frame was found: whether the mode has pilot blocks, the number of symbols, and advice
 unfoldable pub no_sync_end : Bool → ℕ → List ℕ
@@ -57,15 +57,15 @@ no_sync_end pilots symbols = ((if pilots then codes ", pilots in " else codes " 
 abbrev pub no_sync_note : Mode → ℕ → List ℕ
 no_sync_note m symbols = codes "s2: note: no frame of " ++ (mode_words m ++ no_sync_end m.pilots symbols)
 
--- N packets torn
+-- N packets incomplete
 unfoldable pub incomplete_note : Totals → List ℕ
-incomplete_note t = (codes "s2: note: " ++ counted t.incomplete (codes " packet")) ++ codes " torn\n"
+incomplete_note t = (codes "s2: note: " ++ counted t.incomplete (codes " packet")) ++ codes " incomplete\n"
 
 -- a note if this is so
 abbrev pub note_if : Bool → List ℕ → List ℕ
 note_if so note = if so then note else []
 
--- the notes of what was lost of a stream
+-- the notes on the losses of a stream
 abbrev pub loss_notes : Mode → Received → List ℕ
 loss_notes m r = note_if (not (nat_eq r.totals.skipped 0)) (skipped_note r.totals) ++ note_if (no_sync r) (no_sync_note m r.symbols) ++ note_if (not (nat_eq r.totals.incomplete 0)) (incomplete_note r.totals)
 
@@ -133,12 +133,12 @@ abbrev pub notes_of : (tuned : Bool) → Mode → Received → List ℕ
 notes_of tuned m r = loss_notes m r ++ frame_notes r.totals ++ advice tuned r.totals
 
 -- The end of a command that received this, and its notes. If their writer failed, that is its fault
-abbrev pub Answered : NoteWords → Mode → Result Received Fault → Result Exit Fault → List ℕ → Screen → Screen → Type 0
+abbrev pub Answered : NoteArguments → Mode → Result Received Fault → Result Exit Fault → List ℕ → Screen → Screen → Type 0
 Answered words m (Ok r) ended notes old new = (notes ≡ (if words.quiet then [] else notes_of words.tuned m r)) × ((ended ≡ Ok (exit_by words r)) ⊎ NotesLost notes ended old new)
 Answered words m (Err f) ended notes old new = (notes ≡ (if words.quiet then [] else fault_note m f)) × (ended ≡ Err f)
 
 -- The end of a command that received this, and its exit: its notes, and the line of a fault, are on the errors
-pub record Finishes (words : NoteWords) (m : Mode) (reception : Result Received Fault) (exit : Exit) (old new : Screen) : Type 0 where
+pub record Finishes (words : NoteArguments) (m : Mode) (reception : Result Received Fault) (exit : Exit) (old new : Screen) : Type 0 where
   pub ended : Result Exit Fault
   pub notes : List ℕ
   pub exit_is : exit ≡ exit_of ended

@@ -1,6 +1,6 @@
 -- What `demod` receives, writes and reports (own).
 use Rattle.std.specs.Prelude.{ℕ, Bool, Result, Ok, Err}
-use Rattle.s2_mode.specs.Limits.{max_symbols}
+use Rattle.s2_receive.specs.Limits.{max_symbols}
 use Rattle.s2_mode.specs.Mode.{Mode}
 use Rattle.s2_mode.specs.declared.stream_fault.StreamFault.TheVariants as stream_faults
 use Rattle.s2_rows.specs.Rows.{Rows}

@@ -31,7 +31,7 @@ refused_by refusal = Ok (Err refusal)
 
 -- ---- the note
 
--- where packet I, from 1 on, begins in packets of 188 bytes
+-- the position of packet I, counted from 1, if packets have 188 bytes
 abbrev pub packet_place : ℕ → ℕ
 packet_place packet = packet_bytes * (packet - 1)
 

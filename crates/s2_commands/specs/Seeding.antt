@@ -1,4 +1,4 @@
--- `run --seeds`: sent symbols are received once for each seed of a range (own).
+-- `run --seeds`: sent symbols are received once per seed of a range (own).
 use Rattle.std.specs.Prelude.{◌≡◌, ◌⊎◌, ℕ, zero, suc, ◌+◌, ◌<◌, List, Option, Some, Result, Ok, Err}
 use Rattle.std.specs.Io.KnownBytes.{Appends}
 use Rattle.s2_mode.specs.Pieces.{AppendsPart}
@@ -11,16 +11,17 @@ use Rattle.s2_console.specs.declared.fault.Fault.TheVariants as faults
 use Rattle.s2_commands.specs.declared.choices.Channel.{Channel}
 use Rattle.s2_words.specs.declared.request.Seeds.{Seeds}
 use Rattle.s2_commands.specs.Ends.{Ends}
-use Rattle.s2_commands.specs.Hearing.{kept_fault, Stops, hearing, Noised}
+use Rattle.s2_commands.specs.NoisyReception.{kept_fault, Stops, hearing, Noised}
 use Rattle.s2_commands.specs.Receptions.{ReceivesToEnd}
 use Rattle.s2_commands.specs.Sums.{nothing_received, received_sum, seeds_in, sums_line}
 
--- the symbols with noise are received, and written after what was written before
+-- the symbols with noise are received, and the result is appended to the output so far
 abbrev pub HearsNoisy : {K : Type 0} → (takes fails : Taking K) → Rules → List ℕ → Result Exit Fault → (old new : Ends K) → Result Received Fault → Type 0
 HearsNoisy takes fails rules noisy (Ok exit) old new ended = (left : Option (List ℕ)) × ReceivesToEnd takes fails rules (hearing (Some noisy) old) (hearing left new) ended
 HearsNoisy takes fails rules noisy (Err f) old new ended = Stops (kept_fault f) old new ended
 
--- the noise of a seed is added to the symbols, and the result is received by a new receiver; or there is no memory for it
+-- the noise of a seed is added to the symbols, and the result is received by a new receiver; or there is no memory for
+-- it
 abbrev pub HearsSeed : {K : Type 0} → (takes fails : Taking K) → Rules → Channel → List ℕ → (seed : ℕ) → (old new : Ends K) → Result Received Fault → Type 0
 HearsSeed takes fails rules channel symbols seed old new ended =
     Noised (record channel { seed = seed }) symbols (λ noisy added. HearsNoisy takes fails rules noisy added old new ended) ⊎ Stops faults.NoMemory old new ended
@@ -51,8 +52,8 @@ abbrev pub SeedsAnswer : {K : Type 0} → (takes fails : Taking K) → Rules →
 SeedsAnswer takes fails rules channel seeds symbols old new (Ok sum) = HearsSeeds takes fails rules channel symbols seeds.first (seeds_in seeds) old new sum
 SeedsAnswer takes fails rules channel seeds symbols old new (Err f) = FailsSeed takes fails rules channel seeds symbols old new f
 
--- All seeds of a range are received to the end, and then the line of their sum is printed. Or a seed is not received to the
--- end, which ends all
+-- All seeds of a range are received to the end, and then the line of their sum is printed. Or a seed is not received to
+-- the end, which ends all
 abbrev pub HearsRange : {K : Type 0} → (takes fails : Taking K) → Rules → Channel → Seeds → List ℕ → (old new : Ends K) → Result Received Fault → Type 0
 HearsRange {K} takes fails rules channel seeds symbols old new ended =
     ((mid : Ends K) × (sum : Received) × SeedsAnswer takes fails rules channel seeds symbols old mid (Ok sum) × PrintsSum seeds sum mid new ended)

@@ -19,7 +19,7 @@ use Rattle.s2_console.specs.Files.{Files, reporting}
 use Rattle.s2_console.specs.Notes.{Remarks}
 use Rattle.s2_console.specs.Screens.{Screen}
 use Rattle.s2_table.specs.Wanted.{fault_note}
-use Rattle.s2_words.specs.declared.request.ModWords.{ModWords}
+use Rattle.s2_words.specs.declared.request.ModArguments.{ModArguments}
 use Rattle.s2_commands.specs.Ends.{BeginsWith, CausesWith, Ends, ends_of}
 use Rattle.s2_commands.specs.Links.{LinkCommand, OnLink}
 use Rattle.s2_commands.specs.Refusals.{Sent, refused_by, refusal_fault, refusal_note, sent_by}
@@ -54,8 +54,8 @@ transmitter_on link dummy = record (new_transmitter link) { dummy_every = dummy 
 abbrev pub Modulates : {K : Type 0} → (takes fails : Taking K) → ℕ → LinkCommand (Ends K) (Sent Exit)
 Modulates takes fails dummy link begun old new ended = BeginsWith (SendsBy takes fails (transmitter_on link dummy)) begun old new ended
 
--- The exit of a command that ended so, with the line of a fault on the errors. Before it come the note on a refused packet,
--- or on the rows that the mode wants, unless notes are left out
+-- The exit of a command that ended so, with the line of a fault on the errors. Before it come the note on a refused
+-- packet, or on the rows that the mode needs, unless notes are suppressed
 abbrev pub Concludes : (quiet : Bool) → Mode → Result (Sent Exit) Fault → Exit → Screen → Screen → Type 0
 Concludes quiet m (Ok (Ok made)) exit old new = (exit ≡ made) × Remarks [] (Ok made) old new
 Concludes quiet m (Ok (Err refusal)) exit old new =
@@ -63,7 +63,7 @@ Concludes quiet m (Ok (Err refusal)) exit old new =
 Concludes quiet m (Err f) exit old new = (exit ≡ exits.Fault) × Remarks (if quiet then [] else fault_note m f) (Err f) old new
 
 -- `mod` has ended with this exit on its files and its sinks; the note and the line of a fault are on the errors
-abbrev pub ModExits : {K : Type 0} → (takes fails : Taking K) → (count : K → ℕ) → Setup → ModWords → ((quiet : Bool) → Mode → Result Rows Fault → Type 0) → Files → Files → K → K → Screen → Screen → Exit → Type 0
+abbrev pub ModExits : {K : Type 0} → (takes fails : Taking K) → (count : K → ℕ) → Setup → ModArguments → ((quiet : Bool) → Mode → Result Rows Fault → Type 0) → Files → Files → K → K → Screen → Screen → Exit → Type 0
 ModExits takes fails count setup words Noted files left sinks_old sinks_new old new exit =
     (ended : Result (Sent Exit) Fault)
     × OnLink (Modulates takes fails words.dummy) (CausesWith count) (Noted words.quiet setup.mode) setup files left (ends_of (reporting files old) sinks_old) (ends_of (reporting left new) sinks_new) ended

@@ -12,7 +12,13 @@ abbrev pub figures_sum : Option Sums → Option Sums → Option Sums
 figures_sum None later = later
 figures_sum (Some s) None = Some s
 figures_sum (Some s) (Some t) =
-    Some (record { changed = tally_sum s.changed t.changed; known = tally_sum s.known t.known; payload = tally_sum s.payload t.payload })
+    Some (record {
+      changed = tally_sum s.changed t.changed;
+      known = tally_sum s.known t.known;
+      payload = tally_sum s.payload t.payload;
+      known_power = saturated s.known_power t.known_power;
+      payload_power = saturated s.payload_power t.payload_power;
+    })
 
 -- The totals of both. Each number is at most 2 ^ 64 - 1. The first skipped symbol is that of the first reception that has
 -- one

@@ -1,30 +1,30 @@
-//! What a command is asked for, besides its link and its files.
+//! The options of a command, apart from its link and its files.
 use s2_channel::Strength;
 use s2_tuning::Tuning;
-use s2_words::{NoteWords, Seeds};
+use s2_words::{NoteArguments, Seeds};
 
-/// A channel: the seed of its noise, and how strong that is.
+/// A channel: the seed and the strength of its noise.
 #[derive(Clone, Copy)]
 pub struct Channel {
     pub seed: u64,
     pub strength: Strength,
 }
 
-/// What `demod` is asked for, besides its link and its files.
+/// The options of `demod`, apart from its link and its files.
 #[derive(Clone, Copy)]
 pub struct DemodOptions {
     pub tuning: Tuning,
-    pub notes: NoteWords,
+    pub notes: NoteArguments,
 }
 
-/// What `run` is asked for, besides its link and its files: the number of frames between dummy frames (0 for none), the
-/// tuning, a channel, the seeds of its runs if there are many (the channel's seed is then the first of them), and the
-/// notes.
+/// The options of `run`, apart from its link and its files. They are the number of frames between dummy frames (0 for
+/// none), the tuning, a channel, a range of seeds if there are several runs, and the notes. The channel has the first
+/// seed of the range.
 #[derive(Clone, Copy)]
 pub struct RunOptions {
     pub dummy: u16,
     pub tuning: Tuning,
     pub channel: Channel,
     pub seeds: Option<Seeds>,
-    pub notes: NoteWords,
+    pub notes: NoteArguments,
 }

@@ -13,7 +13,7 @@ ghost use Rattle.s2_commands.specs.Receptions.{ReceivesToEnd, Demodulates, Demod
 
 use crate::choices::DemodOptions;
 use crate::link_files::LinkFiles;
-use crate::losses::conclude_reception;
+use crate::losses::finish_reception;
 use s2_console::{Console, Exit, Fault};
 use s2_files::{Destination, Output};
 use s2_link::{Link, LinkSetup};
@@ -114,13 +114,18 @@ fn receive_files<K: Sink, R: CountedRead, W: Output, O: CountedWrite, E: Counted
     }
 }
 
-/// `demod`: receives the frames of a link to the end of the symbols, writes their packets, and prints a line
-/// for each frame when it comes, for a cut one, and for the end. The sinks take each frame before its packets and its line
-/// are written; if they fail, nothing of that frame is. Lines and packets are not held back: after a fault those of earlier
-/// frames are written. `No` if a frame was not delivered, was cut, or its bits are not known to be most likely; by delivery,
-/// if a frame was not delivered or was cut, or symbols were skipped; with `strict` also if something was lost. Notes on losses are written to the errors after the report, unless they are left
-/// out; the note on rows that are not the standard's is written to `notes` before it. The packets' file is begun when the
-/// rows are accepted and there is memory. Until then the sinks are unchanged. At most one call of them fails.
+/// `demod`: receives the frames of a link to the end of the symbols, writes their packets, and prints a line for each
+/// frame when it comes, for a cut one, and for the end. The sinks take each frame before its packets and its line are
+/// written; if they fail, nothing of that frame is. Lines and packets are not held back: after a fault those of earlier
+/// frames are written.
+///
+/// The exit is `No` if a frame was not delivered, was cut, or its bits are not proved most likely. By delivery, it is
+/// `No` if a frame was not delivered or was cut, or symbols were skipped. With `strict` it is also `No` if something was
+/// lost.
+///
+/// Notes on losses are written to the errors after the report, unless notes are suppressed. The note on rows that are not
+/// the standard's is written to `notes` before the report. The packets' file is begun when the rows are accepted and there
+/// is memory. Until then the sinks are unchanged. At most one call of them fails.
 pub fn demod_command<K: Sink, R: CountedRead, W: Output, O: CountedWrite, E: CountedWrite>(
     alloc: Global,
     setup: LinkSetup,
@@ -141,5 +146,5 @@ pub fn demod_command<K: Sink, R: CountedRead, W: Output, O: CountedWrite, E: Cou
     ensures few { K.count sinks.new ≤ K.count sinks.old + 1 }
 {
     let reception = receive_files(alloc, setup, words, files, sinks, console, notes);
-    conclude_reception(words.notes, &setup.mode, reception, console)
+    finish_reception(words.notes, &setup.mode, reception, console)
 }

@@ -3,7 +3,7 @@
 //!
 //! A command is a public function over its files ([`LinkFiles`]), a console for its report and its faults, and a writer of
 //! notes. It opens no file. Its clause `run` says what it writes to each of them, which fault it reports with which exit,
-//! and whether it begins its output. If a call fails, its fault is reported once, and what was written is a part of that.
+//! and whether it begins its output. If a call fails, its fault is reported once, and a first part of the output is written.
 //!
 //! ```
 //! let mut files = LinkFiles { rows, from: symbols, to: Destination::new(packets) };
@@ -15,11 +15,11 @@ mod advice;
 mod choices;
 mod demod;
 mod frame_notes;
-mod hearing;
 mod link_files;
 mod losses;
 mod modulate;
 mod noise;
+mod noisy_reception;
 mod refusals;
 mod rows;
 mod run;

@@ -11,7 +11,7 @@ use s2_console::{Console, Exit, Fault, Line};
 use s2_mode::{CountedWrite, HEADER_SYMBOLS, Mode, WriteFault, write_full};
 use s2_receive::{Received, Totals};
 use s2_table::{report_noted, write_note};
-use s2_words::{ExitBy, NoteWords};
+use s2_words::{ExitBy, NoteArguments};
 
 /// Whether no frame was found, nor a cut one, in enough symbols for a header.
 fn no_sync(received: Received) -> bool
@@ -45,7 +45,7 @@ fn has_come(decider: ExitBy, received: Received) -> bool
 }
 
 /// The exit of a stream that was received to its end.
-fn exit_by(words: NoteWords, received: Received) -> Exit
+fn exit_by(words: NoteArguments, received: Received) -> Exit
     ensures { result ≡ exit_by words received }
 {
     if has_come(words.exit_by, received)
@@ -78,7 +78,7 @@ fn skipped_note(totals: Totals) -> Line
 {
     let mut line = Line::new();
     push_counted(&mut line, "s2: note: ", totals.skipped, " symbol");
-    push_counted(&mut line, " passed over in ", totals.places, " place");
+    push_counted(&mut line, " skipped in ", totals.places, " place");
     line.push_number(", the first at ", totals.first);
     line.push("\n");
     line
@@ -91,7 +91,7 @@ fn incomplete_note(totals: Totals) -> Line
 {
     let mut line = Line::new();
     push_counted(&mut line, "s2: note: ", totals.incomplete, " packet");
-    line.push(" torn\n");
+    line.push(" incomplete\n");
     line
 }
 
@@ -161,7 +161,7 @@ fn write_incomplete<W: CountedWrite>(totals: Totals, out: &mut W) -> Result<(), 
     write_full(out, incomplete_note(totals).as_bytes())
 }
 
-/// Writes the notes of what was lost of a stream.
+/// Writes the notes on the losses of a stream.
 #[tactic(auto, using(crate::proofs::NoteLemmas::both_empty))]
 fn write_loss_notes<W: CountedWrite>(
     mode: &Mode,
@@ -198,8 +198,8 @@ fn write_notes<W: CountedWrite>(
 
 /// The exit of a command after its reception. Its notes are written, unless they are left out. A fault is reported. If
 /// a note cannot be written, that is the fault.
-pub(crate) fn conclude_reception<O: CountedWrite, E: CountedWrite>(
-    words: NoteWords,
+pub(crate) fn finish_reception<O: CountedWrite, E: CountedWrite>(
+    words: NoteArguments,
     mode: &Mode,
     reception: Result<Received, Fault<'_>>,
     console: &mut Console<O, E>,
@@ -214,7 +214,7 @@ pub(crate) fn conclude_reception<O: CountedWrite, E: CountedWrite>(
         Ok(received) if words.quiet => exit_by(words, received),
         Ok(received) => match write_notes(words.tuned, mode, received, &mut console.errors) {
             Ok(()) => exit_by(words, received),
-            Err(_) => console.complain(Fault::Write),
+            Err(_) => console.report_fault(Fault::Write),
         },
         Err(fault) => report_noted(words.quiet, mode, fault, console),
     }

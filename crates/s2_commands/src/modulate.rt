@@ -17,7 +17,7 @@ use s2_link::{Link, LinkSetup};
 use s2_mode::{CountedRead, CountedWrite, Mode};
 use s2_send::{Counts, SendSink, Transmitter};
 use s2_table::{read_noted, report_noted};
-use s2_words::ModWords;
+use s2_words::ModArguments;
 use std::alloc::Global;
 
 /// The line of a run's counts. It takes no memory, so that memory cannot run out once frames are written.
@@ -86,7 +86,7 @@ fn send_begun<K: SendSink, S: CountedRead, W: Output, O: CountedWrite>(
 fn send_files<K: SendSink, R: CountedRead, W: Output, O: CountedWrite, E: CountedWrite>(
     alloc: Global,
     setup: LinkSetup,
-    words: &ModWords<'_>,
+    words: &ModArguments<'_>,
     files: &mut LinkFiles<R, W>,
     sinks: &mut K,
     console: &mut Console<O, E>,
@@ -120,7 +120,7 @@ fn send_files<K: SendSink, R: CountedRead, W: Output, O: CountedWrite, E: Counte
 }
 
 /// The exit of a command that ended so. A refusal or a fault is reported after its note.
-fn conclude_sending<O: CountedWrite, E: CountedWrite>(
+fn finish_sending<O: CountedWrite, E: CountedWrite>(
     quiet: bool,
     mode: &Mode,
     ended: Ended<Exit>,
@@ -148,7 +148,7 @@ fn conclude_sending<O: CountedWrite, E: CountedWrite>(
 pub fn mod_command<K: SendSink, R: CountedRead, W: Output, O: CountedWrite, E: CountedWrite>(
     alloc: Global,
     setup: LinkSetup,
-    words: &ModWords<'_>,
+    words: &ModArguments<'_>,
     files: &mut LinkFiles<R, W>,
     sinks: &mut K,
     console: &mut Console<O, E>,
@@ -165,5 +165,5 @@ pub fn mod_command<K: SendSink, R: CountedRead, W: Output, O: CountedWrite, E: C
     ensures few { K.count sinks.new ≤ K.count sinks.old + 1 }
 {
     let ended = send_files(alloc, setup, words, files, sinks, console, notes);
-    conclude_sending(words.quiet, &setup.mode, ended, console)
+    finish_sending(words.quiet, &setup.mode, ended, console)
 }

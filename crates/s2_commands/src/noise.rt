@@ -66,5 +66,5 @@ pub fn noise_command<R: CountedRead, W: Output, O: CountedWrite, E: CountedWrite
         (ends from.old to.old.to) (ends from.new to.new.to) console.old console.new result }
 {
     let ended = add_noise_begun(channel, from, to);
-    console.conclude(ended)
+    console.finish(ended)
 }

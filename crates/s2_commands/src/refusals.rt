@@ -10,8 +10,8 @@ use s2_console::{Console, Exit, Fault, Line};
 use s2_mode::{CountedWrite, write_full};
 use s2_send::SendFault;
 
-/// How a command on packets ends: what it made of them, or the refusal of a packet. A fault is of its rows, its memory or
-/// its streams.
+/// How a command on packets ends: what it made of them, or the refusal of a packet. A fault is of its rows, its memory
+/// or its streams.
 pub(crate) type Ended<T> = Result<Result<T, SendFault>, Fault<'static>>;
 
 /// The fault of a refusal.
@@ -48,7 +48,7 @@ pub(crate) fn refused_by<T: Drop>(refusal: SendFault) -> Ended<T>
     }
 }
 
-/// Where packet I, from 1 on, begins in packets of 188 bytes.
+/// The position of packet I, counted from 1, if packets have 188 bytes.
 fn packet_place(packet: u64) -> u128
     ensures { result ≡ packet_place packet }
 {
@@ -78,7 +78,7 @@ fn packet_note(packet: u64, hint: &str) -> Line
     line
 }
 
-/// Writes the note on a refusal, unless notes are left out. One that cannot be written is lost.
+/// Writes the note on a refusal, unless notes are suppressed. One that cannot be written is lost.
 #[tactic(auto, unfolding(crate::specs::Refusals::packet_note))]
 fn note_refusal<W: CountedWrite>(quiet: bool, refusal: SendFault, out: &mut W)
     requires { CanCount (W.count out.old) }
@@ -94,7 +94,7 @@ fn note_refusal<W: CountedWrite>(quiet: bool, refusal: SendFault, out: &mut W)
     }
 }
 
-/// Reports a refusal, and before it its note, unless notes are left out.
+/// Reports a refusal, and before it its note, unless notes are suppressed.
 pub(crate) fn report_refusal<O: CountedWrite, E: CountedWrite>(
     quiet: bool,
     refusal: SendFault,
@@ -106,5 +106,5 @@ pub(crate) fn report_refusal<O: CountedWrite, E: CountedWrite>(
     ensures reported { Remarks (if quiet then [] else refusal_note refusal) (Err (refusal_fault refusal)) console.old console.new }
 {
     note_refusal(quiet, refusal, &mut console.errors);
-    console.complain(fault_of(refusal))
+    console.report_fault(fault_of(refusal))
 }

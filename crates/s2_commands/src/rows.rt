@@ -68,5 +68,5 @@ pub fn rows_command<O: CountedWrite, E: CountedWrite>(
     ensures run { RowsExits shape weight seed console.old console.new result }
 {
     let ended = print_rows(alloc, shape, weight, seed, &mut console.output);
-    console.conclude(ended)
+    console.finish(ended)
 }

@@ -3,19 +3,19 @@ ghost use Rattle.std.specs.Prelude.{◌≡◌, ◌≢◌, ◌+◌, ◌≤◌, []
 ghost use Rattle.s2_mode.specs.Counts.{CanCount};
 ghost use Rattle.s2_mode.specs.Streams.{streams_by};
 ghost use Rattle.s2_link.specs.Link.{setup_of};
-ghost use Rattle.s2_mode.specs.Limits.{max_symbols};
+ghost use Rattle.s2_receive.specs.Limits.{max_symbols};
 ghost use Rattle.s2_modem.specs.Reception.{link_rules};
 ghost use Rattle.s2_console.specs.Files.{CanStart, reporting};
 ghost use Rattle.s2_console.specs.Screens.{CanNote};
 ghost use Rattle.s2_commands.specs.Ends.{CausesWith, ends_of};
-ghost use Rattle.s2_commands.specs.Hearing.{written_by};
+ghost use Rattle.s2_commands.specs.NoisyReception.{written_by};
 ghost use Rattle.s2_commands.specs.Links.{OnLink, noted_by};
 ghost use Rattle.s2_commands.specs.Looping.{FinishesRun, LoopsBy, Loops, ReceivesRuns, RunExits, refused_in_memory};
 
 use crate::choices::RunOptions;
-use crate::hearing::receive_noisy;
 use crate::link_files::LinkFiles;
-use crate::losses::conclude_reception;
+use crate::losses::finish_reception;
+use crate::noisy_reception::receive_noisy;
 use crate::refusals::{Ended, refused_by, report_refusal, sent_by};
 use crate::seeds::receive_range;
 use s2_console::{Console, Exit, Fault};
@@ -25,7 +25,7 @@ use s2_mode::{CountedRead, CountedWrite, Counting, Mode};
 use s2_receive::{Received, Sink};
 use s2_send::{SendFault, Transmitter};
 use s2_table::read_noted;
-use s2_words::NoteWords;
+use s2_words::NoteArguments;
 use std::alloc::Global;
 
 /// How a refusal ends a command that sends into memory.
@@ -145,8 +145,8 @@ fn loop_files<K: Sink, R: CountedRead, W: Output, O: CountedWrite, E: CountedWri
 }
 
 /// The exit of a command that heard this. A refusal is reported after its note.
-fn conclude_run<O: CountedWrite, E: CountedWrite>(
-    words: NoteWords,
+fn finish_run<O: CountedWrite, E: CountedWrite>(
+    words: NoteArguments,
     mode: &Mode,
     ended: Ended<Received>,
     console: &mut Console<O, E>,
@@ -158,9 +158,9 @@ fn conclude_run<O: CountedWrite, E: CountedWrite>(
     ensures finishes { FinishesRun words mode.now ended.entry result console.old console.new }
 {
     match ended {
-        Ok(Ok(received)) => conclude_reception(words, mode, Ok(received), console),
+        Ok(Ok(received)) => finish_reception(words, mode, Ok(received), console),
         Ok(Err(refusal)) => report_refusal(words.quiet, refusal, console),
-        Err(fault) => conclude_reception(words, mode, Err(fault), console),
+        Err(fault) => finish_reception(words, mode, Err(fault), console),
     }
 }
 
@@ -192,5 +192,5 @@ pub fn run_command<K: Sink, R: CountedRead, W: Output, O: CountedWrite, E: Count
     ensures few { K.count sinks.new ≤ K.count sinks.old + 1 }
 {
     let ended = loop_files(alloc, setup, words, files, sinks, console, notes);
-    conclude_run(words.notes, &setup.mode, ended, console)
+    finish_run(words.notes, &setup.mode, ended, console)
 }

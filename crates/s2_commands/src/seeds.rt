@@ -1,16 +1,16 @@
-//! `run --seeds`: receives sent symbols once for each seed of a range.
+//! `run --seeds`: receives sent symbols once per seed of a range.
 ghost use Rattle.std.specs.Prelude.{◌≡◌, ◌+◌, ◌≤◌, false};
 ghost use Rattle.s2_mode.specs.Counts.{CanCount};
-ghost use Rattle.s2_mode.specs.Limits.{max_symbols};
+ghost use Rattle.s2_receive.specs.Limits.{max_symbols};
 ghost use Rattle.s2_modem.specs.Reception.{link_rules};
 ghost use Rattle.s2_commands.specs.Ends.{BeginsWith, CausesWith, ends_of};
-ghost use Rattle.s2_commands.specs.Hearing.{written_by};
+ghost use Rattle.s2_commands.specs.NoisyReception.{written_by};
 ghost use Rattle.s2_commands.specs.Seeding.{HearsRange, HearsSeed, SeedsAnswer};
 
 use crate::choices::{Channel, RunOptions};
 use crate::demod::receive_to_end;
-use crate::hearing::kept_fault;
 use crate::noise::add_noise;
+use crate::noisy_reception::kept_fault;
 use crate::sums::{nothing_received, received_sum, sums_line};
 use s2_console::Fault;
 use s2_files::{Destination, Output};
@@ -129,7 +129,8 @@ fn sum_seeds<K: Sink, W: CountedWrite, O: CountedWrite>(
     }
 }
 
-/// Begins the output, receives symbols with the noise of each seed of a range, in order, and prints the line of the sum.
+/// Begins the output, receives symbols with the noise of each seed of a range, in order, and prints the line of the
+/// sum.
 pub(crate) fn receive_range<K: Sink, W: Output, O: CountedWrite>(
     alloc: Global,
     link: &Link<'_>,

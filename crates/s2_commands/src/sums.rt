@@ -53,6 +53,8 @@ fn figures_sum(first: Option<Sums>, later: Option<Sums>) -> Option<Sums>
             changed: tally_sum(first.changed, later.changed),
             known: tally_sum(first.known, later.known),
             payload: tally_sum(first.payload, later.payload),
+            known_power: first.known_power.saturating_add(later.known_power),
+            payload_power: first.payload_power.saturating_add(later.payload_power),
         }),
     }
 }

@@ -1,8 +1,8 @@
--- Lines in the making (own).
+-- Lines that are being built (own).
 use Rattle.std.specs.Prelude.{◌≡◌, ℕ}
 use Rattle.s2_console.specs.declared.line.TheConstants.{LINE_ROOM}
 
--- the most bytes of a line
+-- the maximum length of a line in bytes
 abbrev pub line_room : ℕ
 line_room = 512
 

@@ -9,7 +9,7 @@ use crate::fault::{Fault, write_fault};
 use s2_mode::CountedWrite;
 use std::marker::Model;
 
-/// The output of a command, and its errors. To contracts it is the contents of both, and how many calls of
+/// The output of a command, and its errors. In contracts, it is the contents of both, and how many calls of
 /// each have failed.
 #[derive(Drop)]
 pub struct Console<O: CountedWrite, E: CountedWrite> {
@@ -33,7 +33,7 @@ impl<O: CountedWrite, E: CountedWrite> Console<O, E> {
     }
 
     /// Prints a fault's line on the errors. If the line cannot be written, nothing more is done.
-    pub fn complain(&mut self, fault: Fault<'_>) -> Exit
+    pub fn report_fault(&mut self, fault: Fault<'_>) -> Exit
         requires { CanCount self.old.errors_failed }
         ensures exit { result ≡ Exit.Fault }
         ensures output { self.new.output ≡ self.old.output }
@@ -46,7 +46,7 @@ impl<O: CountedWrite, E: CountedWrite> Console<O, E> {
     }
 
     /// The exit of a command with this result. A fault's line is printed on the errors.
-    pub fn conclude(&mut self, ended: Result<Exit, Fault<'_>>) -> Exit
+    pub fn finish(&mut self, ended: Result<Exit, Fault<'_>>) -> Exit
         requires { CanCount self.old.errors_failed }
         ensures exit { result ≡ exit_of ended.entry }
         ensures fine { result ≢ Exit.Fault → IsOk ended.entry }
@@ -57,7 +57,7 @@ impl<O: CountedWrite, E: CountedWrite> Console<O, E> {
     {
         match ended {
             Ok(exit) => exit,
-            Err(fault) => self.complain(fault),
+            Err(fault) => self.report_fault(fault),
         }
     }
 }

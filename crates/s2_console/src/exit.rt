@@ -8,11 +8,11 @@ use std::process::ExitCode;
 /// How a command ends.
 #[derive(Clone, Copy, Debug, PartialEq, Eq)]
 pub enum Exit {
-    /// All went well.
+    /// Success.
     Fine,
-    /// A usage fault, or a fault whose line is on standard error.
+    /// A usage error, or an error reported on standard error.
     Fault,
-    /// The answer is no, or a word is not known to be most likely.
+    /// The answer is no, or a word is not proved most likely.
     No,
 }
 

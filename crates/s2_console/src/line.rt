@@ -6,10 +6,10 @@ use arrayvec::ArrayString;
 use itoa::{Buffer, Integer};
 use std::marker::Model;
 
-/// The most bytes of a line.
+/// The maximum length of a line in bytes.
 pub const LINE_ROOM: usize = 512;
 
-/// A line in the making. Its value is its bytes. It takes no memory, so a command that has done its work can
+/// A line that is being built. Its value is its bytes. It takes no memory, so a command that has done its work can
 /// always report it.
 pub struct Line {
     text: ArrayString<LINE_ROOM>,

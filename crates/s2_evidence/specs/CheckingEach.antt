@@ -45,20 +45,21 @@ abbrev pub AreRowsRefused : Option (List ℕ) → Option (List ℕ) → Option (
 AreRowsRefused known before after fault = IfSome known (λ xs. (taken xs ≡ Err fault)
     ⊎ ((file : File) × TakesPiece before after (Ok (Some file)) × (rows_in file.shape xs ≡ Err fault)))
 
--- why no more lines are printed if no writer failed: a fault of the next certificate, refused rows, or too many certificates
+-- why no more lines are printed if no writer failed: a fault of the next certificate, refused rows, or too many
+-- certificates
 abbrev pub Stops : Option (List ℕ) → Option (List ℕ) → Option (List ℕ) → List File → Fault → Type 0
 Stops known before after files fault = TakesPiece before after (Err fault)
     ⊎ (((files ≡ []) × AreRowsRefused known before after fault) ⊎ ((length files ≡ max_each) × (fault ≡ faults.TooLong)))
 
--- What came after the lines of these certificates: the end of the file, and the exit is theirs; or a line of which a
--- part is printed; or a fault, and no more is printed
+-- After the lines of these certificates comes the end of the file, and the exit is theirs. Or only a first part of the
+-- next line is printed. Or a fault comes, and no more is printed
 abbrev pub EndsEach : Option (List ℕ) → Option (List ℕ) → Option (List ℕ) → Rows → List File → Exit → Option (List ℕ) → Option (List ℕ) → Result Exit Fault → Type 0
 EndsEach known before after rows files exit old new (Ok ended) = (ended ≡ exit) × TakesPiece before after (Ok None) × (new ≡ old)
 EndsEach known before after rows files exit old new (Err faults.Write) = CutLine known before after rows files old new
 EndsEach known before after rows files exit old new (Err fault) = Stops known before after files fault × (new ≡ old)
 
--- `check --each` on a row file with these bytes and a file of certificates. It printed the line of each certificate that
--- was read, before the next one was read
+-- `check --each` on a row file with these bytes and a file of certificates. It printed the line of each certificate
+-- that was read, before the next one was read
 pub record ChecksEach (known before after : Option (List ℕ)) (ended : Result Exit Fault) (old new : Option (List ℕ)) : Type 0 where
   pub rows : Rows
   pub files : List File
@@ -69,7 +70,8 @@ pub record ChecksEach (known before after : Option (List ℕ)) (ended : Result E
   pub rows_are : AreRowsFor known files rows
   pub ends : EndsEach known read_to after rows files exit printed_to new ended
 
--- `check --each` has ended: it ran on its files, only failed calls were counted, and the line of a fault is on the errors
+-- `check --each` has ended: it ran on its files, only failed calls were counted, and the line of a fault is on the
+-- errors
 abbrev pub CheckEachExits : Option (List ℕ) → Option (List ℕ) → Option (List ℕ) → Screen → Screen → Exit → ℕ → ℕ → Type 0
 CheckEachExits rows certificates certificates_after old new exit reads reads_after =
     (ended : Result Exit Fault) × (exit ≡ exit_of ended) × ChecksEach rows certificates certificates_after ended old.output new.output

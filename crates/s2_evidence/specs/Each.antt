@@ -3,7 +3,7 @@ use Rattle.std.specs.Prelude.{◌≡◌, ℕ, List, [], ◌∷◌, ◌++◌}
 use Rattle.s2_console.specs.declared.exit.Exit.{Exit}
 use Rattle.s2_console.specs.declared.exit.Exit.TheVariants as exits
 
--- the most inputs of one run
+-- the maximum number of inputs of one run
 abbrev pub max_each : ℕ
 max_each = 4294967296
 

@@ -1,4 +1,4 @@
--- Certificates one after another, cut where their headers say (own).
+-- Certificates one after another; the header of each determines its length (own).
 use Rattle.std.specs.Prelude.{◌≡◌, ◌≢◌, ℕ, List, [], Option, Some, None, Result, Ok, Err}
 use Rattle.std.specs.Io.KnownBytes.{Consumes, IsAtEnd}
 use Rattle.s2_certfile.specs.File.{File}
@@ -13,7 +13,7 @@ use Rattle.s2_evidence.specs.Checking.{certificate_said}
 abbrev pub head_bytes : ℕ
 head_bytes = 17
 
--- the most bytes of a certificate: version 1, 64800 bits, 1,555,200 shares
+-- the maximum length of a certificate in bytes: version 1, 64800 bits, 1,555,200 shares
 abbrev pub max_piece : ℕ
 max_piece = 6358517
 

@@ -124,5 +124,5 @@ pub fn check_command<R: CountedRead, O: CountedWrite, E: CountedWrite>(
         (R.count rows.old + R.count certificate.old) (R.count rows.new + R.count certificate.new) }
 {
     let ended = print_check(alloc, rows, certificate, &mut console.output);
-    console.conclude(ended)
+    console.finish(ended)
 }

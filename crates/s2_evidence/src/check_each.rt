@@ -147,5 +147,5 @@ pub fn check_each_command<R: CountedRead, O: CountedWrite, E: CountedWrite>(
         (R.count rows.old + R.count certificates.old) (R.count rows.new + R.count certificates.new) }
 {
     let ended = print_checks(alloc, rows, certificates, &mut console.output);
-    console.conclude(ended)
+    console.finish(ended)
 }

@@ -20,7 +20,7 @@ pub(crate) fn piece_room(alloc: Global) -> Result<Vec<u8>, Fault<'static>>
     vec![in alloc; 0u8; MAX_PIECE].map_err(|_| Fault::NoMemory)
 }
 
-/// Reads on, from one place of a buffer to another. Returns the place where the bytes end, which is before that only at
+/// Reads on, from one place of a buffer to another. Returns the end of the bytes, which is before that place only at
 /// the end of the reader.
 fn read_on<R: CountedRead>(
     reader: &mut R,

@@ -1,4 +1,4 @@
-//! How long a certificate is, by its header.
+//! The length of a certificate, from its header.
 ghost use Rattle.std.specs.Prelude.{◌≡◌, ◌+◌, ◌≤◌, List, ℕ, length, take, drop};
 ghost use Rattle.std.specs.Int.{w16, w32, from_be_bytes};
 ghost use Rattle.s2_evidence.specs.Pieces.{IsPiece, head_bytes, max_piece};
@@ -9,7 +9,7 @@ use s2_mode::Shape;
 /// The bytes of the longer header, that of version 1. Every certificate has more.
 pub(crate) const HEAD_BYTES: usize = 17;
 
-/// The most bytes of a certificate.
+/// The maximum length of a certificate in bytes.
 pub(crate) const MAX_PIECE: usize = 6_358_517;
 
 /// The number of two bytes at a place.
@@ -32,8 +32,8 @@ fn number32(bytes: &[u8], at: usize) -> usize
     u32::from_be_bytes([number[0], number[1], number[2], number[3]]) as usize
 }
 
-/// How many bytes a certificate has that begins with these, by its header. If the header is refused, no more are
-/// needed.
+/// The length of a certificate that begins with these bytes, from its header. If the header is refused, no more bytes
+/// are needed.
 pub(crate) fn piece_size(head: &[u8]) -> usize
     requires { length head.now ≡ head_bytes }
     ensures piece { (bytes : List ℕ) (missing : ℕ) → take head_bytes bytes ≡ head.now → head_bytes ≤ length bytes → length bytes + missing ≡ result → IsPiece bytes missing }

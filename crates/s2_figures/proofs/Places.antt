@@ -12,7 +12,7 @@ use Rattle.s2_figures.proofs.Sums.{summed, chosen, chosen_is, ones, none_pass, a
 
 -- ---- one place
 
-in_header : (m : Mode) (i : ℕ) → i < 90 → is_known m i ≡ true
+pub in_header : (m : Mode) (i : ℕ) → i < 90 → is_known m i ≡ true
 in_header m i below = rw (lt-ltb i 90 below) refl
 
 past_header : (m : Mode) (i : ℕ) → 90 ≤ i → is_known m i ≡ (m.pilots && nat_le 1440 ((i - 90) % 1476))
@@ -24,14 +24,14 @@ with_pilots m i e above = past_header m i above ∙ ap (λ b. b && nat_le 1440 (
 no_pilots : (m : Mode) (i : ℕ) → m.pilots ≡ false → 90 ≤ i → is_known m i ≡ false
 no_pilots m i e above = past_header m i above ∙ ap (λ b. b && nat_le 1440 ((i - 90) % 1476)) e
 
-in_slots : (m : Mode) (block k : ℕ) → m.pilots ≡ true → k < 1440 → is_known m (90 + 1476 * block + k) ≡ false
+pub in_slots : (m : Mode) (block k : ℕ) → m.pilots ≡ true → k < 1440 → is_known m (90 + 1476 * block + k) ≡ false
 in_slots m block k e lt =
     let i = 90 + 1476 * block + k in
     let above : 90 ≤ i = omega arith in
     let column : (i - 90) % 1476 < 1440 = omega arith in
     with_pilots m i e above ∙ lt-leb 1440 ((i - 90) % 1476) column
 
-in_block : (m : Mode) (block k : ℕ) → m.pilots ≡ true → k < 36 → is_known m (90 + 1476 * block + 1440 + k) ≡ true
+pub in_block : (m : Mode) (block k : ℕ) → m.pilots ≡ true → k < 36 → is_known m (90 + 1476 * block + 1440 + k) ≡ true
 in_block m block k e lt =
     let i = 90 + 1476 * block + 1440 + k in
     let above : 90 ≤ i = omega arith in
@@ -70,7 +70,7 @@ has_pilots m block is lt = by m.pilots refl
     by false e = let none : pilot_blocks_of m ≡ 0 = (frame_sizes m is).no_blocks e in absurd (omega arith)
 
 -- after the last block none is known
-rest_unknown : (m : Mode) (k : ℕ) → IsMode m → 90 + 1476 * pilot_blocks_of m + k < symbols_in m → is_known m (90 + 1476 * pilot_blocks_of m + k) ≡ false
+pub rest_unknown : (m : Mode) (k : ℕ) → IsMode m → 90 + 1476 * pilot_blocks_of m + k < symbols_in m → is_known m (90 + 1476 * pilot_blocks_of m + k) ≡ false
 rest_unknown m k is lt = by m.pilots refl
   where
     by : (pilots : Bool) → m.pilots ≡ pilots → is_known m (90 + 1476 * pilot_blocks_of m + k) ≡ false

@@ -17,7 +17,7 @@ chosen p f (suc n) = chosen p f n + cond (p n) (f n) 0
 
 -- ---- they are sums over ranges
 
-range_more : (a n : ℕ) → range_with_len a (suc n) ≡ range_with_len a n ++ ((a + n) ∷ [])
+pub range_more : (a n : ℕ) → range_with_len a (suc n) ≡ range_with_len a n ++ ((a + n) ∷ [])
 range_more a zero =
     let e : a ≡ a + 0 = omega arith in
     ap (λ k. k ∷ []) e
@@ -25,7 +25,7 @@ range_more a (suc n) =
     let e : a + 1 + n ≡ a + suc n = omega arith in
     ap (λ ks. a ∷ ks) (range_more (a + 1) n) ∙ ap (λ k. a ∷ (range_with_len (a + 1) n ++ (k ∷ []))) e
 
-from_none : (n : ℕ) → range_with_len 0 (suc n) ≡ range_with_len 0 n ++ (n ∷ [])
+pub from_none : (n : ℕ) → range_with_len 0 (suc n) ≡ range_with_len 0 n ++ (n ∷ [])
 from_none n =
     let e : 0 + n ≡ n = omega arith in
     range_more 0 n ∙ ap (λ k. range_with_len 0 n ++ (k ∷ [])) e

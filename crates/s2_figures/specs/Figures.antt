@@ -12,6 +12,7 @@ use Rattle.s2_receive.specs.declared.figures.Figures.{Figures}
 use Rattle.s2_receive.specs.declared.figures.Tally.{Tally}
 use Rattle.s2_figures.specs.Header.{header_errors}
 use Rattle.s2_figures.specs.Errors.{error_at, known_places, payload_places}
+use Rattle.s2_figures.specs.Correlation.{correlation_over}
 
 -- the frame that carries a word
 abbrev pub sent_frame : Mode → ℕ → List Bool → List Symbol
@@ -34,13 +35,15 @@ figures_of m number symbols soft word rounds =
       changed = changed_bits m soft word;
       known = error_over (known_places m) symbols (sent_frame m number word);
       payload = error_over (payload_places m) symbols (sent_frame m number word);
+      known_correlation = correlation_over (known_places m) symbols (sent_frame m number word);
+      payload_correlation = correlation_over (payload_places m) symbols (sent_frame m number word);
     }
 
 -- what figures are found for: frames of a mode, with a scrambling number
-pub record FigureFinder : Type 0 where
+pub record FigureMeter : Type 0 where
   pub mode : Mode
   pub number : ℕ
 
 -- for these
-abbrev pub finder_of : Mode → ℕ → FigureFinder
-finder_of mode number = record { mode = mode; number = number }
+abbrev pub meter_of : Mode → ℕ → FigureMeter
+meter_of mode number = record { mode = mode; number = number }

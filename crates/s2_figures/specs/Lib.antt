@@ -1,3 +1,4 @@
 pub mod Header
 pub mod Errors
+pub mod Correlation
 pub mod Figures

@@ -37,7 +37,7 @@ pub(crate) fn header_errors(mode: Mode, symbols: &[Symbol]) -> u32
 
 /// I * I + Q * Q.
 #[inline(always)]
-fn symbol_energy(symbol: Symbol) -> u64
+pub(crate) fn symbol_energy(symbol: Symbol) -> u64
     ensures is { result ≡ symbol_energy symbol }
     ensures most { result ≤ 2 ^ 31 }
 {

@@ -7,7 +7,8 @@
 //!
 //! An output is opened without being truncated. A command gets it as a [`Destination`]. Only after
 //! [`Destination::truncate`] there is a writer. [`Target::finish`] writes the bytes that are left in a buffer. A
-//! [`Truncating`] output needs no such step: its first write truncates it.
+//! [`Truncating`] output needs no such step: its first write truncates it. A reader or writer that [`Explains`] says why its
+//! last failed call failed.
 //!
 //! ```text
 //! let mut opener = Opener::new(rt);
@@ -22,6 +23,7 @@
 #![tactic(auto)]
 
 mod disk;
+mod explaining;
 mod opened;
 mod opener;
 mod output;
@@ -31,6 +33,7 @@ mod truncating;
 mod uses;
 
 pub use disk::Disk;
+pub use explaining::{Explaining, Explains};
 pub use opened::Opened;
 pub use opener::{MAX_FILES, Opener, Reader};
 pub use output::{Destination, Output};

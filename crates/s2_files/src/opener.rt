@@ -2,6 +2,7 @@
 ghost use Rattle.std.specs.Prelude.{◌≡◌, ◌+◌, ◌<◌, [], IfOk, OnOk, length};
 
 use crate::disk::{Disk, open_input, open_output, standard_node, stat};
+use crate::explaining::Explaining;
 use crate::opened::Opened;
 use crate::standard::is_standard;
 use crate::target::Target;
@@ -9,15 +10,15 @@ use crate::uses::{Role, Use, clashes_any};
 use arrayvec::ArrayVec;
 use either::{Either, Left, Right};
 use s2_console::Fault;
-use s2_mode::Counting;
 use std::io::{BufReader, BufWriter};
 use std::marker::Model;
 
 /// The most files of a command.
 pub const MAX_FILES: usize = 8;
 
-/// An input with a buffer, or without one if there was no memory for it or none is wanted. It counts its failed calls.
-pub type Reader<F, S> = Counting<Either<BufReader<Opened<F, S>>, Opened<F, S>>>;
+/// An input with a buffer, or without one if there was no memory for it or none is wanted. It counts its failed calls, and keeps
+/// the error of the last one.
+pub type Reader<F, S> = Explaining<Either<BufReader<Opened<F, S>>, Opened<F, S>>>;
 
 /// Opens files, each once. To contracts it is how each file that was opened is used, in order.
 pub struct Opener<'r, R> {
@@ -148,7 +149,7 @@ impl<'r, R: Disk> Opener<'r, R> {
         ensures fresh { IfOk result (λ file. file.failed ≡ 0) }
         ensures count { OnOk result (length self.new ≡ length self.old + 1) }
     {
-        Ok(Counting::new(Right(self.input(name)?)))
+        Ok(Explaining::new(Right(self.input(name)?)))
     }
 
     /// Opens an output without a buffer. It is not truncated.
@@ -188,7 +189,7 @@ impl<'r, R: Disk + AllocGlobal> Opener<'r, R> {
         ensures count { OnOk result (length self.new ≡ length self.old + 1) }
     {
         let file = self.input(name)?;
-        Ok(Counting::new(buffered(self.rt, file)))
+        Ok(Explaining::new(buffered(self.rt, file)))
     }
 
     /// Opens an output with a buffer. It is not truncated.

@@ -1,13 +1,14 @@
 //! Files that are written.
-ghost use Rattle.std.specs.Prelude.{◌≡◌, ◌<◌, ◌≤◌, Ok, IfOk, length};
+ghost use Rattle.std.specs.Prelude.{◌≡◌, ◌+◌, ◌<◌, ◌≤◌, Ok, IfOk, length};
 ghost use Rattle.std.specs.Io.KnownBytes.{WriteAppends};
 ghost use Rattle.s2_mode.specs.Counts.{CanCount, CountsFault};
 ghost use Rattle.s2_files.specs.Known.{buffered_of, known_of};
 
+use crate::explaining::{Explaining, Explains, write_some};
 use crate::opened::Opened;
 use crate::output::Output;
 use either::{Either, Left, Right};
-use s2_mode::{Counted, CountedWrite, Counting, Sink, WriteFault, write_full};
+use s2_mode::{Counted, CountedWrite, WriteFault, write_full};
 use std::fs::OpenFile;
 use std::io;
 use std::io::{BufWriter, Write};
@@ -15,12 +16,14 @@ use std::io::{BufWriter, Write};
 /// An opened file with a buffer, or without one.
 pub(crate) type MaybeBuffered<F, S> = Either<BufWriter<Opened<F, S>>, Opened<F, S>>;
 
-/// A file that was opened for writing and is not truncated yet, or a standard stream. It counts its failed calls.
+/// A file that was opened for writing and is not truncated yet, or a standard stream. It counts its failed calls, and keeps the
+/// error of the last one.
 #[derive(Drop)]
 pub struct Target<F: Write + Drop, S: Write + Drop> {
     to: MaybeBuffered<F, S>,
     holds: bool,
     failed: u64,
+    cause: Option<io::Error>,
 }
 
 impl<F: Write + Drop, S: Write + Drop> Target<F, S> {
@@ -32,15 +35,18 @@ impl<F: Write + Drop, S: Write + Drop> Target<F, S> {
             to,
             holds,
             failed: 0,
+            cause: None,
         }
     }
 
-    /// Writes the bytes that are still in the buffer. After a failed write nothing more is written.
-    pub fn finish(self) -> Result<(), WriteFault> {
+    /// Writes the bytes that are still in the buffer. After a failed write nothing more is written. If it fails, it returns the
+    /// error, if there is one.
+    pub fn finish(self) -> Result<(), Option<io::Error>> {
         let Target {
             to,
             holds: _,
             failed,
+            cause: _,
         } = self;
         let Left(buffered) = to else {
             return Ok(());
@@ -49,7 +55,27 @@ impl<F: Write + Drop, S: Write + Drop> Target<F, S> {
         if failed > 0 {
             return Ok(());
         }
-        write_full(&mut Counting::new(file), &left)
+        let mut file = Explaining::new(file);
+        match write_full(&mut file, &left) {
+            Ok(()) => Ok(()),
+            Err(_) => Err(file.cause()),
+        }
+    }
+
+    /// Notes a failed call, and its error if there is one.
+    fn fail(&mut self, cause: Option<io::Error>)
+        requires { CanCount self.old.failed }
+        ensures failed { self.new.failed ≡ self.old.failed + 1 }
+        ensures same { self.new.to ≡ self.old.to }
+    {
+        self.failed = self.failed.saturating_add(1);
+        self.cause = cause;
+    }
+}
+
+impl<F: Write + Drop, S: Write + Drop> Explains for Target<F, S> {
+    fn cause(&self) -> Option<io::Error> {
+        self.cause
     }
 }
 
@@ -79,11 +105,13 @@ impl<F: Write + Drop, S: Write + Drop> CountedWrite for Target<F, S> {
         if buf.is_empty() {
             return Ok(0);
         }
-        let answer = self.to.write_once(buf);
-        if answer.is_err() {
-            self.failed = self.failed.saturating_add(1);
+        match write_some(&mut self.to, buf) {
+            Ok(count) => Ok(count),
+            Err(cause) => {
+                self.fail(cause);
+                Err(WriteFault)
+            }
         }
-        answer
     }
 }
 
@@ -97,10 +125,15 @@ fn cut<F: Write + OpenFile + Drop, S: Write + Drop>(to: &MaybeBuffered<F, S>) ->
 
 impl<F: Write + OpenFile + Drop, S: Write + Drop> Output for Target<F, S> {
     fn truncate(&mut self) -> Result<(), WriteFault> {
-        if self.holds && cut(&self.to).is_err() {
-            self.failed = self.failed.saturating_add(1);
-            return Err(WriteFault);
+        if !self.holds {
+            return Ok(());
         }
-        Ok(())
+        match cut(&self.to) {
+            Ok(()) => Ok(()),
+            Err(error) => {
+                self.fail(Some(error));
+                Err(WriteFault)
+            }
+        }
     }
 }

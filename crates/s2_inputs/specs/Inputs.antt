@@ -15,7 +15,7 @@ abbrev pub rows_said : Shape → Result (List (List ℕ)) RowFault → Result Ro
 rows_said shape (Ok rows) = Ok (rows_value shape rows)
 rows_said shape (Err e) = Err (faults.Rows (codes "rows: " ++ row_fault_text e))
 
--- the most bytes of a file that is read into memory
+-- the maximum length in bytes of a file that is read into memory
 abbrev pub max_bytes : ℕ
 max_bytes = 16777216
 

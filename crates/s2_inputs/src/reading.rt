@@ -11,7 +11,7 @@ use s2_mode::{CountedRead, FileFault, Shape, read_into};
 use s2_rows::{RowFault, Rows, read_rows};
 use std::alloc::Global;
 
-/// The most bytes of a file that is read into memory.
+/// The maximum length in bytes of a file that is read into memory.
 pub const MAX_BYTES: usize = 16_777_216;
 
 /// Room for the bytes of any file.

@@ -18,7 +18,7 @@ abbrev pub is_delivered : Option (Header × List ℕ) → Bool
 is_delivered (Some pair) = true
 is_delivered None = false
 
--- the counts of frames: how many they are, how many of them have an accepted header, the packets, and the bodies with a
+-- the counts of frames: their number, the number of those with an accepted header, the packets, and the bodies with a
 -- wrong CRC-8
 abbrev pub counts_of : Mode → List (List ℕ) → Counts
 counts_of m frames =
@@ -43,7 +43,7 @@ abbrev pub counted : Counts → FrameCounts → Counts
 counted counts frame =
     record { frames = counts.frames + 1; delivered = counts.delivered + frame.delivered; packets = counts.packets + frame.packets; bad = counts.bad + frame.bad }
 
--- the counts of a file, and the bytes of a last frame that lacks some
+-- the counts of a file, and the bytes of an incomplete last frame
 abbrev pub summary_of : Mode → List ℕ → Summary
 summary_of m bytes = record { counts = counts_of m (frames_in m bytes); cut = cut_in m bytes }
 
@@ -69,7 +69,7 @@ totals_of counts =
 unfoldable pub cut_line : ℕ → ℕ → List ℕ
 cut_line at count = codes "cut at " ++ decimal at ++ codes " bytes " ++ decimal count ++ codes "\n"
 
--- the line of a last frame that lacks bytes, if there is one: where it begins, and how many bytes it has
+-- the line of an incomplete last frame, if there is one: its position and its number of bytes
 abbrev pub cut_words : Mode → Summary → List ℕ
 cut_words m s = if nat_eq s.cut 0 then [] else cut_line (frame_bytes m * s.counts.frames) s.cut
 

@@ -39,7 +39,7 @@ joined_from m frames = joining None (map (event_of m) frames)
 abbrev pub frames_in : Mode → List ℕ → List (List ℕ)
 frames_in m bytes = cuts (frame_bytes m) (length bytes / frame_bytes m) bytes
 
--- the bytes of a last frame that lacks some; 0 if there is none
+-- the bytes of an incomplete last frame; 0 if there is none
 abbrev pub cut_in : Mode → List ℕ → ℕ
 cut_in m bytes = length bytes % frame_bytes m
 

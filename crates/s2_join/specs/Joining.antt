@@ -28,7 +28,7 @@ pub record JoinsAll (m : Mode) (old new : Streams) (summary : Summary) : Type 0 
   pub no_write : new.writes ≡ old.writes
 
 -- A read failed after these bytes. Exactly the packets of the whole frames in them are written. If no read failed, they
--- are the most frames that one join takes
+-- are all frames that one join can take
 pub record StopsReading (m : Mode) (old new : Streams) : Type 0 where
   pub bytes : List ℕ
   pub read : Consumes old.taken new.taken bytes

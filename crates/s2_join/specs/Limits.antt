@@ -6,7 +6,7 @@ use Rattle.s2_join.specs.declared.limits.TheConstants.{HEADER_BYTES, MAX_FRAMES}
 abbrev pub header_size : ℕ
 header_size = 10
 
--- the most BBFRAMEs that one join takes
+-- the maximum number of BBFRAMEs of one join
 abbrev pub max_frames : ℕ
 max_frames = 2 ^ 40
 

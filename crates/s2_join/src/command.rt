@@ -119,5 +119,5 @@ pub fn join_command<R: CountedRead, W: Output, O: CountedWrite, E: CountedWrite>
         (ends bbframes.old packets.old.to) (ends bbframes.new packets.new.to) console.old console.new result }
 {
     let ended = join_files(alloc, mode, bbframes, packets, &mut console.output);
-    console.conclude(ended)
+    console.finish(ended)
 }

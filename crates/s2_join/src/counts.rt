@@ -19,7 +19,7 @@ pub(crate) struct Counts {
     pub(crate) bad: u64,
 }
 
-/// The counts of a whole file, and the number of bytes of a last frame that lacks some, 0 if there is none.
+/// The counts of a whole file, and the number of bytes of an incomplete last frame, 0 if there is none.
 #[derive(Clone, Copy)]
 pub(crate) struct Summary {
     pub(crate) counts: Counts,

@@ -5,7 +5,7 @@ ghost use Rattle.s2_bbframe.specs.Headers.{has_valid_lengths, header_of_bytes};
 ghost use Rattle.s2_bbframe.specs.Joining.{step};
 ghost use Rattle.s2_bbframe.specs.Limits.{max_field_bytes, packet_bytes, packets_room};
 ghost use Rattle.s2_receive.specs.Laws.{joined};
-ghost use Rattle.s2_receive.specs.Parts.{HasPlace};
+ghost use Rattle.s2_receive.specs.Decider.{HasPlace};
 ghost use Rattle.s2_join.specs.Counting.{counts_by, IsFew};
 ghost use Rattle.s2_join.specs.Frames.{frame_bytes, field_of, event_of};
 ghost use Rattle.s2_join.specs.Limits.{header_size};

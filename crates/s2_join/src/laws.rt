@@ -2,7 +2,7 @@
 ghost use Rattle.s2_join.specs.Laws.{ZerosLaw, TogetherLaw, RoundTripLaw};
 ghost use Rattle.s2_join.specs.Limits.{LimitsLaw};
 
-/// A BBFRAME of zeros has a refused header, so it is a gap for the joiner. A file can have one in the place of a lost
+/// A BBFRAME of zeros has a refused header, so it is a gap for the joiner. A file can have one instead of a lost
 /// frame, or of skipped symbols.
 pub fn zeros()
     ensures { ZerosLaw }

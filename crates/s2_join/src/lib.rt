@@ -3,7 +3,7 @@
 //! Such a file has the BBFRAMEs of consecutive frames of one mode, each with its header, not scrambled, in Kbch / 8
 //! bytes. [`join_command`] passes each to the joiner of `s2_bbframe`: its data field if its header is accepted, else a
 //! gap. It writes the packets that the joiner makes, frame by frame. At the end of the file it prints the counts, in
-//! the words of the end line of a receiver's report. A last frame that lacks bytes is reported as cut, and not joined.
+//! the words of the end line of a receiver's report. An incomplete last frame is reported as cut, and not joined.
 //!
 //! The packets are a function of the file's bytes: `packets_in` of `specs/Frames.antt`. A frame of zeros has a refused
 //! header, so it is a gap ([`laws::zeros`]).

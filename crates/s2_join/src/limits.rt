@@ -3,5 +3,5 @@
 /// The bytes of a BBHEADER.
 pub(crate) const HEADER_BYTES: usize = 10;
 
-/// The most BBFRAMEs that one join takes.
+/// The maximum number of BBFRAMEs of one join.
 pub const MAX_FRAMES: u64 = 1 << 40;

@@ -11,7 +11,7 @@ use crate::frames::frame_bytes;
 use s2_console::{Exit, Fault, Line, print};
 use s2_mode::{CountedWrite, Mode};
 
-/// The line of a last frame that lacks bytes.
+/// The line of an incomplete last frame.
 #[tactic(auto, unfolding(crate::specs::Counting::cut_line))]
 fn cut_line(at: u64, count: u64) -> Line
     ensures { result ≡ cut_line at count }
@@ -23,7 +23,7 @@ fn cut_line(at: u64, count: u64) -> Line
     line
 }
 
-/// This line, or nothing if no frame lacks bytes.
+/// This line, or nothing if no frame is incomplete.
 fn cut_words(mode: Mode, summary: Summary) -> Line
     requires { summary.counts.frames < max_frames }
     ensures { result ≡ cut_words mode summary }

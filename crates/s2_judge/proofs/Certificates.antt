@@ -115,13 +115,13 @@ pub by_nobody : (r : Rows) (passes : ℕ) (soft : List ℤ) (word : List Bool) (
 by_nobody r passes soft word made some made_is none is =
     with_passes r passes soft word some ∙ ap (λ o. or_else (shared_views r soft word o) (settled r soft word passes)) (sym made_is ∙ none) ∙ is
 
-settled_same : (r : Rows) (soft : List ℤ) (word : List Bool) (settler : Settling) → settler.rows ≡ r → view_settled settler soft word ≡ shared_view r soft word (settled_shares settler)
-settled_same r soft word settler rows = ap (λ (q : Rows). shared_view q soft word (settled_shares settler)) rows
+settled_same : (r : Rows) (soft : List ℤ) (word : List Bool) (ascent : Settling) → ascent.rows ≡ r → view_settled ascent soft word ≡ shared_view r soft word (settled_shares ascent)
+settled_same r soft word ascent rows = ap (λ (q : Rows). shared_view q soft word (settled_shares ascent)) rows
 
--- what a settler holds is strict
-pub strict_settled : (r : Rows) (soft : List ℤ) (word : List Bool) (settler : Settling) → settler.rows ≡ r → IsStrict r (view_settled settler soft word) → is_strict r (shared_view r soft word (settled_shares settler)) ≡ true
-strict_settled r soft word settler rows strict =
-    ap (is_strict r) (sym (settled_same r soft word settler rows)) ∙ strict_test r (view_settled settler soft word) strict.strict
+-- what a ascent holds is strict
+pub strict_settled : (r : Rows) (soft : List ℤ) (word : List Bool) (ascent : Settling) → ascent.rows ≡ r → IsStrict r (view_settled ascent soft word) → is_strict r (shared_view r soft word (settled_shares ascent)) ≡ true
+strict_settled r soft word ascent rows strict =
+    ap (is_strict r) (sym (settled_same r soft word ascent rows)) ∙ strict_test r (view_settled ascent soft word) strict.strict
 
 -- whether what a maker holds is, by its rests
 pub strict_made : (r : Rows) (soft : List ℤ) (word : List Bool) (m : Making) (b : Bool) → m.rows ≡ r → HoldsRests m soft word → (IsTrue b ↔ AreSome (code_of m.rows) m.rests) → IfSome m.made (λ s. is_strict r (shared_view r soft word s) ≡ b)
@@ -134,17 +134,17 @@ strict_made r soft word m b rows left says =
         let at = λ (i : ℕ) (low : i < (code_of m.rows).bits). h i low ∙ ap (in_favour word i) (sym (rest_listed (code_of m.rows) soft (placed_of (code_of m.rows) word s.scale s.moves) i low)) in
         strict_is m.rows (shared_view m.rows soft word s) b (λ yes' i low. subst (λ (z : ℤ). pos 1 ≤ℤ z) (at i low) (says.0 yes' i low), λ strict. says.1 (λ i low. subst (λ (z : ℤ). pos 1 ≤ℤ z) (sym (at i low)) (strict i low)))
 
--- the settler, where greedy amounts don't reach
-pub by_settler : (r : Rows) (passes : ℕ) (soft : List ℤ) (word : List Bool) (made : Option Shared) (settler : Settling) → (passes == 0) ≡ false → made ≡ shared (code_of r) word (greedy_split (code_of r) soft word) → made ≡ None → settler.rows ≡ r → settled r soft word passes ≡ Some (view_settled settler soft word) → view_for r passes soft word ≡ shared_views r soft word (Some (settled_shares settler))
-by_settler r passes soft word made settler some made_is none rows is =
+-- the ascent, where greedy amounts don't reach
+pub by_ascent : (r : Rows) (passes : ℕ) (soft : List ℤ) (word : List Bool) (made : Option Shared) (ascent : Settling) → (passes == 0) ≡ false → made ≡ shared (code_of r) word (greedy_split (code_of r) soft word) → made ≡ None → ascent.rows ≡ r → settled r soft word passes ≡ Some (view_settled ascent soft word) → view_for r passes soft word ≡ shared_views r soft word (Some (settled_shares ascent))
+by_ascent r passes soft word made ascent some made_is none rows is =
     with_passes r passes soft word some
     ∙ ap (λ o. or_else (shared_views r soft word o) (settled r soft word passes)) (sym made_is ∙ none)
     ∙ is
-    ∙ ap Some (settled_same r soft word settler rows)
+    ∙ ap Some (settled_same r soft word ascent rows)
 
-pub decoded_by_settler : (r : Rows) (passes : ℕ) (soft : List ℤ) (word : List Bool) (settler : Settling) → (passes == 0) ≡ false → settler.rows ≡ r → settled r soft word passes ≡ Some (view_settled settler soft word) → decoded_view r passes soft word ≡ shared_views r soft word (Some (settled_shares settler))
-decoded_by_settler r passes soft word settler some rows is =
-    decoded_with r passes soft word some ∙ is ∙ ap Some (settled_same r soft word settler rows)
+pub decoded_by_ascent : (r : Rows) (passes : ℕ) (soft : List ℤ) (word : List Bool) (ascent : Settling) → (passes == 0) ≡ false → ascent.rows ≡ r → settled r soft word passes ≡ Some (view_settled ascent soft word) → decoded_view r passes soft word ≡ shared_views r soft word (Some (settled_shares ascent))
+decoded_by_ascent r passes soft word ascent some rows is =
+    decoded_with r passes soft word some ∙ is ∙ ap Some (settled_same r soft word ascent rows)
 
 -- what a certifier, unchanged before, finds for the repair
 pub view_by_certifier : (soft : List ℤ) (word : List Bool) (before start : Certifying) (found : Option Shared) → word ≡ repaired (code_of start.rows) soft → before ≡ start → view_for before.rows before.passes soft word ≡ shared_views before.rows soft word found → view_for start.rows start.passes soft (repaired (code_of start.rows) soft) ≡ shared_views start.rows soft word found

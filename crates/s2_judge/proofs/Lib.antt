@@ -4,4 +4,4 @@ pub mod DecidingLemmas
 pub mod Scattering
 pub mod DecidedLengths
 mod EvidenceLemmas
-mod Mends
+mod EarlyRepairLemmas

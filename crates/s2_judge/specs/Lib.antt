@@ -2,4 +2,4 @@ pub mod Deciding
 pub mod Certifying
 pub mod Judging
 pub mod Lending
-pub mod Mending
+pub mod EarlyRepair

@@ -5,32 +5,32 @@ ghost use Rattle.s2_check.specs.Views.{IsSoft};
 ghost use Rattle.s2_split.specs.Making.{shared_view, shared_views};
 ghost use Rattle.s2_split.specs.Scattered.{repaired};
 ghost use Rattle.s2_judge.specs.Deciding.{is_strict, view_for, decoded_view};
-ghost use Rattle.s2_judge.specs.Certifying.{found_by, word_by, IsHolder};
+ghost use Rattle.s2_judge.specs.Certifying.{found_by, word_by, IsCertificateSource};
 
 use s2_bits::Bits;
 use s2_check::CertView;
 use s2_matrix::Matrix;
-use s2_settle::Settler;
+use s2_settle::DualAscent;
 use s2_split::Maker;
 use std::alloc::{AllocError, Global};
 use std::marker::Model;
 
 /// The owner of the last certificate found.
 #[derive(Clone, Copy)]
-pub(crate) enum Holder {
-    Nobody,
+pub(crate) enum CertificateSource {
+    NotFound,
     Maker,
-    Settler,
+    DualAscent,
 }
 
-impl Holder {
+impl CertificateSource {
     /// Whether there is a certificate.
     fn is_some(self) -> bool
-        ensures { IsTrue result ↔ (self ≢ Holder.Nobody) }
+        ensures { IsTrue result ↔ (self ≢ CertificateSource.NotFound) }
     {
         match self {
-            Holder::Nobody => false,
-            Holder::Maker | Holder::Settler => true,
+            CertificateSource::NotFound => false,
+            CertificateSource::Maker | CertificateSource::DualAscent => true,
         }
     }
 }
@@ -39,35 +39,35 @@ impl Holder {
 /// of the certificate, and whether it is strict.
 fn find_for_repair(
     maker: &mut Maker<'_>,
-    settler: &mut Settler<'_>,
+    ascent: &mut DualAscent<'_>,
     soft: &[i16],
     codeword: &Bits,
     passes: u32,
-) -> (Holder, bool)
-    requires settler { settler.old.rows ≡ maker.old.rows }
+) -> (CertificateSource, bool)
+    requires ascent { ascent.old.rows ≡ maker.old.rows }
     requires soft { length soft.now ≡ (code_of maker.old.rows).bits }
     requires range { All IsSoft soft.now }
     requires codeword { IsCodeword (code_of maker.old.rows) codeword.now }
     ensures maker { maker.new.rows ≡ maker.old.rows }
-    ensures settler { settler.new.rows ≡ settler.old.rows }
+    ensures ascent { ascent.new.rows ≡ ascent.old.rows }
     ensures word { IfSome (word_by maker.new result.0) (λ w. w ≡ codeword.now) }
-    ensures holder { IsHolder maker.new result.0 }
-    ensures view { view_for maker.old.rows passes soft.now codeword.now ≡ shared_views maker.old.rows soft.now codeword.now (found_by maker.new settler.new result.0) }
-    ensures strict { IfSome (found_by maker.new settler.new result.0) (λ s. is_strict maker.old.rows (shared_view maker.old.rows soft.now codeword.now s) ≡ result.1) }
+    ensures source { IsCertificateSource maker.new result.0 }
+    ensures view { view_for maker.old.rows passes soft.now codeword.now ≡ shared_views maker.old.rows soft.now codeword.now (found_by maker.new ascent.new result.0) }
+    ensures strict { IfSome (found_by maker.new ascent.new result.0) (λ s. is_strict maker.old.rows (shared_view maker.old.rows soft.now codeword.now s) ≡ result.1) }
 {
     if passes == 0 {
         if maker.certify_codeword(soft, codeword) {
-            return (Holder::Maker, maker.is_strict());
+            return (CertificateSource::Maker, maker.is_strict());
         }
-        return (Holder::Nobody, false);
+        return (CertificateSource::NotFound, false);
     }
     if maker.certify_greedily(soft, codeword) {
-        return (Holder::Maker, maker.is_strict());
+        return (CertificateSource::Maker, maker.is_strict());
     }
-    if settler.certify(soft, codeword, passes) {
-        return (Holder::Settler, true);
+    if ascent.certify(soft, codeword, passes) {
+        return (CertificateSource::DualAscent, true);
     }
-    (Holder::Nobody, false)
+    (CertificateSource::NotFound, false)
 }
 
 /// Looks for a certificate of a codeword that min-sum found, in at most `passes` passes of settling, if that is not 0.
@@ -75,36 +75,36 @@ fn find_for_repair(
 /// and trying them first takes longer.
 fn find_for_decoded(
     maker: &mut Maker<'_>,
-    settler: &mut Settler<'_>,
+    ascent: &mut DualAscent<'_>,
     soft: &[i16],
     codeword: &Bits,
     passes: u32,
-) -> (Holder, bool)
-    requires settler { settler.old.rows ≡ maker.old.rows }
+) -> (CertificateSource, bool)
+    requires ascent { ascent.old.rows ≡ maker.old.rows }
     requires soft { length soft.now ≡ (code_of maker.old.rows).bits }
     requires range { All IsSoft soft.now }
     requires codeword { IsCodeword (code_of maker.old.rows) codeword.now }
     ensures maker { maker.new.rows ≡ maker.old.rows }
-    ensures settler { settler.new.rows ≡ settler.old.rows }
+    ensures ascent { ascent.new.rows ≡ ascent.old.rows }
     ensures word { IfSome (word_by maker.new result.0) (λ w. w ≡ codeword.now) }
-    ensures holder { IsHolder maker.new result.0 }
-    ensures view { decoded_view maker.old.rows passes soft.now codeword.now ≡ shared_views maker.old.rows soft.now codeword.now (found_by maker.new settler.new result.0) }
-    ensures strict { IfSome (found_by maker.new settler.new result.0) (λ s. is_strict maker.old.rows (shared_view maker.old.rows soft.now codeword.now s) ≡ result.1) }
+    ensures source { IsCertificateSource maker.new result.0 }
+    ensures view { decoded_view maker.old.rows passes soft.now codeword.now ≡ shared_views maker.old.rows soft.now codeword.now (found_by maker.new ascent.new result.0) }
+    ensures strict { IfSome (found_by maker.new ascent.new result.0) (λ s. is_strict maker.old.rows (shared_view maker.old.rows soft.now codeword.now s) ≡ result.1) }
 {
     if passes == 0 {
         if maker.certify_codeword(soft, codeword) {
-            return (Holder::Maker, maker.is_strict());
+            return (CertificateSource::Maker, maker.is_strict());
         }
-        return (Holder::Nobody, false);
+        return (CertificateSource::NotFound, false);
     }
-    if settler.certify(soft, codeword, passes) {
-        return (Holder::Settler, true);
+    if ascent.certify(soft, codeword, passes) {
+        return (CertificateSource::DualAscent, true);
     }
-    (Holder::Nobody, false)
+    (CertificateSource::NotFound, false)
 }
 
 /// Finds certificates of codewords. Without passes it tries the maker's greedy amounts, then its spreading. With
-/// passes it runs at most that many of the settler; for a repair it tries greedy amounts first.
+/// passes it runs at most that many of the ascent; for a repair it tries greedy amounts first.
 ///
 /// In contracts it has five parts: the rows of its matrix, its number of passes, the shares found last, their word if
 /// it is stored with them, and whether they are strict.
@@ -112,8 +112,8 @@ pub(crate) struct Certifier<'a> {
     matrix: &'a Matrix,
     passes: u32,
     maker: Maker<'a>,
-    settler: Settler<'a>,
-    holder: Holder,
+    ascent: DualAscent<'a>,
+    source: CertificateSource,
     strict: bool,
 }
 
@@ -123,8 +123,8 @@ impl<'a> Drop for Certifier<'a> {
             matrix: _,
             passes: _,
             maker: _,
-            settler: _,
-            holder: _,
+            ascent: _,
+            source: _,
             strict: _,
         } = self;
     }
@@ -135,9 +135,9 @@ impl<'a> Model for Certifier<'a> {
 
     ghost Value = { Certifying };
 
-    ghost view = { λ c. record { rows = c.matrix.now; passes = c.passes; word = word_by c.maker c.holder; found = found_by c.maker c.settler c.holder; strict = c.strict } };
+    ghost view = { λ c. record { rows = c.matrix.now; passes = c.passes; word = word_by c.maker c.source; found = found_by c.maker c.ascent c.source; strict = c.strict } };
 
-    ghost invariant = { λ c. IsCertifier c.matrix.now c.maker c.settler c.holder };
+    ghost invariant = { λ c. IsCertifier c.matrix.now c.maker c.ascent c.source };
 }
 
 impl<'a> Certifier<'a> {
@@ -152,13 +152,13 @@ impl<'a> Certifier<'a> {
         ensures passes { IfOk result (λ c. c.passes ≡ passes) }
     {
         let maker = Maker::new(alloc, matrix)?;
-        let settler = Settler::new(alloc, matrix)?;
+        let ascent = DualAscent::new(alloc, matrix)?;
         Ok(Certifier {
             matrix,
             passes,
             maker,
-            settler,
-            holder: Holder::Nobody,
+            ascent,
+            source: CertificateSource::NotFound,
             strict: false,
         })
     }
@@ -193,16 +193,16 @@ impl<'a> Certifier<'a> {
         ensures view { view_for self.old.rows self.old.passes soft.now codeword.now ≡ shared_views self.old.rows soft.now codeword.now self.new.found }
         ensures strict { IfSome self.new.found (λ s. is_strict self.old.rows (shared_view self.old.rows soft.now codeword.now s) ≡ self.new.strict) }
     {
-        let (holder, strict) = find_for_repair(
+        let (source, strict) = find_for_repair(
             &mut self.maker,
-            &mut self.settler,
+            &mut self.ascent,
             soft,
             codeword,
             self.passes,
         );
-        self.holder = holder;
+        self.source = source;
         self.strict = strict;
-        self.holder.is_some()
+        self.source.is_some()
     }
 
     /// Looks for a certificate of a codeword that min-sum found, and returns whether it found one.
@@ -217,16 +217,16 @@ impl<'a> Certifier<'a> {
         ensures view { decoded_view self.old.rows self.old.passes soft.now codeword.now ≡ shared_views self.old.rows soft.now codeword.now self.new.found }
         ensures strict { IfSome self.new.found (λ s. is_strict self.old.rows (shared_view self.old.rows soft.now codeword.now s) ≡ self.new.strict) }
     {
-        let (holder, strict) = find_for_decoded(
+        let (source, strict) = find_for_decoded(
             &mut self.maker,
-            &mut self.settler,
+            &mut self.ascent,
             soft,
             codeword,
             self.passes,
         );
-        self.holder = holder;
+        self.source = source;
         self.strict = strict;
-        self.holder.is_some()
+        self.source.is_some()
     }
 
     /// Whether the last certificate found is strict.
@@ -244,10 +244,10 @@ impl<'a> Certifier<'a> {
         requires word { IfSome self.now.word (λ w. w ≡ word.now) }
         ensures { result ≡ shared_views self.now.rows soft.now word.now self.now.found }
     {
-        match self.holder {
-            Holder::Nobody => None,
-            Holder::Maker => Some(self.maker.held(soft, word)),
-            Holder::Settler => Some(self.settler.held(soft, word)),
+        match self.source {
+            CertificateSource::NotFound => None,
+            CertificateSource::Maker => Some(self.maker.held(soft, word)),
+            CertificateSource::DualAscent => Some(self.ascent.held(soft, word)),
         }
     }
 }

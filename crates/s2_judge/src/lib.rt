@@ -22,11 +22,11 @@
 #![tactic(auto)]
 
 mod certifier;
+mod early_repair;
+mod early_syndrome;
 mod evidence;
 mod judge;
 pub mod laws;
-mod mending;
-mod odd;
 mod steps;
 
 pub use judge::Judge;

@@ -11,9 +11,9 @@ ghost use Rattle.s2_judge.specs.Deciding.{is_strict, satisfies, decoded_bits, fi
 ghost use Rattle.s2_judge.specs.Judging.{shown_by, IsEvidence};
 
 use crate::certifier::Certifier;
+use crate::early_repair::repair_fails_early;
+use crate::early_syndrome::decision_fails_early;
 use crate::evidence::Evidence;
-use crate::mending::mends_nothing;
-use crate::odd::has_odd_check;
 use s2_bits::Bits;
 use s2_check::{judge_unsplit, none_is_zero};
 use s2_matrix::Matrix;
@@ -43,7 +43,7 @@ fn try_repair(
     ensures strict { IsTrue result.0 → IfSome certifier.new.found (λ s. is_strict certifier.old.rows (shared_view certifier.old.rows soft.now repair.new s) ≡ certifier.new.strict) }
     ensures view { repair_view certifier.old.rows certifier.old.passes soft.now ≡ (if result.0 then shared_views certifier.old.rows soft.now repair.new certifier.new.found else None) }
 {
-    if mends_nothing(certifier.matrix(), hard.truths()) {
+    if repair_fails_early(certifier.matrix(), hard.truths()) {
         return (false, false);
     }
     certifier.repair_into(soft, repair);
@@ -63,7 +63,7 @@ fn is_decoded(matrix: &Matrix, decoder: &Decoder<'_>, bits: &mut Bits) -> bool
     ensures bits { IsTrue result → bits.new ≡ decision (code_of decoder.now.rows) (decoded decoder.now) }
     ensures long { length bits.new ≡ (code_of matrix.now).bits }
 {
-    if has_odd_check(matrix, decoder) {
+    if decision_fails_early(matrix, decoder) {
         return false;
     }
     decoder.hard_into(bits);

@@ -3,7 +3,7 @@ pub mod BitTokens
 pub mod HardLemmas
 pub mod InputLemmas
 pub mod JudgeLemmas
-pub mod OwnLemmas
+pub mod DemoLemmas
 pub mod ValueRange
 pub mod Spelling
 pub mod WordByWord

@@ -45,7 +45,7 @@ unfoldable pub frame_of : ℕ → List (Result ℤ ValueFault) → Result (List 
 frame_of left [] = if left == 0 then Ok [] else Err value_faults.TooFew
 frame_of left (word ∷ words) = if left == 0 then Ok [] else ok_cons word (frame_of (left - 1) words)
 
--- the most bytes of a value file that is read frame by frame, 2^48
+-- the maximum length in bytes of a value file that is read frame by frame, 2^48
 abbrev pub max_text : ℕ
 max_text = 281474976710656
 

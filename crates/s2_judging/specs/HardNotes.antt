@@ -27,7 +27,7 @@ abbrev pub exit_in : Result Ran Fault → Result Exit Fault
 exit_in (Ok ran) = Ok ran.exit
 exit_in (Err f) = Err f
 
--- a run gets the note if its soft values look hard, unless notes are left out
+-- a run gets the note if its soft values look hard, unless notes are suppressed
 abbrev pub is_noted : (hard quiet : Bool) → Ran → Bool
 is_noted hard quiet ran = ran.looks_hard && not hard && not quiet
 
@@ -40,8 +40,8 @@ abbrev pub notes_of : (hard quiet : Bool) → Result Ran Fault → List ℕ
 notes_of hard quiet (Ok ran) = if is_noted hard quiet ran then the_note else []
 notes_of hard quiet (Err f) = []
 
--- The exit of a run, and what it wrote to its errors: its note, or the line of its fault. If the note's writer failed, that
--- is the fault
+-- The exit of a run, and what it wrote to its errors: its note, or the line of its fault. If the note's writer failed,
+-- that is the fault
 pub record Concludes (hard quiet : Bool) (ran : Result Ran Fault) (exit : Exit) (old new : Screen) : Type 0 where
   pub ended : Result Exit Fault
   pub exit_is : exit ≡ exit_of ended

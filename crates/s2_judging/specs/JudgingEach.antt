@@ -1,4 +1,5 @@
--- What `judge --each` prints of frames that follow each other in a value file, and the certificates that it writes (own).
+-- What `judge --each` prints of frames that follow each other in a value file, and the certificates that it writes
+-- (own).
 use Rattle.std.specs.Prelude.{◌≡◌, ◌≢◌, ◌⊎◌, ℕ, ℤ, ◌+◌, ◌<◌, Bool, true, false, All, ⊤, List, [], ◌∷◌, length, Option, Some, None, IfSome, Result, Ok, Err}
 use Rattle.std.specs.Io.KnownBytes.{Appends}
 use Rattle.std.specs.List.{flat_map, list_all}
@@ -26,7 +27,7 @@ use Rattle.s2_judging.specs.HardNotes.{is_bit, look_hard, exit_in, Concludes}
 use Rattle.s2_inputs.specs.Inputs.{rows_in}
 use Rattle.s2_judging.specs.Judging.{IsJudged}
 
--- the most frames of one run, 2^32 - 1
+-- the maximum number of frames of one run, 2^32 - 1
 abbrev pub max_frames : ℕ
 max_frames = 4294967295
 
@@ -71,8 +72,8 @@ pub record JudgedSoFar (rows : Rows) (tuning : Tuning) (before after : Option (L
   pub said : SaysEach (λ frame. IsJudged tuning (rows, frame)) frames exit text
   pub printed : Appends old new text
 
--- A frame was judged, and a writer failed: a part of its certificate is written, and no line printed; or its certificate
--- is written, and a part of its line is printed
+-- A frame was judged, and a writer failed: a part of its certificate is written, and no line printed; or its
+-- certificate is written, and a part of its line is printed
 pub record CutFrame (rows : Rows) (tuning : Tuning) (frame : List ℤ) (file file_after : Written) (old new : Option (List ℕ)) : Type 0 where
   pub exit : Exit
   pub line : List ℕ
@@ -103,8 +104,8 @@ StopsJudging n known words frames faults.NoMemory = frames ≡ []
 StopsJudging n known words frames faults.TooLong = IfSome known (λ xs. max_text < length xs) ⊎ (length frames ≡ max_frames)
 StopsJudging n known words frames fault = IsRefusedFrame n words fault
 
--- What came after these frames: the end of the file, and the run is theirs; or a frame of which a part is written; or a
--- fault, and no more is written
+-- After these frames comes the end of the file, and the run is theirs. Or only a part of the next frame is written. Or
+-- a fault comes, and no more is written
 abbrev pub EndsJudging : Rows → Tuning → Option (List ℕ) → Option (List (Result ℤ ValueFault)) → List (List ℤ) → Exit → Written → Written → Written → Option (List ℕ) → Option (List ℕ) → Result Ran Fault → Type 0
 EndsJudging rows tuning known words frames exit start file file_after old new (Ok ran) =
     (ran ≡ record { exit = exit; looks_hard = look_hard frames }) × AreRead words × WroteBytes (certificates_of rows tuning frames) start file_after × (new ≡ old)

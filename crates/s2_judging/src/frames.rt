@@ -14,10 +14,10 @@ use std::alloc::{AllocError, Global};
 /// The bytes of the buffer.
 const CHUNK: usize = 4096;
 
-/// The most bytes of a value file that is read frame by frame.
+/// The maximum length in bytes of a value file that is read frame by frame.
 const MAX_TEXT: u64 = 281_474_976_710_656;
 
-/// What is read of a value file: the position in its text, which bytes of the buffer are not read yet, and how many more
+/// The state of reading a value file: the position in its text, the unread bytes of the buffer, and how many more
 /// may follow these.
 #[derive(Clone, Copy)]
 pub(crate) struct Reading {
@@ -201,7 +201,7 @@ fn read_frame<R: CountedRead>(
     }
 }
 
-/// Memory for a frame of a value file, and what is read of the file.
+/// Memory for a frame of a value file, and the state of reading the file.
 pub(crate) struct Frames {
     hard: bool,
     count: usize,

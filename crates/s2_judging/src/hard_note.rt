@@ -51,10 +51,10 @@ fn write_hard_note<E: CountedWrite>(errors: &mut E) -> Result<(), WriteFault>
     write_full(errors, note.as_bytes())
 }
 
-/// The exit of a run. If its soft values look like hard decisions, that is noted, unless notes are left out.
+/// The exit of a run. If its soft values look like hard decisions, that is noted, unless notes are suppressed.
 /// A fault is reported. If the note
 /// cannot be written, that is the fault.
-pub(crate) fn conclude_judged<O: CountedWrite, E: CountedWrite>(
+pub(crate) fn finish_judged<O: CountedWrite, E: CountedWrite>(
     hard: bool,
     quiet: bool,
     ran: Result<Ran, Fault<'_>>,
@@ -69,9 +69,9 @@ pub(crate) fn conclude_judged<O: CountedWrite, E: CountedWrite>(
     match ran {
         Ok(ran) if is_noted(hard, quiet, ran) => match write_hard_note(&mut console.errors) {
             Ok(()) => ran.exit,
-            Err(_) => console.complain(Fault::Write),
+            Err(_) => console.report_fault(Fault::Write),
         },
         Ok(ran) => ran.exit,
-        Err(fault) => console.complain(fault),
+        Err(fault) => console.report_fault(fault),
     }
 }

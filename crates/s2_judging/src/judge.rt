@@ -12,7 +12,7 @@ ghost use Rattle.s2_judging.specs.Certifying.{IsJudgedAndCertified, LeavesCertif
 
 use crate::decision::decide_by;
 use crate::files::JudgeFiles;
-use crate::hard_note::{Ran, are_bits, conclude_judged};
+use crate::hard_note::{Ran, are_bits, finish_judged};
 use crate::reading::{Judged, read_judged};
 use s2_console::{Console, Exit, Fault, Printed};
 use s2_files::{Destination, Output};
@@ -101,9 +101,9 @@ fn print_judgement<R: CountedRead, C: Output, O: CountedWrite>(
 /// `judge`: prints the verdict of a receiver with this tuning on the soft values of a file, under the code of a row
 /// file. If `hard`, the file has decided bits, tokens 0 and 1, which are read as soft values 1 and -1. If there is a
 /// file for the certificate, and the decided bits are sole or most likely, their certificate is written before the
-/// verdict is printed. If its writer fails, a part of it was written. The file is begun exactly if the input is accepted
-/// and there is memory to judge it. If all values are 0 or 1, and it is not `hard`, a note on the errors says so after
-/// the report, unless notes are left out.
+/// verdict is printed. If its writer fails, a part of it was written. The file is begun exactly if the input is
+/// accepted and there is memory to judge it. If all values are 0 or 1, and it is not `hard`, a note on the errors says
+/// so after the report, unless notes are suppressed.
 pub fn judge_command<R: CountedRead, C: Output, O: CountedWrite, E: CountedWrite>(
     alloc: Global,
     shape: Shape,
@@ -120,5 +120,5 @@ pub fn judge_command<R: CountedRead, C: Output, O: CountedWrite, E: CountedWrite
     ensures run { JudgeExits hard quiet tuning shape files.old files.new console.old console.new result }
 {
     let ran = print_judgement(alloc, shape, hard, tuning, files, &mut console.output);
-    conclude_judged(hard, quiet, ran, console)
+    finish_judged(hard, quiet, ran, console)
 }

@@ -15,7 +15,7 @@ ghost use Rattle.s2_judging.specs.JudgingEach.{JudgesOne, JudgesNext, Finishes, 
 use crate::decision::{certify, decide_by};
 use crate::files::JudgeFiles;
 use crate::frames::Frames;
-use crate::hard_note::{Ran, are_bits, conclude_judged};
+use crate::hard_note::{Ran, are_bits, finish_judged};
 use s2_console::{Console, Exit, Fault, Printed};
 use s2_evidence::worse;
 use s2_files::{Destination, Output};
@@ -250,14 +250,14 @@ fn print_judgements<R: CountedRead, C: Output, O: CountedWrite>(
 /// `judge --each`: prints the verdict of a receiver with this tuning on each frame of a value file, under the code of a
 /// row file. A frame is n values, one for each bit of a codeword; lines mean nothing to it. If `hard`, the file has
 /// decided bits. Frames are read one after another, in the memory of one. If there is a file for certificates, those of
-/// frames that are sole or most likely are written to it, one after another. A frame's certificate is written before its
-/// verdict is printed.
+/// frames that are sole or most likely are written to it, one after another. A frame's certificate is written before
+/// its verdict is printed.
 ///
-/// The exit is 0 if all frames are sole or most likely, also if there is none. If a word is refused, or the file ends in
-/// a frame, that is the fault; the lines and certificates of the frames before it remain. The certificates' file is
+/// The exit is 0 if all frames are sole or most likely, also if there is none. If a word is refused, or the file ends
+/// in a frame, that is the fault; the lines and certificates of the frames before it remain. The certificates' file is
 /// begun when the first frame is accepted, or at the end of a file without frames. More than 2^48 bytes, or
 /// 4,294,967,295 frames, are too long. If all values of the file are 0 or 1, and it is not `hard`, a note on the errors
-/// says so after the report, unless notes are left out.
+/// says so after the report, unless notes are suppressed.
 pub fn judge_each_command<R: CountedRead, C: Output, O: CountedWrite, E: CountedWrite>(
     alloc: Global,
     shape: Shape,
@@ -274,5 +274,5 @@ pub fn judge_each_command<R: CountedRead, C: Output, O: CountedWrite, E: Counted
     ensures run { JudgeEachExits hard quiet tuning shape files.old files.new console.old console.new result }
 {
     let ran = print_judgements(alloc, shape, hard, tuning, files, &mut console.output);
-    conclude_judged(hard, quiet, ran, console)
+    finish_judged(hard, quiet, ran, console)
 }

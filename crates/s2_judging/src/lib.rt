@@ -21,6 +21,7 @@
 #![tactic(auto)]
 
 mod decision;
+mod demo;
 mod files;
 mod frames;
 mod hard;
@@ -28,11 +29,10 @@ mod hard_note;
 mod judge;
 mod judge_each;
 mod lines;
-mod own;
 mod reading;
 mod words;
 
+pub use demo::{TOY_ROWS, self_command};
 pub use files::JudgeFiles;
 pub use judge::judge_command;
 pub use judge_each::judge_each_command;
-pub use own::{TOY_ROWS, self_command};

@@ -13,7 +13,7 @@ use s2_rows::ValueFault;
 /// Larger than any soft value. Still larger numbers are read as this one.
 const TOO_LARGE: u32 = 1_000_000;
 
-/// A word so far: whether it begins with a minus, how many bytes came after that, at most 2, and the number of these if
+/// A word so far: whether it begins with a minus, the number of bytes after that, at most 2, and the value of these if
 /// they are digits.
 #[derive(Clone, Copy)]
 pub(crate) struct Word {
@@ -141,7 +141,7 @@ impl Word {
     }
 }
 
-/// Where a text goes on.
+/// How a text continues.
 #[derive(Clone, Copy)]
 pub(crate) enum Place {
     /// Before the first word of a line.

@@ -1,6 +1,6 @@
 //! A receiver whose reads and writes fail in turn: the results of its calls from then on, and what was written before.
-use super::hearing::{assert_received, hear, receive};
 use super::receiver_tests::frame;
+use super::reception::{assert_received, hear, receive};
 use super::samples::{Sample, two_frames, two_packets};
 use s2_modem::{DemodFault, SetupFault};
 use s2_receive::{Fault, Step};

@@ -7,10 +7,10 @@
 #[cfg(test)]
 mod fault_tests;
 #[cfg(test)]
-mod hearing;
-#[cfg(test)]
 mod modem_memory_tests;
 #[cfg(test)]
 mod receiver_tests;
+#[cfg(test)]
+mod reception;
 #[cfg(test)]
 mod samples;

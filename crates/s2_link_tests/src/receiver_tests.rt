@@ -1,5 +1,5 @@
 //! What a receiver shows of its frames, and calls that no command makes.
-use super::hearing::{Shown, assert_received, received, show_by_rooms};
+use super::reception::{Shown, assert_received, received, show_by_rooms};
 use super::samples::{Sample, one_frame, two_frames, two_packets};
 use s2_check::{Answer, Verdict};
 use s2_modem::{DemodFault, SetupFault};

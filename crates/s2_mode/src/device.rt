@@ -9,7 +9,7 @@ use std::io::{Read, Write};
 
 /// A reader. `answers` relates its state before and after a call, the result, and what the buffer then holds.
 /// So a wrapper can promise that it made a call and returned that call's result.
-pub trait Source {
+pub trait RawRead {
     ghost left: { Self → Option (List ℕ) };
 
     ghost answers: { Self → Self → Result ℕ ReadFault → List ℕ → Type 0 };
@@ -21,7 +21,7 @@ pub trait Source {
 }
 
 /// A writer. `answers` relates its state before and after a call, the result, and the bytes to write.
-pub trait Sink {
+pub trait RawWrite {
     ghost taken: { Self → Option (List ℕ) };
 
     ghost answers: { Self → Self → Result ℕ WriteFault → List ℕ → Type 0 };
@@ -35,7 +35,7 @@ pub trait Sink {
 }
 
 /// Each reader of std. Its contract has no name for what a call returns.
-impl<R: Read> Source for R {
+impl<R: Read> RawRead for R {
     ghost left = { R.remaining };
 
     ghost answers = { λ old new answer bytes. ⊤ };
@@ -46,7 +46,7 @@ impl<R: Read> Source for R {
 }
 
 /// Each writer of std. Its contract has no name for what a call returns.
-impl<W: Write> Sink for W {
+impl<W: Write> RawWrite for W {
     ghost taken = { W.contents };
 
     ghost answers = { λ old new answer bytes. ⊤ };

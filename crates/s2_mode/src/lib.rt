@@ -8,8 +8,8 @@
 //! positive for a 0.
 //!
 //! A call that reads or writes takes a [`Counted`] reader or writer. Over memory its contract names the bytes. A failed
-//! call increments the count, so no fault is returned unless a call failed. [`Counting`] counts for any [`Source`] or
-//! [`Sink`], which each reader and each writer of std is, and fails only if a call into it failed. [`InMemory`] reads a
+//! call increments the count, so no fault is returned unless a call failed. [`Counting`] counts for any [`RawRead`] or
+//! [`RawWrite`], which each reader and each writer of std is, and fails only if a call into it failed. [`InMemory`] reads a
 //! slice.
 //!
 //! A [`Symbol`] has four bytes in a file, and is read back from the bytes that were written ([`laws::symbols_back`]).
@@ -44,7 +44,7 @@ mod wrapped;
 pub use counts::{
     Counted, CountedRead, CountedWrite, ReadFault, WriteFault, read_full, write_full,
 };
-pub use device::{Sink, Source};
+pub use device::{RawRead, RawWrite};
 pub use fakes::{ByOne, Endless, FailAt};
 pub use fault_text::FaultText;
 pub use lanes::{put_four, symbols_from, words_from};

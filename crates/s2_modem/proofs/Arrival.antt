@@ -1,5 +1,5 @@
 -- What is sent arrives.
-use Rattle.s2_modem.proofs.Names.{⊤, nat_eq, if◌then◌else◌, ◌≡◌, ℕ, ◌+◌, ◌*◌, IsTrue, Bool, true, false, List, [], ◌∷◌, ◌++◌, All, Option, Some, None, length, refl, sym, ap, ap₂, ◌∙◌, subst, append_assoc, append-nil, length-append, arith, All-nil, All-cons, Appends, Consumes, IsAtEnd, Mode, IsMode, HasCodeSizes, symbols_of, symbol_bytes, bytes_of_symbols, Symbol, field_bytes, stream_of, fields_of, dummy_frame, Link, sent_behind, Transmitter, is_due, AreUnits, Met, frame, ended, no_gap, met_from, Meets, Rules, State, Standing, at_start, with_gap, begun, left_in, left_known, after, after_all, all_packets, all_lines, frame_line, end_line, Piece, coded, dummy, joined, stream_symbols, SpellSymbols, AreReceived, frames_at, SkippedNone, Report, Totals, Verdict, is_certified, Delivered, Outcome, gives, all_met, after-append, packets-append, lines-append, symbols-append, AreBytes, ReceivesAll, certified_lines, run_places, totals_of, sent_symbols, places_in, max_symbols, ArrivalLaw, link_rules, FramePlace, Figures, IsCodeword, code_of, zero, suc, saturated, sums_after, refused_in, energy_over, sums_over, clean_energy, clean_figures_by}
+use Rattle.s2_modem.proofs.Names.{⊤, nat_eq, if◌then◌else◌, ◌≡◌, ℕ, ◌+◌, ◌*◌, IsTrue, Bool, true, false, List, [], ◌∷◌, ◌++◌, All, Option, Some, None, length, length-map, map, refl, sym, ap, ap₂, ◌∙◌, subst, append_assoc, append-nil, length-append, arith, All-nil, All-cons, Appends, Consumes, IsAtEnd, Mode, IsMode, HasCodeSizes, symbols_of, symbol_bytes, bytes_of_symbols, Symbol, field_bytes, stream_of, fields_of, dummy_frame, Link, sent_behind, Transmitter, is_due, AreUnits, AreCodewords, Met, frame, ended, no_gap, met_from, Meets, Rules, State, Standing, at_start, with_gap, begun, left_in, left_known, after, after_all, all_packets, all_lines, frame_line, end_line, Piece, coded, dummy, joined, stream_symbols, SpellSymbols, AreReceived, frames_at, SkippedNone, Report, Totals, Verdict, is_certified, Delivered, Outcome, gives, all_met, after-append, packets-append, lines-append, symbols-append, AreBytes, ReceivesAll, certified_lines, run_places, totals_of, sent_symbols, places_in, sent_places, max_symbols, ArrivalLaw, link_rules, FramePlace, Figures, IsCodeword, code_of, zero, suc, saturated, sums_after, refused_in, energy_over, sums_over, clean_energy, clean_figures_by}
 use Rattle.s2_modem.proofs.Names.phases
 use Rattle.s2_modem.proofs.SymbolsBack.{frame_read, dummy_read}
 use Rattle.s2_modem.proofs.ByteStreams.{AreFields, front_fields}
@@ -29,14 +29,32 @@ AllCoded holds [] = ⊤
 AllCoded holds (coded symbols ∷ pieces) = holds symbols × AllCoded holds pieces
 AllCoded holds (dummy symbols ∷ pieces) = AllCoded holds pieces
 
--- a frame that is delivered with no place changed, with these figures, and whose header has this energy
-record IsMeasured (rules : Rules) (figures : Option Figures) (energy : ℕ) (symbols : List Symbol) : Type 0 where
+-- a frame that is delivered with no place changed, and whose header has this energy
+record IsMeasured (rules : Rules) (energy : ℕ) (symbols : List Symbol) : Type 0 where
   outcome : (rules.decide symbols).outcome ≡ Delivered 0
-  figures_are : (rules.decide symbols).figures ≡ figures
   energy_is : (rules.decide symbols).energy ≡ energy
 
-module _ (t : Transmitter) (rules : Rules) (receives_all : ReceivesAll t.link rules) (figures : Option Figures) (energy : ℕ)
-    (measures : (codeword : List Bool) → IsCodeword (code_of t.link.rows) codeword → ((rules.decide (sent_symbols t.link codeword)).figures ≡ figures) × ((rules.decide (sent_symbols t.link codeword)).energy ≡ energy)) where
+-- the codewords of units
+abbrev codewords_in : (t : Transmitter) (number at : ℕ) (fields units : List (List ℕ)) → AreUnits t number at fields units → List (List Bool)
+codewords_in t number at [] [] sent = []
+codewords_in t number at [] (u ∷ us) sent = []
+codewords_in t number at (f ∷ fs) [] sent = []
+codewords_in t number at (f ∷ fs) (u ∷ us) sent = sent.0.is_frame.codeword ∷ codewords_in t (number + 1) (at + length f) fs us sent.1
+
+are_codewords : (t : Transmitter) (number at : ℕ) (fields units : List (List ℕ)) → (sent : AreUnits t number at fields units) → AreCodewords t.link at fields (codewords_in t number at fields units sent)
+are_codewords t number at [] [] sent = tt
+are_codewords t number at [] (u ∷ us) sent = absurd sent
+are_codewords t number at (f ∷ fs) [] sent = absurd sent
+are_codewords t number at (f ∷ fs) (u ∷ us) sent = (sent.0.is_frame.is_codeword, are_codewords t (number + 1) (at + length f) fs us sent.1)
+
+count_codewords : (t : Transmitter) (number at : ℕ) (fields units : List (List ℕ)) → (sent : AreUnits t number at fields units) → length (codewords_in t number at fields units sent) ≡ length fields
+count_codewords t number at [] [] sent = refl
+count_codewords t number at [] (u ∷ us) sent = absurd sent
+count_codewords t number at (f ∷ fs) [] sent = absurd sent
+count_codewords t number at (f ∷ fs) (u ∷ us) sent = ap suc (count_codewords t (number + 1) (at + length f) fs us sent.1)
+
+module _ (t : Transmitter) (rules : Rules) (receives_all : ReceivesAll t.link rules) (figures : List Bool → Option Figures) (energy : ℕ)
+    (measures : (codeword : List Bool) → IsCodeword (code_of t.link.rows) codeword → ((rules.decide (sent_symbols t.link codeword)).figures ≡ figures codeword) × ((rules.decide (sent_symbols t.link codeword)).energy ≡ energy)) where
   abbrev link : Link
   link = t.link
 
@@ -45,7 +63,7 @@ module _ (t : Transmitter) (rules : Rules) (receives_all : ReceivesAll t.link ru
     pieces : List Piece
     are : (b : Bool) → AreReceived rules link.setup.roll_off b at pieces fields
     certified : AllCoded (IsCertifiedFrame rules) pieces
-    measured : AllCoded (IsMeasured rules figures energy) pieces
+    measured : AllCoded (IsMeasured rules energy) pieces
     places_are : (place : ℕ) → places_in rules place pieces ≡ places place
     symbols : (rest : List ℕ) → symbols_of (bytes ++ rest) ≡ stream_symbols pieces ++ symbols_of rest
 
@@ -62,8 +80,8 @@ module _ (t : Transmitter) (rules : Rules) (receives_all : ReceivesAll t.link ru
     symbols = λ rest. frame_before (dummy_frame link.setup.number) (stream_symbols h.pieces) bytes rest (dummy_read link.setup.number) (h.symbols rest);
   }
 
-  heard : (number at : ℕ) (fields units : List (List ℕ)) → AreFields (field_bytes link.setup.mode) at fields → AreUnits t number at fields units
-      → Heard at fields (joined units) (λ place. run_places figures rules.size t.dummy_every number place (length fields))
+  heard : (number at : ℕ) (fields units : List (List ℕ)) → AreFields (field_bytes link.setup.mode) at fields → (sent : AreUnits t number at fields units)
+      → Heard at fields (joined units) (λ place. run_places (map figures (codewords_in t number at fields units sent)) rules.size t.dummy_every number place)
   heard number at [] [] each sent = record { pieces = []; are = λ b. tt; certified = tt; measured = tt; places_are = λ place. refl; symbols = λ rest. refl }
   heard number at [] (u ∷ us) each sent = absurd sent
   heard number at (f ∷ fs) [] each sent = absurd sent
@@ -80,7 +98,7 @@ module _ (t : Transmitter) (rules : Rules) (receives_all : ReceivesAll t.link ru
         pieces = coded s ∷ more.pieces;
         are = λ b. (one.0 b, more.are true);
         certified = (record { verdict = one.1.verdict; outcome = one.1.delivered.outcome }, more.certified);
-        measured = (record { outcome = one.1.delivered.outcome; figures_are = seen.0; energy_is = seen.1 }, more.measured);
+        measured = (record { outcome = one.1.delivered.outcome; energy_is = seen.1 }, more.measured);
         places_are = λ place i. record { at = place; verdict = one.2 i; figures = seen.0 i } ∷ more.places_are (place + rules.size) i;
         symbols = λ rest.
             ap (λ l. symbols_of ((l ++ joined us) ++ rest)) (unit.spelt ∙ ap (λ l. l ++ behind) unit.is_frame.spelt)
@@ -103,28 +121,28 @@ called rules at (coded l ∷ ps) s c =
     )
 called rules at (dummy l ∷ ps) s c = called rules (at + 3330) ps s c
 
--- what n frames with the same figures, and headers of the same energy, add to totals
-record AreMeasured (figures : Option Figures) (energy n : ℕ) (before now : Totals) : Type 0 where
+-- what frames at these places, with headers of the same energy, add to totals
+record AreMeasured (energy : ℕ) (places : List FramePlace) (before now : Totals) : Type 0 where
   refused : before.refused ≡ 0 → now.refused ≡ 0
-  energies : now.energy ≡ energy_over energy before.energy n
-  sums : now.sums ≡ sums_over figures before.sums n
+  energies : now.energy ≡ energy_over energy before.energy (length places)
+  sums : now.sums ≡ sums_over places before.sums
 
-measured_all : (rules : Rules) (figures : Option Figures) (energy at : ℕ) (pieces : List Piece) (s : Standing) → AllCoded (IsMeasured rules figures energy) pieces
-    → AreMeasured figures energy (length (places_in rules at pieces)) s.totals (after_all rules s (frames_at rules.size at pieces)).totals
-measured_all rules figures energy at [] s m = record { refused = λ none. none; energies = refl; sums = refl }
-measured_all rules figures energy at (coded l ∷ ps) s m =
-    let more = measured_all rules figures energy (at + rules.size) ps (after rules s (frame at no_gap l)) m.1 in
+measured_all : (rules : Rules) (energy at : ℕ) (pieces : List Piece) (s : Standing) → AllCoded (IsMeasured rules energy) pieces
+    → AreMeasured energy (places_in rules at pieces) s.totals (after_all rules s (frames_at rules.size at pieces)).totals
+measured_all rules energy at [] s m = record { refused = λ none. none; energies = refl; sums = refl }
+measured_all rules energy at (coded l ∷ ps) s m =
+    let more = measured_all rules energy (at + rules.size) ps (after rules s (frame at no_gap l)) m.1 in
     let n = length (places_in rules (at + rules.size) ps) in
     record {
       refused = λ none. more.refused (ap₂ (λ (r : ℕ) (o : Outcome). saturated r (refused_in o)) none m.0.outcome);
       energies = more.energies ∙ ap (λ e. energy_over energy (saturated s.totals.energy e) n) m.0.energy_is;
-      sums = more.sums ∙ ap (λ f. sums_over figures (sums_after s.totals.sums f) n) m.0.figures_are;
+      sums = more.sums;
     }
-measured_all rules figures energy at (dummy l ∷ ps) s m = measured_all rules figures energy (at + 3330) ps s m
+measured_all rules energy at (dummy l ∷ ps) s m = measured_all rules energy (at + 3330) ps s m
 
-length-run_places : (figures : Option Figures) (size every number at n : ℕ) → length (run_places figures size every number at n) ≡ n
-length-run_places figures size every number at zero = refl
-length-run_places figures size every number at (suc n) = ap suc (length-run_places figures size every (number + 1) _ n)
+length-run_places : (figures : List (Option Figures)) (size every number at : ℕ) → length (run_places figures size every number at) ≡ length figures
+length-run_places [] size every number at = refl
+length-run_places (f ∷ fs) size every number at = ap suc (length-run_places fs size every (number + 1) _)
 
 -- all that was read
 all_read : (source bytes : List ℕ) (left : Option (List ℕ)) → Consumes (Some source) left bytes → IsAtEnd left → source ≡ bytes
@@ -146,7 +164,8 @@ arrival_law m valid sizes t tuning count_old count_new source written counts tot
     all_read source (joined runs.packets ++ runs.rest) source_left runs.read runs.ends ∙ ap (λ l. joined runs.packets ++ l) runs.outcome.1 ∙ append-nil (joined runs.packets) in
     let all_fields : runs.fields ++ [] ≡ fields_of size (stream_of runs.packets) = append-nil runs.fields ∙ runs.outcome.2 in
     let fields = front_fields size runs.packets runs.fields [] receives_all.field_least runs.each_is_packet (subst AreBytes from are_bytes) all_fields in
-    let figures = clean_figures_by tuning t.link.setup.mode in
+    let figures = clean_figures_by tuning t.link.setup.mode t.link.setup.number in
+    let codewords = codewords_in t 1 0 runs.fields runs.units runs.are_units in
     let h = heard t rules receives_all figures clean_energy (clean_measures m valid sizes t.link linked tuning known) 1 0 runs.fields runs.units fields runs.are_units in
     let g = gives rules t.link.setup.roll_off size runs.packets runs.fields [] h.pieces [] receives_all.least receives_all.field_least runs.each_is_packet all_fields (h.are false) in
     let just = frames_at rules.size 0 h.pieces in
@@ -158,18 +177,26 @@ arrival_law m valid sizes t tuning count_old count_new source written counts tot
     let all = g.all refl in
     let framed = sym runs.outcome.4 in
     let over = passed_at_end end.totals g.skipped in
-    let places = h.places_are 0 ∙ ap (run_places figures rules.size t.dummy_every 1 0) framed in
-    let n : length (places_in rules 0 h.pieces) ≡ counts.frames = ap length places ∙ length-run_places figures rules.size t.dummy_every 1 0 counts.frames in
-    let sums = measured_all rules figures clean_energy 0 h.pieces at_start h.measured in
-    let counted : last ≡ totals_of figures clean_energy counts =
-    λ i. record { frames = (g.frames_count ∙ framed) i; delivered = (g.delivered ∙ framed) i; packets = (g.packets_count ∙ ap length all ∙ sym runs.outcome.3) i; bad = g.bad i; incomplete = g.incomplete_none i; cut = g.cut i; skipped = over.0 i; places = over.1 i; first = over.2 i; refused = sums.refused refl i; energy = (sums.energies ∙ ap (energy_over clean_energy 0) n) i; sums = (sums.sums ∙ ap (sums_over figures None) n) i } in
+    let places : places_in rules 0 h.pieces ≡ sent_places t tuning codewords = h.places_are 0 in
+    let n : length (places_in rules 0 h.pieces) ≡ counts.frames =
+    ap length places ∙ length-run_places (map figures codewords) rules.size t.dummy_every 1 0 ∙ length-map codewords figures ∙ count_codewords t 1 0 runs.fields runs.units runs.are_units ∙ framed in
+    let sums = measured_all rules clean_energy 0 h.pieces at_start h.measured in
+    let counted : last ≡ totals_of (sent_places t tuning codewords) clean_energy counts =
+    λ i. record { frames = (g.frames_count ∙ framed) i; delivered = (g.delivered ∙ framed) i; packets = (g.packets_count ∙ ap length all ∙ sym runs.outcome.3) i; bad = g.bad i; incomplete = g.incomplete_none i; cut = g.cut i; skipped = over.0 i; places = over.1 i; first = over.2 i; refused = sums.refused refl i; energy = (sums.energies ∙ ap (energy_over clean_energy 0) n) i; sums = (sums.sums ∙ ap (λ p. sums_over p None) places) i } in
     let totals_are = got.totals_are ∙ ap (λ (x : Standing). x.totals) (processed.standing ∙ ap (after_all rules at_start) met_is ∙ after-append rules just (ended no_gap ∷ []) at_start) in
     let packets : all_packets rules at_start met ≡ source =
     ap (all_packets rules at_start) met_is ∙ packets-append rules just (ended no_gap ∷ []) at_start ∙ append-nil (all_packets rules at_start just) ∙ g.written ∙ ap joined all ∙ sym from in
-    let lines : all_lines rules at_start met ≡ certified_lines 0 (run_places figures rules.size t.dummy_every 1 0 counts.frames) ++ end_line totals =
+    let lines : all_lines rules at_start met ≡ certified_lines 0 (sent_places t tuning codewords) ++ end_line totals =
     ap (all_lines rules at_start) met_is ∙ lines-append rules just (ended no_gap ∷ []) at_start
     ∙ ap₂ (λ (a : List ℕ) (b : List ℕ). a ++ b) ((called rules 0 h.pieces at_start h.certified).0 ∙ ap (certified_lines 0) places) (append-nil (end_line last) ∙ ap end_line (sym totals_are)) in
     record {
+      codewords = codewords;
+      are_sent = record {
+        packets = runs.packets;
+        each_is_packet = runs.each_is_packet;
+        source_is = from;
+        are_codewords = subst (λ (fs : List (List ℕ)). AreCodewords t.link 0 fs codewords) runs.outcome.2 (are_codewords t 1 0 runs.fields runs.units runs.are_units);
+      };
       packets = subst (Appends before.given behind.given) packets processed.packets;
       totals_are = totals_are ∙ counted;
       lines = subst (Appends before.out behind.out) lines processed.lines;

@@ -1,7 +1,10 @@
 -- The figures of a frame without noise: nothing is wrong.
 use Rattle.s2_modem.proofs.Names.{◌≡◌, ℕ, zero, suc, ◌+◌, ◌*◌, ◌%◌, ◌==◌, ◌<◌, Bool, true, false, cond, List, [], ◌∷◌, length, take, map, range_with_len, Option, Some, None, refl, sym, ap, ap₂, subst, ◌∙◌, arith, ints, ℤ, pos, neg_ℤ, length-take, length-map-range_with_len, get_or-map-range_with_len, ext_get_or, sum_by-cons, Mode, IsMode, HasCodeSizes, n_of, symbols_in, Symbol, symbol, symbol_at, symbols_least, decision, differences, IsCodeword, code_of, hard_decision, View, header_bit, header_point, header_symbol, frame_symbol, frame_symbols, payload_of, IsDivisor, Link, Tuning, IsLinkOf, Decided, decided, rounds_run, clean_lem, codeword_satisfied, rounds_hard, Figures, squared_distance, error_at, known_places, payload_places, sent_frame, figures_of, symbol_energy, energy_of, header_errors, frame_soft, figures_by, frame_decision, sent_symbols, clean_energy, clean_figures, clean_figures_by}
-use Rattle.std.specs.Prelude.{◌-ℤ◌, unsigned_abs}
+use Rattle.std.specs.Prelude.{negsuc, ◌+ℤ◌, ◌-ℤ◌, ◌*ℤ◌, unsigned_abs}
+use lib.IntN.{pos-*ℤ-pos, negsuc-*ℤ-negsuc, *ℤ_comm}
 use Rattle.std.specs.List.{sum_by}
+use Rattle.s2_figures.specs.Correlation.{correlation, correlation_over, plus}
+use Rattle.s2_modem.specs.Front.{clean_correlation}
 use Rattle.s2_plframe.specs.Search.{mismatches}
 use Rattle.s2_plframe.specs.Header.{header_of}
 use Rattle.s2_plframe.proofs.HeaderFacts.{header_at, header_no_mismatch}
@@ -20,6 +23,24 @@ none_over : (symbols : List Symbol) (places : List ℕ) → sum_by (error_at sym
 none_over symbols [] = refl
 none_over symbols (k ∷ ks) =
     sum_by-cons (error_at symbols symbols) k ks ∙ ap₂ (λ (a : ℕ) (b : ℕ). a + b) (no_distance (symbol_at symbols k)) (none_over symbols ks)
+
+-- ---- correlations
+
+square : (a : ℤ) → a *ℤ a ≡ pos (unsigned_abs a * unsigned_abs a)
+square (pos n) = pos-*ℤ-pos n n
+square (negsuc n) = negsuc-*ℤ-negsuc n n
+
+with_itself : (s : Symbol) → correlation s s ≡ record { power = symbol_energy s; along = pos (symbol_energy s); across = pos 0 }
+with_itself s =
+    let along = ap₂ (λ (a : ℤ) (b : ℤ). a +ℤ b) (square s.i) (square s.q) in
+    let across : s.q *ℤ s.i -ℤ s.i *ℤ s.q ≡ pos 0 = omega (arith, ints, *ℤ_comm s.q s.i) in
+    λ t. record { power = symbol_energy s; along = along t; across = across t }
+
+clean_over : (sent : List Symbol) (places : List ℕ) → correlation_over places sent sent ≡ clean_correlation places sent
+clean_over sent [] = refl
+clean_over sent (k ∷ ks) =
+    let sum = sym (sum_by-cons (λ i. symbol_energy (symbol_at sent i)) k ks) in
+    ap₂ plus (with_itself (symbol_at sent k)) (clean_over sent ks) ∙ (λ t. record { power = sum t; along = pos (sum t); across = pos 0 })
 
 -- ---- the header
 
@@ -57,7 +78,7 @@ header_energy m number payload is =
 
 -- ---- the frame
 
-all_clean : (m : Mode) (number : ℕ) (soft : List ℤ) (word : List Bool) → IsMode m → hard_decision soft ≡ word → figures_of m number (sent_frame m number word) soft word 0 ≡ clean_figures m
+all_clean : (m : Mode) (number : ℕ) (soft : List ℤ) (word : List Bool) → IsMode m → hard_decision soft ≡ word → figures_of m number (sent_frame m number word) soft word 0 ≡ clean_figures m number word
 unfolding figures_of
 all_clean m number soft word is hard =
     let none : differences (n_of m) (hard_decision soft) word ≡ 0 = ap (λ (w : List Bool). differences (n_of m) w word) hard ∙ differences_none (n_of m) word in
@@ -68,11 +89,13 @@ all_clean m number soft word is hard =
       changed = record { sum = none i; of = n_of m };
       known = record { sum = none_over sent (known_places m) i; of = length (known_places m) };
       payload = record { sum = none_over sent (payload_places m) i; of = length (payload_places m) };
+      known_correlation = clean_over sent (known_places m) i;
+      payload_correlation = clean_over sent (payload_places m) i;
     }
 
 -- the figures of a codeword's frame without noise, if they are wanted, and its header's energy
 pub clean_measures : (m : Mode) → IsMode m → HasCodeSizes m → (link : Link) → IsLinkOf m link → (tuning : Tuning) → IsDivisor tuning.divisor → (codeword : List Bool) → IsCodeword (code_of link.rows) codeword
-    → ((frame_decision link tuning (sent_symbols link codeword)).figures ≡ clean_figures_by tuning link.setup.mode) × ((frame_decision link tuning (sent_symbols link codeword)).energy ≡ clean_energy)
+    → ((frame_decision link tuning (sent_symbols link codeword)).figures ≡ clean_figures_by tuning link.setup.mode link.setup.number codeword) × ((frame_decision link tuning (sent_symbols link codeword)).energy ≡ clean_energy)
 unfolding frame_decision
 clean_measures m valid sizes link linked tuning known codeword in_code =
     let mode = link.setup.mode in
@@ -86,6 +109,6 @@ clean_measures m valid sizes link linked tuning known codeword in_code =
     let sure = clean_lem link.rows tuning soft word in
     let bits : (decided link.rows tuning soft).bits ≡ codeword = ap (λ (d : Decided). d.bits) sure.0 ∙ hard in
     let rounds : rounds_run link.rows tuning soft ≡ 0 = rounds_hard link.rows tuning soft (codeword_satisfied (code_of link.rows) (hard_decision soft) word) in
-    let figures : figures_of mode number symbols soft (decided link.rows tuning soft).bits (rounds_run link.rows tuning soft) ≡ clean_figures mode =
+    let figures : figures_of mode number symbols soft (decided link.rows tuning soft).bits (rounds_run link.rows tuning soft) ≡ clean_figures mode number codeword =
     (λ i. figures_of mode number symbols soft (bits i) (rounds i)) ∙ all_clean mode number soft codeword is hard in
     (ap (λ (f : Figures). cond tuning.figures (Some f) None) figures, header_energy mode number (payload_of mode codeword) is)

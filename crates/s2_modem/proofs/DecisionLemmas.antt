@@ -1,5 +1,5 @@
 -- What a decider finds is what is decided of a frame.
-use Rattle.s2_modem.proofs.Names.{and_parts, ◌≡◌, ℕ, ◌+◌, ◌-◌, ◌*◌, ◌/◌, ◌≤◌, Bool, true, false, List, length, take, Option, Some, None, IfSome, IfNone, Result, Ok, refl, sym, ap, subst, ◌∙◌, arith, length-take, ℤ, replicate, pos, leb-true, ext_get_or, get_or-take, take-replicate, field_bytes, Mode, HasCodeSizes, k_of, kbch_of, n_of, shape_in, code_bits, Symbol, Rows, code_of, Verdict, View, Link, bit_at, differences, Rewritten, Header, HeaderFault, is_whole, is_packet_stream, header_of, has_valid_lengths, header_of_bytes, header_of_bytes-bad_crc, header_of_bytes-other, header_of_bytes-bad_lengths, header_of_bytes-accepted, IsWithin, nearest, Decision, Answer, Outcome, Decided, decided, Tuning, frame_soft, frame_decision, received_word, message_of, header_in, outcome_by, delivered_by, decision_on, decision_by, IsUndecided, scrambled, FindsWord, Reads, decision_held, cond, Figures, FigureFinder, finder_of, figures_of, figures_found, finder_by, figures_by, measured, rounds_run, energy_of}
+use Rattle.s2_modem.proofs.Names.{and_parts, ◌≡◌, ℕ, ◌+◌, ◌-◌, ◌*◌, ◌/◌, ◌≤◌, Bool, true, false, List, length, take, Option, Some, None, IfSome, IfNone, Result, Ok, refl, sym, ap, subst, ◌∙◌, arith, length-take, ℤ, replicate, pos, leb-true, ext_get_or, get_or-take, take-replicate, field_bytes, Mode, HasCodeSizes, k_of, kbch_of, n_of, shape_in, code_bits, Symbol, Rows, code_of, Verdict, View, Link, bit_at, differences, Rewritten, Header, HeaderFault, is_whole, is_packet_stream, header_of, has_valid_lengths, header_of_bytes, header_of_bytes-bad_crc, header_of_bytes-other, header_of_bytes-bad_lengths, header_of_bytes-accepted, IsWithin, nearest, Decision, Answer, Outcome, Decided, decided, Tuning, frame_soft, frame_decision, received_word, message_of, header_in, outcome_by, delivered_by, decision_on, decision_by, IsUndecided, scrambled, FindsWord, Reads, decision_held, cond, Figures, FigureMeter, meter_of, figures_of, figures_found, meter_by, figures_by, measured, rounds_run, energy_of}
 
 -- a list over which the first bits of another were written, as many as it has
 prefix_is : (n : ℕ) (bits old now : List Bool) → Rewritten false n (bit_at bits) old now → length old ≡ n → n ≤ length bits → now ≡ take n bits
@@ -58,15 +58,15 @@ decision_is m soft d word None outcome delivered finds reads =
     (λ i. shown m soft d.bits d.verdict d.certificate (finds.1 i) (reads.0 i) (reads.1 i)) ∙ ap (decision_by m soft d) (sym finds.0)
 
 -- what holds of a finder holds of it where one is wanted
-pub if_wanted : (P : FigureFinder → Type 0) (wanted : Bool) (f : FigureFinder) → P f → IfSome (cond wanted (Some f) None) P
+pub if_wanted : (P : FigureMeter → Type 0) (wanted : Bool) (f : FigureMeter) → P f → IfSome (cond wanted (Some f) None) P
 if_wanted P true f h = h
 if_wanted P false f h = tt
 
 -- what a finder finds are the figures of the frame
-pub figures_are : (link : Link) (tuning : Tuning) (symbols : List Symbol) (held soft : List ℤ) (bits : List Bool) (rounds : ℕ) (finder : Option FigureFinder) (figures : Option Figures)
-    → figures ≡ figures_found finder symbols held bits rounds → finder ≡ finder_by tuning link.setup.mode link.setup.number
+pub figures_are : (link : Link) (tuning : Tuning) (symbols : List Symbol) (held soft : List ℤ) (bits : List Bool) (rounds : ℕ) (meter : Option FigureMeter) (figures : Option Figures)
+    → figures ≡ figures_found meter symbols held bits rounds → meter ≡ meter_by tuning link.setup.mode link.setup.number
     → held ≡ soft → soft ≡ frame_soft link tuning symbols → bits ≡ (decided link.rows tuning soft).bits → rounds ≡ rounds_run link.rows tuning soft → figures ≡ figures_by link tuning symbols
-figures_are link tuning symbols held soft bits rounds finder figures found wanted held_is soft_is bits_are rounds_are =
+figures_are link tuning symbols held soft bits rounds meter figures found wanted held_is soft_is bits_are rounds_are =
     let m = link.setup.mode in
     let number = link.setup.number in
     let same : figures_of m number symbols held bits rounds ≡ figures_of m number symbols soft (decided link.rows tuning soft).bits (rounds_run link.rows tuning soft) =
@@ -75,7 +75,7 @@ figures_are link tuning symbols held soft bits rounds finder figures found wante
     found ∙ ap (λ f. figures_found f symbols held bits rounds) wanted ∙ by_want tuning.figures _ all
   where
     by_want : (wanted : Bool) (f : Figures) → figures_of link.setup.mode link.setup.number symbols held bits rounds ≡ f
-        → figures_found (cond wanted (Some (finder_of link.setup.mode link.setup.number)) None) symbols held bits rounds ≡ cond wanted (Some f) None
+        → figures_found (cond wanted (Some (meter_of link.setup.mode link.setup.number)) None) symbols held bits rounds ≡ cond wanted (Some f) None
     by_want true f is = ap Some is
     by_want false f is = refl
 

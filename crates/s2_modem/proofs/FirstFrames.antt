@@ -1,5 +1,5 @@
 -- The first frames of a stream arrive, and one stream gives the same however it is read.
-use Rattle.s2_modem.proofs.Names.{◌≡◌, Bool, true, false, ℕ, ◌+◌, ◌≤◌, inl, inr, List, [], ◌∷◌, length, refl, sym, ap, ◌∙◌, subst, Appends, Mode, IsMode, HasCodeSizes, Symbol, header_at, field_bytes, Rules, at_start, after_all, all_packets, all_lines, are_all_certified, Piece, coded, dummy, IsReceived, AreReceived, gives, front, same_met, IsDivisor, Tuning, Link, IsLinkOf, message_of, frame_decision, link_rules, IsDeliveredCertified, IsSent, IsWholeFrame, IsClear, IsHeard, AreEach, FirstFramesLaw, OneStreamLaw, AllHeard}
+use Rattle.s2_modem.proofs.Names.{◌≡◌, Bool, true, false, ℕ, ◌+◌, ◌≤◌, inl, inr, List, [], ◌∷◌, length, refl, sym, ap, ◌∙◌, subst, Appends, Mode, IsMode, HasCodeSizes, Symbol, header_at, field_bytes, Rules, at_start, after_all, all_packets, all_lines, are_all_certified, Piece, coded, dummy, IsReceived, AreReceived, gives, front, same_met, IsDivisor, Tuning, Link, IsLinkOf, message_of, frame_decision, link_rules, IsDeliveredCertified, IsSent, IsWholeFrame, IsClear, IsHeard, AreEach, FirstFramesLaw, OneStreamLaw, DeliversAll}
 use Rattle.s2_modem.proofs.CleanFrames.{is_mode, has_sizes, receives_all_law, scattered_law, both_codes_law}
 use Rattle.s2_modem.proofs.ByteStreams.{IsField, AreFields, front_fields}
 use Rattle.s2_modem.proofs.Arrival.{IsCertifiedFrame, AllCoded, called}
@@ -41,8 +41,8 @@ module _ (holds : Bool → ℕ → List ℕ → List Symbol → Type 0) (called_
       ((h.0, more.0), more.1)
 
 -- and so of each such frame of the link
-pub all_heard : (m : Mode) → IsMode m → HasCodeSizes m → (link : Link) (tuning : Tuning) → IsLinkOf m link → link.setup.roll_off ≤ 2 → IsDivisor tuning.divisor → AllHeard link tuning
-all_heard m valid sizes link tuning linked ro known =
+pub delivers_all : (m : Mode) → IsMode m → HasCodeSizes m → (link : Link) (tuning : Tuning) → IsLinkOf m link → link.setup.roll_off ≤ 2 → IsDivisor tuning.divisor → DeliversAll link tuning
+delivers_all m valid sizes link tuning linked ro known =
     let valid' = is_mode m valid sizes link linked in
     let sizes' = has_sizes m valid sizes link linked in
     record { clear = clear_one link.setup.mode valid' sizes' link tuning 0 (refl, linked.1) ro known; corrected = both_codes_law link.setup.mode valid' sizes' link tuning }

@@ -1,11 +1,11 @@
 -- The headline holds.
-use Rattle.s2_modem.proofs.Names.{◌≡◌, ℕ, zero, suc, ◌+◌, ◌<◌, ◌≤◌, ◌⊎◌, IsTrue, Bool, true, false, cond, List, [], ◌∷◌, ◌++◌, All, Option, Some, None, length, map, range_with_len, count_by, sum_by-cons, inl, inr, refl, sym, ap, ◌∙◌, subst, append_assoc, append-nil, Result, Ok, Err, ⊤, nat_lt, lt-leb, flat_map, All-nil, All-cons, All-weaker, arith, Mode, IsMode, HasCodeSizes, symbols_of, Streams, Symbol, code_of, header_at, field_bytes, IsDivisor, Found, Tuning, Link, IsLinkOf, Gap, Report, frame_line, cut_line, end_line, Met, frame, cut, ended, no_gap, extended, begins, by_found, met_from, Rules, State, Standing, at_start, at_end, with_gap, report_of, after, after_all, all_packets, all_lines, begun, RunsOut, Piece, joined, stream_symbols, SpellSymbols, IsReceived, frames_at, gives, all_joined, all_met, packets-append, frame_soft, IsAsLikely, IsCorrected, link_rules, AllAsLikely, AllTold, Receiver, rules_for, seen, IsSent, is_certified, Delivered, frame_from, decision_from, frame_decision, is_delivered, stands, IsFrameAt, IsCutAt, report_at, IsReadable, Arriving, closed_packets, wrong_bits, Headline, CallsLaw, KeepsHeadline, FramePromises, IsHeadline, RunsHeadline, RunAnswers, RunAnswersWith, Taking, ReceivesTo, Received, Totals, StreamFault, max_symbols}
+use Rattle.s2_modem.proofs.Names.{◌≡◌, ℕ, zero, suc, ◌+◌, ◌<◌, ◌≤◌, ◌⊎◌, IsTrue, Bool, true, false, cond, List, [], ◌∷◌, ◌++◌, All, Option, Some, None, length, map, range_with_len, count_by, sum_by-cons, inl, inr, refl, sym, ap, ◌∙◌, subst, append_assoc, append-nil, Result, Ok, Err, ⊤, nat_lt, lt-leb, flat_map, All-nil, All-cons, All-weaker, arith, Mode, IsMode, HasCodeSizes, symbols_of, Streams, Symbol, code_of, header_at, field_bytes, IsDivisor, Found, Tuning, Link, IsLinkOf, Gap, Report, frame_line, cut_line, end_line, Met, frame, cut, ended, no_gap, extended, begins, by_found, met_from, Rules, State, Standing, at_start, at_end, with_gap, report_of, after, after_all, all_packets, all_lines, begun, RunsOut, Piece, joined, stream_symbols, SpellSymbols, IsReceived, frames_at, gives, all_joined, all_met, packets-append, frame_soft, IsAsLikely, IsCorrected, link_rules, AllAsLikely, TrueReports, Receiver, rules_for, seen, IsSent, is_certified, Delivered, frame_from, decision_from, frame_decision, is_delivered, stands, IsFrameAt, IsCutAt, report_at, IsReadable, Arriving, closed_packets, wrong_bits, Headline, CallsLaw, KeepsHeadline, FramePromises, IsHeadline, RunsHeadline, RunAnswers, RunAnswersWith, Taking, ReceivesTo, Received, Totals, StreamFault, max_symbols}
 use Rattle.s2_modem.proofs.Names.founds
 use Rattle.s2_receive.specs.Calls.{call_lines, call_packets, in_memory, last_state}
 use Rattle.s2_receive.proofs.CallLemmas.{calls_are}
-use Rattle.s2_modem.proofs.CleanFrames.{all_as_likely, all_told, counts, receives_all_law, both_codes_law}
+use Rattle.s2_modem.proofs.CleanFrames.{all_as_likely, true_reports, counts, receives_all_law, both_codes_law}
 use Rattle.s2_modem.proofs.Moves.{reports_of, cut_of, IsThere, AreMet, are_met, at_coded, at_frame, at_cut}
-use Rattle.s2_modem.proofs.FirstFrames.{received_each, heard_one, all_heard}
+use Rattle.s2_modem.proofs.FirstFrames.{received_each, heard_one, delivers_all}
 use Rattle.s2_modem.proofs.ByteStreams.{IsField, front_fields}
 
 -- ---- what the lines tell
@@ -46,7 +46,7 @@ module _ (link : Link) (tuning : Tuning) (stream : List Symbol) (limit : ℕ) wh
   each_likely : AllAsLikely link tuning → (frames : List Report) → All IsOne frames → All IsLikely frames
   each_likely holds frames ones = All-weaker IsOne IsLikely (λ r one. subst IsLikely (sym one.2) (holds (frame_from link stream (stands link tuning stream one.0).at))) frames ones
 
-  each_within : AllTold link tuning → (frames : List Report) → All IsOne frames → All IsWithin frames
+  each_within : TrueReports link tuning → (frames : List Report) → All IsOne frames → All IsWithin frames
   each_within holds frames ones = All-weaker IsOne IsWithin (λ r one. subst IsWithin (sym one.2) (holds (frame_from link stream (stands link tuning stream one.0).at)).within) frames ones
 
   record Lines (met : List Met) (s : Standing) (frames : List Report) : Type 0 where
@@ -136,7 +136,7 @@ module _ (m : Mode) (valid : IsMode m) (sizes : HasCodeSizes m) (link : Link) (t
     headline : (symbols : List Symbol) → Headline link tuning symbols (all_packets by at_start (met_on symbols)) (all_lines by at_start (met_on symbols))
     headline symbols =
         let met = met_on symbols in
-        let all = all_heard m valid sizes link tuning linked ro known in
+        let all = delivers_all m valid sizes link tuning linked ro known in
         let frames = reports_of by at_start met in
         let said = tell link tuning symbols limit met at_start
         (are_met link tuning symbols (suc (length symbols)) 0 (stands link tuning symbols 0) no_gap refl (omega arith)) in
@@ -158,7 +158,7 @@ module _ (m : Mode) (valid : IsMode m) (sizes : HasCodeSizes m) (link : Link) (t
           found = said.ones;
           each = at_coded link tuning symbols limit;
           likely = each_likely link tuning symbols limit (all_as_likely m valid sizes link linked tuning) frames said.ones;
-          within = each_within link tuning symbols limit (all_told m valid sizes link linked tuning) frames said.ones;
+          within = each_within link tuning symbols limit (true_reports m valid sizes link linked tuning) frames said.ones;
           aligned = λ moves byte field codeword sent.
               (let place = stands link tuning symbols moves in
               let here = frame_from link symbols place.at in (
@@ -193,8 +193,8 @@ module _ (m : Mode) (valid : IsMode m) (sizes : HasCodeSizes m) (link : Link) (t
   pub frame_promises : link.setup.roll_off ≤ 2 → IsDivisor tuning.divisor → FramePromises link tuning
   frame_promises ro known = record {
     as_likely = all_as_likely m valid sizes link linked tuning;
-    told = all_told m valid sizes link linked tuning;
-    heard = all_heard m valid sizes link tuning linked ro known;
+    told = true_reports m valid sizes link linked tuning;
+    heard = delivers_all m valid sizes link tuning linked ro known;
   }
 
 -- ---- runs of a receiver

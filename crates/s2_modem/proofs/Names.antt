@@ -11,7 +11,7 @@ pub use Rattle.std.proofs.lemmas.List.Elements.{All-append, All-cons, All-drop, 
 pub use Rattle.std.proofs.lemmas.List.Sums.{sum_by-cons}
 pub use Rattle.std.proofs.lemmas.List.FromFn.{fill_by_all, get_or-map-range_with_len, length-map-range_with_len}
 pub use Rattle.std.proofs.lemmas.Result.{IfOk-weaker}
-pub use Rattle.s2_mode.specs.Limits.{max_symbols}
+pub use Rattle.s2_receive.specs.Limits.{max_symbols}
 pub use Rattle.s2_mode.specs.Mode.{HasCodeSizes, IsMode, Mode, is_qpsk, k_of, kbch_of, n_of, shape_in, slots_of, symbols_in, t_of}
 pub use Rattle.s2_mode.specs.Shape.{code_bits}
 pub use Rattle.s2_mode.specs.Streams.{Streams}
@@ -73,7 +73,7 @@ pub use Rattle.s2_judge.proofs.DecidingLemmas.{certified_lem, clean_lem, likely_
 pub use Rattle.s2_judge.proofs.Scattering.{scattered_lem}
 pub use Rattle.s2_send.specs.Frames.{IsCodewordFor, baseband_frame, padded_bits, sent_behind}
 pub use Rattle.s2_send.specs.Laws.{IsLinkOf}
-pub use Rattle.s2_send.specs.Sending.{AreUnits, is_due}
+pub use Rattle.s2_send.specs.Sending.{AreCodewords, AreUnits, is_due}
 pub use Rattle.s2_send.specs.Transmitter.{Transmitter}
 pub use Rattle.s2_send.proofs.OnlyFrames.{length-baseband_frame, length-bch_word}
 pub use Rattle.s2_receive.specs.Answers.{ReceivesTo, RunAnswers}
@@ -82,12 +82,12 @@ pub use Rattle.s2_receive.specs.declared.figures.Figures.{Figures}
 pub use Rattle.s2_receive.specs.declared.figures.Tally.{Tally}
 pub use Rattle.s2_receive.specs.Laws.{AreReceived, IsDummy, IsReceived, Piece, SkippedNone, SpellSymbols, coded, dummy, frames_at, joined, stream_symbols}
 pub use Rattle.s2_receive.specs.Meeting.{Met, begins, by_found, cut, ended, extended, frame, met_from, no_gap}
-pub use Rattle.s2_receive.specs.Parts.{IsSaidBy, delivered_of}
+pub use Rattle.s2_receive.specs.Decider.{IsSaidBy, delivered_of}
 pub use Rattle.s2_receive.specs.Receiving.{Decision, Meets, Rules, RunsOut, Standing, State, after, after_all, all_lines, all_packets, are_all_certified, at_end, at_start, begun, count_of, left_in, left_known, report_of, step_of, with_gap}
 pub use Rattle.s2_receive.specs.ReportLines.{cut_line, end_line, frame_line}
 pub use Rattle.s2_receive.specs.Sinks.{RunAnswersWith, Taking}
 unfoldable pub use Rattle.s2_receive.specs.Windows.{found_as}
-pub use Rattle.s2_receive.specs.declared.parts.Decided.{Decided as Answer}
+pub use Rattle.s2_receive.specs.declared.decider.Decided.{Decided as Answer}
 pub use Rattle.s2_receive.specs.declared.report.Outcome.{Outcome}
 pub use Rattle.s2_receive.specs.declared.report.Outcome.TheVariants.{BadHeader, Delivered, NoWord}
 pub use Rattle.s2_receive.specs.declared.report.Received.{Received}
@@ -102,19 +102,19 @@ pub use Rattle.s2_receive.proofs.RunLemmas.{after-append, lines-append, packets-
 pub use Rattle.s2_receive.proofs.SameSymbols.{all_met, same_met}
 pub use Rattle.s2_receive.proofs.StepLemmas.{symbols_least}
 pub use Rattle.s2_figures.specs.Errors.{error_at, known_places, payload_places, squared_distance}
-pub use Rattle.s2_figures.specs.Figures.{FigureFinder, finder_of, sent_frame}
+pub use Rattle.s2_figures.specs.Figures.{FigureMeter, meter_of, sent_frame}
 unfoldable pub use Rattle.s2_figures.specs.Figures.{figures_of}
 pub use Rattle.s2_figures.specs.Header.{symbol_energy}
 unfoldable pub use Rattle.s2_figures.specs.Header.{energy_of, header_errors}
 pub use Rattle.s2_modem.specs.Both.{AreBytes, FramePlace, IsByte, IsDelivered, IsDeliveredCertified, ReceivesAll, certified_lines, energy_over, run_places, sent_symbols, sums_over, totals_of}
 pub use Rattle.s2_modem.specs.Front.{IsCleanFrame, clean_energy, clean_figures, clean_figures_by}
-pub use Rattle.s2_modem.specs.Headline.{ArrivalLaw, BothCodesLaw, CorrectsWithin, IsSent, ReceivesAllLaw, ReceivesScattered, ScatteredFrameLaw}
-pub use Rattle.s2_modem.specs.Listening.{FindsWord, Listening, Reads, decides, decision_held, figures_found, finder_by}
+pub use Rattle.s2_modem.specs.Headline.{ArrivalLaw, BothCodesLaw, CorrectsWithin, IsSent, ReceivesAllLaw, ReceivesScattered, ScatteredFrameLaw, sent_places}
+pub use Rattle.s2_modem.specs.DeciderState.{FindsWord, DeciderState, Reads, decides, decision_held, figures_found, meter_by}
 pub use Rattle.s2_modem.specs.Promise.{Arriving, CallsLaw, Headline, IsCutAt, IsHeadline, IsNext, IsReadable, FramePromises, IsFrameAt, KeepsHeadline, Place, report_at, RunsHeadline, closed_packets, decision_from, found_at, frame_from, is_delivered, past, stands, wrong_bits}
-pub use Rattle.s2_modem.specs.Reception.{AllAsLikely, AllTold, IsAsLikely, IsCertifiedBy, IsCorrected, Receiver, link_rules, rules_for, seen}
+pub use Rattle.s2_modem.specs.Reception.{AllAsLikely, TrueReports, IsAsLikely, IsCertifiedBy, IsCorrected, Receiver, link_rules, rules_for, seen}
 pub use Rattle.s2_modem.specs.Reports.{IsUndecided, decision_by, decision_on, delivered_by, field_in, figures_by, frame_soft, header_in, measured, message_of, outcome_by, received_word}
 unfoldable pub use Rattle.s2_modem.specs.Reports.{frame_decision}
-pub use Rattle.s2_modem.specs.Steps.{AllHeard}
+pub use Rattle.s2_modem.specs.Steps.{DeliversAll}
 pub use Rattle.s2_modem.specs.Streams.{AreEach, FirstFramesLaw, IsClear, IsHeard, IsWholeFrame, OneStreamLaw, places_in}
 pub use Rattle.s2_plframe.specs.declared.receive.found.Found.TheVariants as founds
 pub use Rattle.s2_receive.specs.declared.report.Phase.TheVariants as phases

@@ -1,5 +1,5 @@
 -- Laws of a whole link: of each frame, and from packets to packets (EN 302 307-1, 5.1 to 5.5).
-use Rattle.std.specs.Prelude.{◌≡◌, ℕ, ◌<◌, ◌≤◌, IsTrue, Bool, List, [], ◌++◌, length, Option, Some, Ok}
+use Rattle.std.specs.Prelude.{◌≡◌, ℕ, ◌<◌, ◌≤◌, IsTrue, Bool, List, [], ◌++◌, All, length, map, Option, Some, Ok}
 use Rattle.std.specs.Io.KnownBytes.{Appends}
 use Rattle.s2_mode.specs.Mode.{Mode, k_of, t_of, symbols_in}
 use Rattle.s2_mode.specs.Streams.{Streams}
@@ -9,14 +9,14 @@ use Rattle.s2_bits.specs.Bits.{differences}
 use Rattle.s2_matrix.specs.Code.{code_of}
 use Rattle.s2_check.specs.Cost.{IsMostLikely}
 use Rattle.s2_split.specs.Scattered.{IsScattered}
-use Rattle.s2_bbframe.specs.DataStream.{header_at, to_place, field_bytes}
+use Rattle.s2_bbframe.specs.DataStream.{IsPacket, header_at, to_place, field_bytes, fields_of, stream_of}
 use Rattle.s2_receive.specs.Laws.{SpellSymbols}
 use Rattle.s2_receive.specs.Receiving.{Decision}
 use Rattle.s2_receive.specs.declared.report.Totals.{Totals}
 use Rattle.s2_check.specs.Strict.{IsSole}
 use Rattle.s2_check.specs.Verdicts.{is_certified}
 use Rattle.s2_check.specs.declared.verdict.Verdict.TheVariants.{Sole}
-use Rattle.s2_mode.specs.Limits.{max_symbols}
+use Rattle.s2_receive.specs.Limits.{max_symbols}
 use Rattle.s2_soft.specs.Divisors.{IsDivisor}
 use Rattle.s2_link.specs.Limits.{max_roll_off}
 use Rattle.s2_tuning.specs.Tuning.{Tuning}
@@ -24,12 +24,12 @@ use Rattle.s2_send.specs.declared.outcome.Counts.{Counts}
 use Rattle.s2_link.specs.Link.{Link}
 use Rattle.s2_send.specs.Laws.{IsLinkOf, ReadFails}
 use Rattle.s2_send.specs.Transmitter.{Transmitter}
-use Rattle.s2_send.specs.Sending.{TransmitterRuns}
+use Rattle.s2_send.specs.Sending.{AreCodewords, TransmitterRuns, joined}
 use Rattle.s2_send.specs.Frames.{IsCodewordFor}
 use Rattle.s2_modem.specs.Reports.{frame_soft, received_word, message_of, frame_decision}
 use Rattle.s2_receive.specs.ReportLines.{end_line}
 use Rattle.s2_modem.specs.Reception.{link_rules, ReceivesTotals}
-use Rattle.s2_modem.specs.Both.{AreBytes, IsDelivered, IsDeliveredCertified, ReceivesAll, certified_lines, run_places, totals_of}
+use Rattle.s2_modem.specs.Both.{AreBytes, FramePlace, IsDelivered, IsDeliveredCertified, ReceivesAll, certified_lines, run_places, totals_of}
 use Rattle.s2_modem.specs.Front.{clean_energy, clean_figures_by}
 
 -- a frame that has a certificate: no codeword costs less under its soft values than its bits
@@ -87,12 +87,25 @@ abbrev pub ReceivesAllLaw : Mode → Type 0
 ReceivesAllLaw m =
     (link : Link) (tuning : Tuning) (limit : ℕ) → IsLinkOf m link → link.setup.roll_off ≤ max_roll_off → IsDivisor tuning.divisor → ReceivesAll link (link_rules link tuning limit)
 
--- all packets, a line for each frame, sole, and the end's. If the tuning asks for figures, they are those of frames
--- without noise
+-- the codewords of the packets of a source, one for each of their data fields
+pub record AreSent (link : Link) (source : List ℕ) (codewords : List (List Bool)) : Type 0 where
+  pub packets : List (List ℕ)
+  pub each_is_packet : All IsPacket packets
+  pub source_is : source ≡ joined packets
+  pub are_codewords : AreCodewords link 0 (fields_of (field_bytes link.setup.mode) (stream_of packets)) codewords
+
+-- the places of the frames of these codewords in a run. If the tuning asks for figures, they are those without noise
+abbrev pub sent_places : Transmitter → Tuning → List (List Bool) → List FramePlace
+sent_places t tuning codewords =
+    run_places (map (clean_figures_by tuning t.link.setup.mode t.link.setup.number) codewords) (symbols_in t.link.setup.mode) t.dummy_every 1 0
+
+-- all packets, a line for each frame, sole, and the end's
 pub record AllArrives (t : Transmitter) (tuning : Tuning) (source : List ℕ) (counts : Counts) (totals : Totals) (before behind : Streams) : Type 0 where
+  pub codewords : List (List Bool)
+  pub are_sent : AreSent t.link source codewords
   pub packets : Appends before.given behind.given source
-  pub totals_are : totals ≡ totals_of (clean_figures_by tuning t.link.setup.mode) clean_energy counts
-  pub lines : Appends before.out behind.out (certified_lines 0 (run_places (clean_figures_by tuning t.link.setup.mode) (symbols_in t.link.setup.mode) t.dummy_every 1 0 counts.frames) ++ end_line totals)
+  pub totals_are : totals ≡ totals_of (sent_places t tuning codewords) clean_energy counts
+  pub lines : Appends before.out behind.out (certified_lines 0 (sent_places t tuning codewords) ++ end_line totals)
 
 -- the frames and dummy frames that a run of the transmitter writes are received completely, with each divisor
 abbrev pub ArrivalLaw : Mode → Type 0

@@ -34,11 +34,11 @@ use Rattle.s2_receive.specs.declared.report.Outcome.TheVariants.{Delivered}
 use Rattle.s2_receive.specs.declared.report.Report.{Report}
 use Rattle.s2_receive.specs.declared.report.Totals.{Totals}
 use Rattle.s2_modem.specs.Reports.{frame_soft, frame_decision, received_word}
-use Rattle.s2_modem.specs.Reception.{Receiver, ReceivesTotals, IsAsLikely, AllAsLikely, IsCorrected, AllTold, link_rules, rules_for, seen}
+use Rattle.s2_modem.specs.Reception.{Receiver, ReceivesTotals, IsAsLikely, AllAsLikely, IsCorrected, TrueReports, link_rules, rules_for, seen}
 use Rattle.s2_modem.specs.Both.{AreBytes}
 use Rattle.s2_modem.specs.Streams.{IsWholeFrame, IsClear, AreEach}
 use Rattle.s2_modem.specs.Headline.{IsSent}
-use Rattle.s2_modem.specs.Steps.{AllHeard}
+use Rattle.s2_modem.specs.Steps.{DeliversAll}
 
 -- the symbols of the frame that begins at this symbol of a stream
 abbrev pub frame_from : Link → List Symbol → ℕ → List Symbol
@@ -225,8 +225,8 @@ HeadlineLaw m = (link : Link) (tuning : Tuning) → IsLinkOf m link → link.set
 -- decoding changes at most t of them. A frame that was sent is delivered.
 pub record FramePromises (link : Link) (tuning : Tuning) : Type 0 where
   pub as_likely : AllAsLikely link tuning
-  pub told : AllTold link tuning
-  pub heard : AllHeard link tuning
+  pub told : TrueReports link tuning
+  pub heard : DeliversAll link tuning
 
 -- it holds of each frame of each link
 abbrev pub FramesLaw : Mode → Type 0

@@ -11,14 +11,14 @@ use Rattle.s2_check.specs.Verdicts.{is_certified}
 use Rattle.s2_check.specs.Views.{View}
 use Rattle.s2_check.specs.declared.verdict.Verdict.{Verdict}
 use Rattle.s2_check.specs.declared.verdict.Verdict.TheVariants.{Sole}
-use Rattle.s2_receive.specs.Parts.{IsSaidBy}
+use Rattle.s2_receive.specs.Decider.{IsSaidBy}
 use Rattle.s2_receive.specs.Receiving.{Rules, State, Decision, begun, is_at_frame}
 use Rattle.s2_receive.specs.Answers.{Seen, RunAnswers, ReceivesTo, BreaksIn}
 use Rattle.s2_receive.specs.Sinks.{Taking, RunAnswersWith}
 use Rattle.s2_mode.specs.declared.stream_fault.StreamFault.{StreamFault}
 use Rattle.s2_receive.specs.declared.report.Received.{Received}
 use Rattle.s2_receive.specs.declared.report.Totals.{Totals}
-use Rattle.s2_mode.specs.Limits.{max_symbols}
+use Rattle.s2_receive.specs.Limits.{max_symbols}
 use Rattle.s2_link.specs.declared.setup.Setup.{Setup}
 use Rattle.s2_link.specs.declared.fault.SetupFault.{SetupFault}
 use Rattle.s2_link.specs.declared.fault.SetupFault.TheVariants as faults
@@ -102,15 +102,15 @@ IsCorrected m d (BadHeader fault) =
 IsCorrected m d NoWord = ((word : List Bool) → IsWithin m (received_word m d.bits) word → ⊥) × (d.delivered ≡ None)
 
 -- the report of a frame is true, and its message says what is delivered
-pub record IsTold (link : Link) (verdict : Verdict) (outcome : Outcome) (d : Decision) : Type 0 where
+pub record IsTrueReport (link : Link) (verdict : Verdict) (outcome : Outcome) (d : Decision) : Type 0 where
   pub certified : IsCertifiedBy link.rows verdict d
   pub within : IsCorrected link.setup.mode d outcome
   pub said : IsSaidBy link.setup.mode d.message d.delivered
 
 -- it is true for any frame's symbols
-abbrev pub AllTold : Link → Tuning → Type 0
-AllTold link tuning =
-    (symbols : List Symbol) → IsTold link (frame_decision link tuning symbols).verdict (frame_decision link tuning symbols).outcome (frame_decision link tuning symbols)
+abbrev pub TrueReports : Link → Tuning → Type 0
+TrueReports link tuning =
+    (symbols : List Symbol) → IsTrueReport link (frame_decision link tuning symbols).verdict (frame_decision link tuning symbols).outcome (frame_decision link tuning symbols)
 
 -- the cause of each refusal; the first of five is returned, and "out of memory" only if none of them applies
 abbrev pub Refuses : Setup → Rows → Tuning → SetupFault → Type 0

@@ -10,7 +10,7 @@ use Rattle.s2_modem.specs.Headline.{IsSent, AllCorrected}
 use Rattle.s2_modem.specs.Streams.{IsWholeFrame, IsClear}
 
 -- the decision on the symbols of each such frame of a link
-pub record AllHeard (link : Link) (tuning : Tuning) : Type 0 where
+pub record DeliversAll (link : Link) (tuning : Tuning) : Type 0 where
   pub clear : (behind : Bool) (at : ℕ) (field : List ℕ) (codeword : List Bool) (symbols : List Symbol) (sent : IsSent link.setup.mode link at field codeword)
       → IsClear link tuning behind codeword symbols
       → IsWholeFrame link tuning behind symbols

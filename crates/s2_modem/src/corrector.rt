@@ -2,7 +2,7 @@
 ghost use Rattle.std.specs.Prelude.{◌≡◌, ◌≤◌, length, replicate, false, IfOk};
 ghost use Rattle.s2_mode.specs.Mode.{k_of};
 ghost use Rattle.s2_modem.specs.Reports.{received_word};
-ghost use Rattle.s2_modem.specs.Listening.{FindsWord};
+ghost use Rattle.s2_modem.specs.DeciderState.{FindsWord};
 
 use s2_bch::Bch;
 use s2_bits::Bits;
@@ -44,7 +44,7 @@ impl Drop for Corrector {
 impl Model for Corrector {
     ghost use Rattle.std.specs.Prelude.{◌≡◌, length};
     ghost use Rattle.s2_mode.specs.Mode.{k_of};
-    ghost use Rattle.s2_modem.specs.Listening.{Correcting};
+    ghost use Rattle.s2_modem.specs.DeciderState.{Correcting};
 
     ghost Value = { Correcting };
 

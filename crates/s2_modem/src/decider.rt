@@ -4,11 +4,11 @@ ghost use Rattle.s2_modem.specs.Reports.{IsUndecided};
 
 use crate::corrector::Corrector;
 use crate::demodulator::Demodulator;
-use crate::figures::{find_figures, finder_for};
+use crate::figures::{find_figures, meter_for};
 use crate::message::MessageReader;
 use s2_bits::Bits;
 use s2_check::{CertView, Verdict};
-use s2_figures::{FigureFinder, header_energy};
+use s2_figures::{FigureMeter, header_energy};
 use s2_judge::Judge;
 use s2_link::{Link, RollOff};
 use s2_mode::{Mode, Symbol};
@@ -25,7 +25,7 @@ pub(crate) struct Decider<'a> {
     judge: Judge<'a>,
     corrector: Corrector,
     reader: MessageReader,
-    finder: Option<FigureFinder>,
+    meter: Option<FigureMeter>,
     last: Decided,
 }
 
@@ -38,16 +38,16 @@ impl<'a> Drop for Decider<'a> {
             judge: _,
             corrector: _,
             reader: _,
-            finder: _,
+            meter: _,
             last: _,
         } = self;
     }
 }
 
 impl<'a> Model for Decider<'a> {
-    ghost use Rattle.s2_modem.specs.Listening.{Listening, IsListening, decision_held};
+    ghost use Rattle.s2_modem.specs.DeciderState.{DeciderState, IsDeciderState, decision_held};
 
-    ghost Value = { Listening };
+    ghost Value = { DeciderState };
 
     ghost view = { λ d. record {
       link = record { setup = record { mode = d.mode; number = d.demodulator.number; roll_off = d.roll_off }; rows = d.judge.rows };
@@ -56,7 +56,7 @@ impl<'a> Model for Decider<'a> {
       field = d.reader.field;
     } };
 
-    ghost invariant = { λ d. IsListening d.mode d.judge.rows d.judge.tuning d.demodulator d.corrector.mode d.reader d.finder d.last };
+    ghost invariant = { λ d. IsDeciderState d.mode d.judge.rows d.judge.tuning d.demodulator d.corrector.mode d.reader d.meter d.last };
 }
 
 impl<'a> Decider<'a> {
@@ -83,7 +83,7 @@ impl<'a> Decider<'a> {
         let demodulator = Demodulator::new(alloc, link, tuning.divisor())?;
         let corrector = Corrector::new(alloc, mode)?;
         let reader = MessageReader::new(alloc, mode)?;
-        let finder = finder_for(alloc, link, tuning)?;
+        let meter = meter_for(alloc, link, tuning)?;
         Ok(Decider {
             mode,
             roll_off: link.roll_off(),
@@ -91,7 +91,7 @@ impl<'a> Decider<'a> {
             judge: Judge::new(alloc, link.matrix(), tuning)?,
             corrector,
             reader,
-            finder,
+            meter,
             last,
         })
     }
@@ -127,7 +127,7 @@ impl<'a> Decider<'a> {
 
 impl<'a> Decide for Decider<'a> {
     ghost use Rattle.s2_mode.specs.Mode.{symbols_in};
-    ghost use Rattle.s2_modem.specs.Listening.{decides};
+    ghost use Rattle.s2_modem.specs.DeciderState.{decides};
 
     ghost size = { λ d. symbols_in d.link.setup.mode };
 
@@ -143,7 +143,7 @@ impl<'a> Decide for Decider<'a> {
         let verdict = self.judge.decide();
         let found = self.corrector.correct(self.judge.word());
         let (outcome, header) = self.reader.read_outcome(found, self.corrector.word());
-        let figures = find_figures(&mut self.finder, symbols, &self.judge);
+        let figures = find_figures(&mut self.meter, symbols, &self.judge);
         self.last = Decided {
             verdict,
             outcome,

@@ -55,7 +55,7 @@ impl Drop for Demodulator {
 impl Model for Demodulator {
     ghost use Rattle.std.specs.Prelude.{◌≡◌, ◌*◌, length};
     ghost use Rattle.s2_mode.specs.Mode.{slots_of};
-    ghost use Rattle.s2_modem.specs.Listening.{Demodulating};
+    ghost use Rattle.s2_modem.specs.DeciderState.{Demodulating};
 
     ghost Value = { Demodulating };
 

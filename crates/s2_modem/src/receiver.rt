@@ -1,7 +1,7 @@
 //! The receiver of one link.
 ghost use Rattle.std.specs.Prelude.{◌≡◌, ◌*◌, ◌<◌, ◌≤◌, None, IfOk, OnErr, IsErrOf, length};
 ghost use Rattle.s2_mode.specs.Counts.{CanCount};
-ghost use Rattle.s2_mode.specs.Limits.{max_symbols};
+ghost use Rattle.s2_receive.specs.Limits.{max_symbols};
 ghost use Rattle.s2_mode.specs.Mode.{symbols_in};
 ghost use Rattle.s2_mode.specs.Streams.{streams_by};
 ghost use Rattle.s2_receive.specs.declared.report.Phase.TheVariants as phases;
@@ -11,7 +11,7 @@ ghost use Rattle.s2_receive.specs.Answers.{Advances, Between, OnlyStreamFaults, 
 ghost use Rattle.s2_receive.specs.Sinks.{OnlyFaultsWith};
 ghost use Rattle.s2_tuning.specs.Tuning.{tuning_of};
 ghost use Rattle.s2_modem.specs.Reports.{IsUndecided};
-ghost use Rattle.s2_modem.specs.Listening.{decides};
+ghost use Rattle.s2_modem.specs.DeciderState.{decides};
 ghost use Rattle.s2_modem.specs.Reception.{IsNew, Makes, RunsReceiver, RunsReceiverWith, certificate_of, link_rules, rules_for, seen};
 ghost use Rattle.s2_modem.specs.Promise.{KeepsHeadline, RunsHeadline};
 
@@ -20,8 +20,8 @@ use s2_bits::Bits;
 use s2_check::CertView;
 use s2_link::{Link, LinkSetup, Setup, SetupFault};
 use s2_matrix::Matrix;
-use s2_mode::{CountedRead, CountedWrite, MAX_SYMBOLS, StreamFault};
-use s2_receive::{Fault, Received, Sink, Step, receive_all, receive_with};
+use s2_mode::{CountedRead, CountedWrite, StreamFault};
+use s2_receive::{Fault, MAX_SYMBOLS, Received, Sink, Step, receive_all, receive_with};
 use s2_tuning::Tuning;
 use std::alloc::{AllocError, Global};
 use std::marker::Model;
@@ -79,7 +79,7 @@ impl<'a> Model for Receiver<'a> {
     ghost use Rattle.std.specs.Prelude.{◌≡◌};
     ghost use Rattle.s2_receive.specs.Receiving.{rules_of};
     ghost use Rattle.s2_link.specs.Link.{link_of, setup_of};
-    ghost use Rattle.s2_modem.specs.Listening.{decides};
+    ghost use Rattle.s2_modem.specs.DeciderState.{decides};
     ghost use Rattle.s2_modem.specs.Reception.{Receiver as ReceiverValue, link_rules};
     ghost use Rattle.s2_modem.specs.Promise.{KeepsHeadline};
 
@@ -246,7 +246,7 @@ impl<'a> Receiver<'a> {
     ///
     /// After `Ok` and after `Read`, the sink took all frames that were met. `Write` has two causes. A packet or a line could
     /// not be written: then the sink took all frames up to the one at hand. Or the sink failed at a frame: then it took all
-    /// frames before, and a part of what it makes of this one may stand in it. Nothing of this frame is in the packets or
+    /// frames before, and it may have a part of its record of this one. Nothing of this frame is in the packets or
     /// in the report. Everything met before is written whole.
     pub fn run_with<K: Sink, R: CountedRead, P: CountedWrite, W: CountedWrite>(
         &mut self,

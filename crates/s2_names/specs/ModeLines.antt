@@ -61,7 +61,7 @@ lines_of rate short codes = flat_map (λ modcod. line_of rate modcod short) code
 unfoldable pub modes_text : Option ℕ → List ℕ
 modes_text rate = lines_of rate false (modcods_of false) ++ lines_of rate true (modcods_of true)
 
--- what is listed: the lines of all codes, or the line of one mode's code
+-- the listed lines: those of all codes, or the line of one mode's code
 abbrev pub listed_text : Option ℕ → Option Mode → List ℕ
 listed_text rate None = modes_text rate
 listed_text rate (Some m) = line_of rate m.modcod m.short

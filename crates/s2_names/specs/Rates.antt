@@ -15,7 +15,7 @@ millionths over under = (2000000 * over + under) / (2 * under)
 abbrev pub symbol_millionths : Mode → ℕ
 symbol_millionths m = millionths (stream_bits m) (symbols_in m)
 
--- the most symbols a second
+-- the highest symbol rate, in symbols per second
 abbrev pub max_rate : ℕ
 max_rate = 1000000000
 

@@ -57,5 +57,5 @@ pub fn modes_command<O: CountedWrite, E: CountedWrite>(
     ensures run { CommandExits (IsListed mode.now) (IsAsked rate.now) 0 0 console.old console.new result }
 {
     let ended = print_modes(alloc, rate, mode, &mut console.output);
-    console.conclude(ended)
+    console.finish(ended)
 }

@@ -9,7 +9,7 @@ pub fn names()
     ensures { NamesLaw }
 {}
 
-/// The most symbols a second, [`crate::MAX_RATE`], are those of the definitions.
+/// The highest symbol rate, [`crate::MAX_RATE`], is that of the definitions.
 pub fn limits()
     ensures { LimitsLaw }
 {}

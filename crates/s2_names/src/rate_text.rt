@@ -1,4 +1,4 @@
-//! A symbol rate as a text: digits, maybe with a point, and a power of ten.
+//! A symbol rate as text: digits, with or without a decimal point, and a power of ten.
 ghost use Rattle.std.specs.Prelude.{◌≡◌, ◌≤◌, ◌++◌, ◌⊎◌, ℕ, List, Some, None, nat_le, if◌then◌else◌, IsSomeAnd, IfSome};
 ghost use Rattle.std.specs.Char.{is_ascii_digit};
 ghost use Rattle.std.specs.List.{AllPass, prefix_len};
@@ -7,7 +7,7 @@ ghost use Rattle.s2_names.specs.RateTexts.{AreDigits, HasFraction, IsScaled, num
 
 use crate::rate::MAX_RATE;
 
-/// How many digits come first.
+/// The number of digits at the front.
 #[tactic(auto, using(crate::proofs::DigitTexts::digit_more, crate::proofs::DigitTexts::digits_stop, crate::proofs::DigitTexts::digits_end))]
 fn digits_in(text: &[u8]) -> usize
     ensures { result ≡ prefix_len is_ascii_digit text.now }
@@ -77,7 +77,7 @@ fn with_digits(number: usize, digits: &[u8]) -> Option<usize>
     Some(all)
 }
 
-/// How many digits after the point are before it, if the point moves this many places.
+/// The number of digits after the point that are before it, if the point moves this many places.
 fn moved(digits: usize, power: usize) -> usize
     ensures within { result ≤ digits }
     ensures few { result ≤ power }

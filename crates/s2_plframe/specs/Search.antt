@@ -67,8 +67,8 @@ found_behind m lock window =
     else (if nat_le (wrong_bits_dummy window) lock then founds.Dummy else founds.Nothing)
 
 -- the number of wrong bits that a header may have right after a frame: 12 to 40
-abbrev pub IsLock : ℕ → Type 0
-IsLock lock = (header_threshold ≤ lock) × (lock ≤ max_lock)
+abbrev pub IsHeaderTolerance : ℕ → Type 0
+IsHeaderTolerance lock = (header_threshold ≤ lock) × (lock ≤ max_lock)
 
 -- the last 90 of a list
 abbrev pub recent : List Decision → List Decision

@@ -3,7 +3,7 @@
 /// The largest number of wrong bits with which a header passes.
 pub const HEADER_THRESHOLD: u32 = 12;
 
-/// The largest number of wrong bits that a [`crate::Lock`] may allow right after a frame.
+/// The largest number of wrong bits that a [`crate::HeaderTolerance`] may allow right after a frame.
 pub const MAX_LOCK: u32 = 40;
 
 /// The symbols of 16 slots; a pilot block follows them.

@@ -28,6 +28,6 @@ mod send;
 pub use constants::{HEADER_THRESHOLD, MAX_LOCK};
 pub use header::PlsCode;
 pub use receive::{
-    Found, Lock, Search, Signs, header_matches, header_number, payload_of, wrong_in,
+    Found, HeaderTolerance, Search, Signs, header_matches, header_number, payload_of, wrong_in,
 };
 pub use send::{dummy_into, frame_into};

@@ -5,7 +5,7 @@ use crate::terminal::Terminal;
 use s2_files::StandardStreams;
 use s2_mode::{Counted, CountedWrite, WriteFault};
 
-/// A writer that clears the terminal's line before each write. To contracts it is the writer that it holds.
+/// A writer that clears the terminal's line before each write. In contracts, it is the inner writer.
 #[derive(Drop)]
 pub struct Clearing<'t, 'r, W, R> {
     inner: W,

@@ -1,10 +1,10 @@
-//! Where a stream has no frames.
+//! Gaps: the parts of a stream without frames.
 use std::cell::Cell;
 
 const SYMBOL_BYTES: u64 = 4;
 
-/// Where a stream has no frames, by the bytes that were read and by the moments at which frames are reported. A receiver
-/// reports a frame when it has read its last symbol, and nothing after it.
+/// Finds the gaps of a stream, from the bytes that were read and from the moments at which frames are reported. A
+/// receiver reports a frame when it has read its last symbol, and nothing after it.
 #[derive(Drop)]
 pub(crate) struct Gaps {
     /// The number of symbols of a frame, 0 if nothing is to be noted.
@@ -32,8 +32,8 @@ impl Gaps {
         self.frame.set(frame);
     }
 
-    /// Counts bytes that were read. Returns the symbol since which no frame came, once for each gap, if the next frame begins
-    /// a frame's length after it or later: then another frame's length has been read.
+    /// Counts bytes that were read. Returns the symbol since which no frame came, once per gap, if the next frame
+    /// begins a frame's length after it or later: then another frame's length has been read.
     pub(crate) fn took(&self, bytes: usize) -> Option<u64> {
         self.taken
             .set(self.taken.get().saturating_add(bytes as u64));

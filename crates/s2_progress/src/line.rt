@@ -1,11 +1,11 @@
-//! The words of a line.
+//! The text of a line.
 ghost use Rattle.std.specs.Prelude.{◌≡◌, ◌+◌, ◌≤◌, ◌++◌, length, decimal};
 ghost use Rattle.s2_console.specs.Lines.{line_room};
 
 use crate::numbers::Numbers;
 use s2_console::Line;
 
-/// The most characters of a line.
+/// The maximum length of a line in characters.
 pub(crate) const WIDEST: usize = 191;
 
 /// Appends a number between words to a line.
@@ -74,7 +74,7 @@ pub fn line_of(numbers: Numbers) -> Line {
     line
 }
 
-/// The most characters that are shown, for a terminal of 80 columns.
+/// The maximum number of characters shown, for a terminal of 80 columns.
 const COLUMNS: usize = 79;
 
 /// Whether the words of these numbers fit on a line of a terminal.
@@ -82,7 +82,8 @@ fn fits(numbers: Numbers) -> bool {
     line_of(numbers).as_bytes().len() <= COLUMNS
 }
 
-/// The numbers that are shown: without frames if the line is too long, and also without packets if it is still too long.
+/// The numbers that are shown: without frames if the line is too long, and also without packets if it is still too
+/// long.
 fn fitted(numbers: Numbers) -> Numbers {
     let few = Numbers {
         frames: None,

@@ -11,11 +11,12 @@ pub enum Pace {
     AddingNoise,
     /// Symbols come in.
     Scanning,
-    /// Packets come in. After the last one they go out, once for each run.
+    /// Packets are read. After the last one they are written, once per run.
     Looping { runs: u64 },
 }
 
-/// The bytes that were taken and given so far, the time in milliseconds, and the bytes to be taken in all, if that is known.
+/// The bytes that were taken and given so far, the time in milliseconds, and the bytes to be taken in all, if that is
+/// known.
 #[derive(Clone, Copy, Debug, PartialEq, Eq)]
 pub struct Passed {
     pub taken: u64,
@@ -24,8 +25,8 @@ pub struct Passed {
     pub length: Option<u64>,
 }
 
-/// The numbers of a line: frames, packets, tenths of a megabyte, symbols per second, percent done, and seconds left. A number
-/// over 2^64 - 1 is capped to that.
+/// The numbers of a line: frames, packets, tenths of a megabyte, symbols per second, percent done, and seconds left. A
+/// number over 2^64 - 1 is capped to that.
 #[derive(Clone, Copy, Debug, PartialEq, Eq)]
 pub struct Numbers {
     pub frames: Option<u64>,
@@ -84,7 +85,7 @@ fn frames_of(pace: Pace, passed: Passed) -> Option<u64> {
     }
 }
 
-/// How many bytes are done: those that were taken, and in a loop also those that came back.
+/// The number of bytes processed: those that were read, and in a loop also those that were written.
 fn done_of(pace: Pace, passed: Passed) -> u64 {
     match pace {
         Pace::Looping { runs: _ } => passed.taken.saturating_add(passed.given),
@@ -92,7 +93,7 @@ fn done_of(pace: Pace, passed: Passed) -> u64 {
     }
 }
 
-/// How many bytes are to be done of an input of this length.
+/// The number of bytes to process, for an input of this length.
 fn whole_of(pace: Pace, length: u64) -> u64 {
     match pace {
         Pace::Looping { runs } => length.saturating_mul(runs.saturating_add(1)),

@@ -15,8 +15,8 @@ const LOOPED_PIECE: u64 = 1 << 11;
 /// The shortest time between two lines, and before the first one, in milliseconds.
 const MIN_MILLIS: u64 = 1000;
 
-/// How far a command is, shown on a terminal: at most one line per second, and none in the first. If nothing is to be shown or
-/// noted, it does nothing.
+/// How far a command is, shown on a terminal: at most one line per second, and none in the first. If nothing is to be
+/// shown or noted, it does nothing.
 #[derive(Drop)]
 pub struct Show<'t, 'r, R> {
     terminal: &'t Terminal<'r, R>,
@@ -51,7 +51,8 @@ impl<'t, 'r, R: Clock + StandardStreams> Show<'t, 'r, R> {
         }
     }
 
-    /// From now on it is noted at once if no frame is among the symbols that a receiver reads, and when frames come again.
+    /// From now on it is noted at once if no frame is among the symbols that a receiver reads, and when frames come
+    /// again.
     pub fn note_gaps(&self) {
         if let Pace::Receiving { frame } = self.pace {
             self.terminal.watch(frame);
@@ -79,7 +80,7 @@ impl<'t, 'r, R: Clock + StandardStreams> Show<'t, 'r, R> {
         }
     }
 
-    /// After how many bytes the clock is read.
+    /// The number of bytes after which the clock is read.
     fn piece(&self) -> u64 {
         match self.pace {
             Pace::Looping { runs: _ } => LOOPED_PIECE,

@@ -5,7 +5,7 @@ use crate::meter::Meter;
 use s2_files::Output;
 use s2_mode::{Counted, CountedRead, CountedWrite, ReadFault, WriteFault};
 
-/// A reader or writer whose bytes are counted by a meter. To contracts it is the reader or writer that it holds.
+/// A reader or writer whose bytes are counted by a meter. In contracts, it is the inner reader or writer.
 #[derive(Drop)]
 pub struct Watched<'m, T, M> {
     inner: T,

@@ -1,5 +1,6 @@
 pub mod Names
 pub mod SymbolLists
+pub mod Rooms
 pub mod Headers
 pub mod MetLemmas
 pub mod FindSteps

@@ -16,11 +16,19 @@ tally_sum a b = record { sum = saturated a.sum b.sum; of = saturated a.of b.of }
 
 -- the sums over one frame
 abbrev pub sums_of : Figures → Sums
-sums_of f = record { changed = f.changed; known = f.known; payload = f.payload }
+sums_of f =
+    record { changed = f.changed; known = f.known; payload = f.payload; known_power = f.known_correlation.power; payload_power = f.payload_correlation.power }
 
 -- the sums over one frame more
 abbrev pub sums_with : Sums → Figures → Sums
-sums_with s f = record { changed = tally_sum s.changed f.changed; known = tally_sum s.known f.known; payload = tally_sum s.payload f.payload }
+sums_with s f =
+    record {
+      changed = tally_sum s.changed f.changed;
+      known = tally_sum s.known f.known;
+      payload = tally_sum s.payload f.payload;
+      known_power = saturated s.known_power f.known_correlation.power;
+      payload_power = saturated s.payload_power f.payload_correlation.power;
+    }
 
 -- the sums after a frame, which has figures or not; there are none until a frame with figures comes
 abbrev pub sums_after : Option Sums → Option Figures → Option Sums

@@ -10,15 +10,15 @@ use Rattle.s2_mode.specs.Mode.{Mode, symbols_in}
 use Rattle.s2_mode.specs.Streams.{Streams}
 use Rattle.s2_mode.specs.Symbols.{symbols_of}
 use Rattle.s2_bbframe.specs.Joining.{Event, field, gap, Joined, step, begun_body, incomplete_in}
-use Rattle.s2_receive.specs.declared.delivering.StepCounts.{StepCounts}
+use Rattle.s2_receive.specs.declared.packet_buffer.StepCounts.{StepCounts}
 use Rattle.s2_receive.specs.declared.figures.Figures.{Figures}
 use Rattle.s2_receive.specs.declared.gap.Gap.{Gap}
 use Rattle.s2_receive.specs.Figures.{refused_in, saturated, sums_after}
 use Rattle.s2_receive.specs.Meeting.{Met, frame, cut, ended, no_gap, is_gap}
-use Rattle.s2_receive.specs.Finding.{Window, Follows, met_within, reached, wanted, window_at}
+use Rattle.s2_receive.specs.Synchronization.{Window, Follows, met_within, reached, wanted, window_at}
 use Rattle.s2_receive.specs.Windows.{found_as}
 use Rattle.s2_receive.specs.ReportLines.{step_line}
-use Rattle.s2_receive.specs.Stepping.{FailsIn}
+use Rattle.s2_receive.specs.ReceiverCore.{FailsIn}
 use Rattle.s2_check.specs.declared.verdict.Verdict.{Verdict}
 use Rattle.s2_check.specs.Verdicts.{is_certified}
 use Rattle.s2_check.specs.Views.{View}

@@ -1,6 +1,8 @@
 -- The lines of a receiver's report (own).
 use Rattle.std.specs.Prelude.{ℕ, List, [], ◌++◌, Option, Some, None, codes, decimal}
+use Rattle.std.specs.Fmt.{signed_decimal}
 use Rattle.s2_check.specs.Verdicts.{verdict_word}
+use Rattle.s2_receive.specs.declared.figures.Correlation.{Correlation}
 use Rattle.s2_receive.specs.declared.figures.Figures.{Figures}
 use Rattle.s2_receive.specs.declared.figures.Sums.{Sums}
 use Rattle.s2_receive.specs.declared.figures.Tally.{Tally}
@@ -17,12 +19,20 @@ outcome_words (Delivered fixed) = codes "fixed " ++ decimal fixed
 outcome_words NoWord = codes "lost"
 outcome_words (BadHeader fault) = codes "lost"
 
--- header H changed B rounds K known E payload P, for a frame with figures
+-- power W along A across C
+unfoldable pub correlation_words : Correlation → List ℕ
+correlation_words c = codes " power " ++ decimal c.power ++ codes " along " ++ signed_decimal c.along ++ codes " across " ++ signed_decimal c.across
+
+-- header H changed B rounds K
+unfoldable pub decoding_words : Figures → List ℕ
+decoding_words f = codes " header " ++ decimal f.header ++ codes " changed " ++ decimal f.changed.sum ++ codes " rounds " ++ decimal f.rounds
+
+-- header H changed B rounds K known E power W along A across C payload E power W along A across C, for a frame with figures
 abbrev pub figures_words : Option Figures → List ℕ
 figures_words None = []
 figures_words (Some f) =
-    codes " header " ++ decimal f.header ++ codes " changed " ++ decimal f.changed.sum ++ codes " rounds " ++ decimal f.rounds ++ codes " known " ++ decimal f.known.sum
-    ++ codes " payload " ++ decimal f.payload.sum
+    decoding_words f ++ codes " known " ++ decimal f.known.sum ++ correlation_words f.known_correlation
+    ++ codes " payload " ++ decimal f.payload.sum ++ correlation_words f.payload_correlation
 
 -- frame I at SYMBOL VERDICT fixed COUNT, or frame I at SYMBOL VERDICT lost; and its figures, if it has them
 unfoldable pub frame_line : Report → List ℕ
@@ -49,10 +59,12 @@ packets_words t = codes " packets " ++ decimal t.packets ++ codes " bad " ++ dec
 unfoldable pub tally_words : Tally → List ℕ
 tally_words t = decimal t.sum ++ codes " of " ++ decimal t.of
 
--- changed B of T known E of N payload P of M, if a frame had figures
+-- changed B of T known E of N power W payload E of N power W, if a frame had figures
 abbrev pub sums_words : Option Sums → List ℕ
 sums_words None = []
-sums_words (Some s) = codes " changed " ++ tally_words s.changed ++ codes " known " ++ tally_words s.known ++ codes " payload " ++ tally_words s.payload
+sums_words (Some s) =
+    codes " changed " ++ tally_words s.changed ++ codes " known " ++ tally_words s.known ++ codes " power " ++ decimal s.known_power
+    ++ codes " payload " ++ tally_words s.payload ++ codes " power " ++ decimal s.payload_power
 
 -- end frames F delivered D packets P bad B, and the sums of figures, if there are any
 unfoldable pub end_line : Totals → List ℕ

@@ -1,6 +1,6 @@
 //! Figures of the link: of a frame, and summed over frames.
 ghost use Rattle.std.specs.Prelude.{◌≡◌};
-ghost use Rattle.s2_receive.specs.Figures.{sums_after, sums_of, sums_with, tally_sum};
+ghost use Rattle.s2_receive.specs.Figures.{saturated, sums_after, sums_of, sums_with, tally_sum};
 
 /// A sum, and over how many bits or symbols it goes.
 #[derive(Clone, Copy, Debug, PartialEq, Eq)]
@@ -21,6 +21,18 @@ impl Tally {
     }
 }
 
+/// The power of received symbols, and their correlation with those that were sent. From it a link's complex gain and its
+/// noise are computed, whatever the amplitude is.
+#[derive(Clone, Copy, Debug, PartialEq, Eq)]
+pub struct Correlation {
+    /// The sum of I*I + Q*Q over the received symbols.
+    pub power: u64,
+    /// Each received symbol is multiplied by the conjugate of the one that was sent: the real parts, summed.
+    pub along: i64,
+    /// The imaginary parts, summed.
+    pub across: i64,
+}
+
 /// The figures of a decided frame. A frame has them only if its decider was asked for them.
 ///
 /// A distance is between a received symbol and what was sent there, in the units of [`s2_mode::Symbol`], squared.
@@ -37,6 +49,10 @@ pub struct Figures {
     pub known: Tally,
     /// The same of the payload's symbols, to the points of the decided word.
     pub payload: Tally,
+    /// The power and the correlation of the known symbols.
+    pub known_correlation: Correlation,
+    /// The same of the payload's symbols.
+    pub payload_correlation: Correlation,
 }
 
 /// The sums of figures over the frames that have them. Each number stops at 2^64 - 1.
@@ -48,6 +64,10 @@ pub struct Sums {
     pub known: Tally,
     /// The squared distances of the payloads' symbols.
     pub payload: Tally,
+    /// The power of the known symbols.
+    pub known_power: u64,
+    /// The power of the payloads' symbols.
+    pub payload_power: u64,
 }
 
 impl Sums {
@@ -59,6 +79,8 @@ impl Sums {
             changed: figures.changed,
             known: figures.known,
             payload: figures.payload,
+            known_power: figures.known_correlation.power,
+            payload_power: figures.payload_correlation.power,
         }
     }
 
@@ -70,6 +92,12 @@ impl Sums {
             changed: self.changed.plus(figures.changed),
             known: self.known.plus(figures.known),
             payload: self.payload.plus(figures.payload),
+            known_power: self
+                .known_power
+                .saturating_add(figures.known_correlation.power),
+            payload_power: self
+                .payload_power
+                .saturating_add(figures.payload_correlation.power),
         }
     }
 }

@@ -1,6 +1,6 @@
 //! A decided frame, lent.
 
-use crate::parts::Decided;
+use crate::decider::Decided;
 use s2_bits::Bits;
 use s2_check::CertView;
 use std::marker::Model;
@@ -37,7 +37,7 @@ impl<'a> Drop for Frame<'a> {
 }
 
 impl<'a> Model for Frame<'a> {
-    ghost use Rattle.s2_receive.specs.Parts.{delivered_of};
+    ghost use Rattle.s2_receive.specs.Decider.{delivered_of};
     ghost use Rattle.s2_receive.specs.Receiving.{Decision};
 
     ghost Value = { Decision };

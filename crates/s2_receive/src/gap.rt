@@ -34,7 +34,7 @@ impl Gap {
     /// The gap extended by the symbols from one place of a buffer to another. The buffer begins at this symbol of
     /// the stream.
     pub(crate) fn extended(self, at: u64, start: usize, place: usize) -> Gap
-        requires room { start < place → (self.symbols < 2 ^ 62) × (at + place < 2 ^ 62) }
+        requires room { start < place → (self.symbols < 2 ^ 63) × (at + place < 2 ^ 63) }
         ensures { result ≡ extended self (at + start) (place - start) }
     {
         if place <= start {

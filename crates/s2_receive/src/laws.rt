@@ -1,5 +1,6 @@
 //! Laws, which follow from the definitions alone. Each is the clause of a call that does nothing.
 ghost use Rattle.s2_receive.specs.Calls.{CallsLaw};
+ghost use Rattle.s2_receive.specs.Limits.{LimitsLaw};
 ghost use Rattle.s2_receive.specs.Laws.{JoiningLaw, ReceptionLaw, FrontLaw, SearchLaw, SameRunLaw, SameStepLaw, TwoRunsLaw};
 
 /// The packets written are those of all fields and gaps that came to the joiner, one after another. The totals
@@ -44,4 +45,9 @@ pub fn two_runs()
 /// those of [`crate::receive_all`]. So a caller that reads and writes by itself has what is promised of a run.
 pub fn calls()
     ensures { CallsLaw }
+{}
+
+/// The limit that is tested, [`crate::MAX_SYMBOLS`], is that of the definitions.
+pub fn limits()
+    ensures { LimitsLaw }
 {}

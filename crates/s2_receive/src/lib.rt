@@ -34,27 +34,29 @@
 //! ```
 #![tactic(auto)]
 
-mod all;
-mod delivering;
+mod decider;
 mod figures;
-mod finder;
-mod finding;
 mod frame;
 mod gap;
+mod header_search;
 pub mod laws;
+mod limits;
 mod lines;
-mod parts;
+mod output;
+mod packet_buffer;
 mod receiver;
+mod receiver_core;
 mod report;
-mod scanning;
+mod run;
 mod sinks;
-mod stepper;
-mod telling;
+mod synchronizer;
+mod window;
 
-pub use all::{receive_all, receive_bytes, receive_with};
-pub use figures::{Figures, Sums, Tally};
+pub use decider::{Decide, Decided};
+pub use figures::{Correlation, Figures, Sums, Tally};
 pub use frame::Frame;
-pub use parts::{Decide, Decided};
+pub use limits::MAX_SYMBOLS;
 pub use receiver::Receiver;
 pub use report::{Fault, Outcome, Received, Report, Step, Totals};
+pub use run::{receive_all, receive_bytes, receive_with};
 pub use sinks::Sink;

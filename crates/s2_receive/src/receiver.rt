@@ -1,20 +1,20 @@
 //! The receiver of a stream of symbols.
 ghost use Rattle.std.specs.Prelude.{◌≡◌, ◌*◌, ◌<◌, ◌≤◌, IfOk, IsErrOf, length};
 ghost use Rattle.s2_mode.specs.Counts.{CanCount, CountsFault};
-ghost use Rattle.s2_mode.specs.Limits.{max_symbols};
+ghost use Rattle.s2_receive.specs.Limits.{max_symbols};
 ghost use Rattle.s2_mode.specs.Mode.{symbols_in};
 ghost use Rattle.s2_receive.specs.declared.report.Phase.TheVariants as phases;
 ghost use Rattle.s2_receive.specs.Receiving.{IsLive, asked, begun, is_at_frame, rules_of, taken};
 ghost use Rattle.s2_receive.specs.Answers.{Advances, Between, Finds, IsSame, Reads, StepsBy, seen_by};
 ghost use Rattle.s2_receive.specs.Sinks.{NextWith};
 
-use crate::parts::Decide;
+use crate::decider::Decide;
+use crate::output::write_step;
+use crate::receiver_core::ReceiverCore;
 use crate::report::{Fault, Phase, Step, Totals};
 use crate::sinks::{Sink, give_frame};
-use crate::stepper::Stepper;
-use crate::telling::write_step;
 use s2_mode::{CountedRead, CountedWrite, Mode, ReadFault, read_full};
-use s2_plframe::Lock;
+use s2_plframe::HeaderTolerance;
 use std::alloc::{AllocError, Global};
 use std::marker::Model;
 
@@ -23,16 +23,13 @@ use std::marker::Model;
 /// In contracts, a receiver is its mode, its lock, its decider, its limit of symbols, its state, and the packets of its
 /// last step.
 pub struct Receiver<D: Decide> {
-    stepper: Stepper<D>,
+    inner: ReceiverCore<D>,
     bytes: Vec<u8>,
 }
 
 impl<D: Decide + Drop> Drop for Receiver<D> {
     fn drop(self) {
-        let Receiver {
-            stepper: _,
-            bytes: _,
-        } = self;
+        let Receiver { inner: _, bytes: _ } = self;
     }
 }
 
@@ -43,43 +40,43 @@ impl<D: Decide> Model for Receiver<D> {
 
     ghost Value = { ReceiverValue D };
 
-    ghost view = { λ r. r.stepper };
+    ghost view = { λ r. r.inner };
 
-    ghost invariant = { λ r. length r.bytes.items ≡ 4 * symbols_in r.stepper.mode };
+    ghost invariant = { λ r. length r.bytes.items ≡ 4 * symbols_in r.inner.mode };
 }
 
 /// Reads the wanted bytes, and passes them on.
 fn read_on<D: Decide, R: CountedRead>(
-    stepper: &mut Stepper<D>,
+    inner: &mut ReceiverCore<D>,
     reader: &mut R,
     room: &mut [u8],
 ) -> Result<Option<Step>, ReadFault>
     requires reader { CanCount (R.count reader.old) }
-    requires room { length room.old ≡ asked (rules_of D.decide stepper.old) stepper.old.state }
-    ensures same { IsSame D.decide stepper.old stepper.new }
-    ensures reads { Reads (seen_by D.decide D.last stepper.old) (seen_by D.decide D.last stepper.new) (R.remaining reader.old) (R.remaining reader.new) result }
+    requires room { length room.old ≡ asked (rules_of D.decide inner.old) inner.old.state }
+    ensures same { IsSame D.decide inner.old inner.new }
+    ensures reads { Reads (seen_by D.decide D.last inner.old) (seen_by D.decide D.last inner.new) (R.remaining reader.old) (R.remaining reader.new) result }
     ensures cause { CountsFault (R.count reader.old) (R.count reader.new) result }
     ensures long { length room.new ≡ length room.old }
 {
     let count = read_full(reader, room)?;
-    Ok(stepper.advance(&room[..count]))
+    Ok(inner.advance(&room[..count]))
 }
 
 /// The same, to the front of a buffer that has room for a frame.
 fn read_step<D: Decide, R: CountedRead>(
-    stepper: &mut Stepper<D>,
+    inner: &mut ReceiverCore<D>,
     reader: &mut R,
     buffer: &mut [u8],
 ) -> Result<Option<Step>, ReadFault>
     requires reader { CanCount (R.count reader.old) }
-    requires room { length buffer.old ≡ 4 * symbols_in stepper.old.mode }
-    ensures same { IsSame D.decide stepper.old stepper.new }
-    ensures reads { Reads (seen_by D.decide D.last stepper.old) (seen_by D.decide D.last stepper.new) (R.remaining reader.old) (R.remaining reader.new) result }
+    requires room { length buffer.old ≡ 4 * symbols_in inner.old.mode }
+    ensures same { IsSame D.decide inner.old inner.new }
+    ensures reads { Reads (seen_by D.decide D.last inner.old) (seen_by D.decide D.last inner.new) (R.remaining reader.old) (R.remaining reader.new) result }
     ensures cause { CountsFault (R.count reader.old) (R.count reader.new) result }
     ensures long { length buffer.new ≡ length buffer.old }
 {
-    let room = stepper.room();
-    read_on(stepper, reader, &mut buffer[..room])
+    let room = inner.room();
+    read_on(inner, reader, &mut buffer[..room])
 }
 
 impl<D: Decide> Receiver<D> {
@@ -89,7 +86,7 @@ impl<D: Decide> Receiver<D> {
     pub fn new(
         alloc: Global,
         mode: Mode,
-        max_header_errors: Lock,
+        max_header_errors: HeaderTolerance,
         decider: D,
         limit: u64,
     ) -> Result<Receiver<D>, AllocError>
@@ -102,8 +99,8 @@ impl<D: Decide> Receiver<D> {
         ensures begun { IfOk result (λ r. r.state ≡ begun) }
     {
         let bytes = vec![in alloc; 0u8; 4 * mode.symbols()]?;
-        let stepper = Stepper::new(alloc, mode, max_header_errors, decider, limit)?;
-        Ok(Receiver { stepper, bytes })
+        let inner = ReceiverCore::new(alloc, mode, max_header_errors, decider, limit)?;
+        Ok(Receiver { inner, bytes })
     }
 
     /// The totals so far. They count all frames, also those not delivered; a cut frame is not counted.
@@ -111,14 +108,14 @@ impl<D: Decide> Receiver<D> {
         ensures is { result ≡ self.now.state.standing.totals }
         ensures counted { result.frames ≤ max_symbols }
     {
-        self.stepper.totals()
+        self.inner.totals()
     }
 
     /// The number of symbols taken so far.
     pub fn taken(&self) -> u64
         ensures { result ≡ taken self.now.state }
     {
-        self.stepper.taken()
+        self.inner.taken()
     }
 
     /// Sets the limit of symbols in all. The receiver must not have taken more yet.
@@ -126,21 +123,21 @@ impl<D: Decide> Receiver<D> {
         requires { (taken self.old.state ≤ symbols) × (symbols ≤ max_symbols) }
         ensures { self.new ≡ record self.old { limit = symbols } }
     {
-        self.stepper.limit(symbols);
+        self.inner.limit(symbols);
     }
 
     /// The decider of its frames.
     pub fn decider(&self) -> &D
         ensures { result.now ≡ self.now.decider }
     {
-        &self.stepper.decider
+        &self.inner.decider
     }
 
     /// The packets that the last step gave, one after another: those that end in its frame.
     pub fn packets(&self) -> &[u8]
         ensures { result.now ≡ self.now.packets }
     {
-        self.stepper.joiner.packets()
+        self.inner.joiner.packets()
     }
 
     /// Whether the last step was a frame, so that the last decision is on this frame. It is false after a cut frame,
@@ -148,7 +145,7 @@ impl<D: Decide> Receiver<D> {
     pub fn is_at_frame(&self) -> bool
         ensures { result ≡ is_at_frame self.now.state.phase }
     {
-        matches!(self.stepper.phase(), Phase::Searching)
+        matches!(self.inner.phase(), Phase::Searching)
     }
 
     /// The number of bytes wanted next: four for each symbol that the next frame lacks, up to the limit. It is 0 if no
@@ -159,7 +156,7 @@ impl<D: Decide> Receiver<D> {
         ensures held { (length self.now.state.window.symbols < symbols_in self.now.mode)
             × (taken self.now.state ≤ self.now.limit) }
     {
-        self.stepper.room()
+        self.inner.room()
     }
 
     /// Takes the next bytes of the stream, in the number that [`Receiver::room`] returns. A symbol has four bytes: I before
@@ -178,7 +175,7 @@ impl<D: Decide> Receiver<D> {
         ensures advances { let see = seen_by D.decide D.last in
             Advances (see self.old) (see self.new) bytes.now result }
     {
-        self.stepper.advance(bytes)
+        self.inner.advance(bytes)
     }
 
     /// Reads up to the next step and makes it.
@@ -190,11 +187,11 @@ impl<D: Decide> Receiver<D> {
             (R.remaining reader.old) (R.remaining reader.new) (R.count reader.old) (R.count reader.new) result }
     {
         'reading: loop {
-            let room = self.stepper.room();
+            let room = self.inner.room();
             if room == 0 && self.is_at_frame() {
                 return Err(ReadFault);
             }
-            if let Some(step) = read_step(&mut self.stepper, reader, &mut self.bytes)? {
+            if let Some(step) = read_step(&mut self.inner, reader, &mut self.bytes)? {
                 return Ok(step);
             }
         }
@@ -248,7 +245,7 @@ impl<D: Decide> Receiver<D> {
         ensures unwritten { IsErrOf result Fault.Read → (packets.new ≡ packets.old) × (report.new ≡ report.old) }
         ensures counted { IfOk result (λ _. self.new.state.standing.totals.frames ≤ max_symbols) }
     {
-        match self.stepper.phase() {
+        match self.inner.phase() {
             Phase::Searching | Phase::Closing => {}
             Phase::Ended => return Ok(Step::End),
             Phase::Failed => return Err(Fault::Failed),
@@ -272,7 +269,7 @@ impl<D: Decide> Receiver<D> {
         ensures state { self.new ≡ record self.old { state = record self.old.state { phase = phases.Failed } } }
         ensures fault { result ≡ fault }
     {
-        self.stepper.fail();
+        self.inner.fail();
         fault
     }
 }

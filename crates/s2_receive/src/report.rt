@@ -3,12 +3,12 @@ ghost use Rattle.std.specs.Prelude.{◌≡◌, ◌≢◌, ◌+◌, ◌^◌, ◌<
 ghost use Rattle.s2_receive.specs.Faults.{fault_of};
 ghost use Rattle.s2_receive.specs.Figures.{refused_in};
 ghost use Rattle.s2_receive.specs.Receiving.{at_start, with_gap, cut_totals, frame_totals};
-ghost use Rattle.s2_receive.specs.Telling.{IsFew};
+ghost use Rattle.s2_receive.specs.Output.{IsFew};
 
-use crate::delivering::StepCounts;
+use crate::decider::Decided;
 use crate::figures::{Figures, Sums, sums_after};
 use crate::gap::Gap;
-use crate::parts::Decided;
+use crate::packet_buffer::StepCounts;
 use s2_bbframe::HeaderFault;
 use s2_check::Verdict;
 use s2_mode::StreamFault;

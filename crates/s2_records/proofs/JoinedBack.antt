@@ -11,7 +11,7 @@ use Rattle.s2_bbframe.proofs.Events.{joining-append}
 use Rattle.s2_receive.specs.declared.gap.Gap.{Gap}
 use Rattle.s2_receive.specs.Laws.{events_of, joined}
 use Rattle.s2_receive.specs.Meeting.{Met, frame, cut, ended, no_gap, is_gap, extended, begins, by_found, met_from}
-use Rattle.s2_receive.specs.Parts.{IsSaidBy}
+use Rattle.s2_receive.specs.Decider.{IsSaidBy}
 use Rattle.s2_receive.specs.Receiving.{Decision, Rules, all_packets, at_start, delivery}
 use Rattle.s2_receive.specs.Sinks.{frames_of}
 use Rattle.s2_receive.proofs.Names.{Found}

@@ -13,7 +13,7 @@ use Rattle.s2_bbframe.specs.declared.header.Header.{Header}
 use Rattle.s2_certfile.specs.Field.{places, bytes_of_bits}
 use Rattle.s2_certfile.proofs.EntryLemmas.{length-listed}
 use Rattle.s2_scramble.specs.Baseband.{scrambled, scrambling_bit}
-use Rattle.s2_receive.specs.Parts.{IsSaidBy}
+use Rattle.s2_receive.specs.Decider.{IsSaidBy}
 use Rattle.s2_receive.specs.Receiving.{delivery}
 use Rattle.s2_join.specs.Frames.{delivered_by, delivered_in}
 use Rattle.s2_join.proofs.FrameLemmas.{accepted_valid, zeros_are_a_gap}

@@ -8,7 +8,7 @@ use Rattle.s2_mode.specs.declared.symbols.Symbol.{Symbol}
 use Rattle.s2_certfile.specs.File.{IsSoft}
 use Rattle.s2_rows.specs.Values.{values_of_text}
 use Rattle.s2_receive.specs.Laws.{SpellSymbols}
-use Rattle.s2_receive.specs.Parts.{IsSaidBy}
+use Rattle.s2_receive.specs.Decider.{IsSaidBy}
 use Rattle.s2_receive.specs.Receiving.{Decision, Rules, RunsOut, State, begun}
 use Rattle.s2_receive.specs.Sinks.{TakesFrames, frames_of}
 use Rattle.s2_join.specs.Frames.{delivered_in, packets_in}

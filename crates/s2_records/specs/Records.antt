@@ -44,11 +44,11 @@ has_bbframe m decision = is_some decision.delivered && (length decision.message 
 abbrev pub message_bytes : Mode → Decision → List ℕ
 message_bytes m decision = if has_bbframe m decision then bytes_of_bits (scrambled decision.message) else no_bbframe m
 
--- in the place of skipped symbols: the zeros of one BBFRAME
+-- instead of skipped symbols: the zeros of one BBFRAME
 abbrev pub gap_bytes : Mode → (after_gap : Bool) → List ℕ
 gap_bytes m after_gap = if after_gap then no_bbframe m else []
 
--- the BBFRAME of a frame; before it zeros in the place of skipped symbols, if there were any
+-- the BBFRAME of a frame; before it zeros instead of skipped symbols, if there were any
 abbrev pub bbframe_bytes : Mode → (after_gap : Bool) → Decision → List ℕ
 bbframe_bytes m after_gap decision = gap_bytes m after_gap ++ message_bytes m decision
 

@@ -48,8 +48,8 @@ SentLaw {W} contents =
     (old new : Framing W) (codewords : List (List Bool)) → TakesCodewords (GainsSent contents) old new codewords
     → (new.mode ≡ old.mode) × Appends (contents old.to) (contents new.to) (flat_map (sent_bbframe old.mode) codewords)
 
--- If a frame is delivered, its decided word is a codeword and its message the first Kbch bits of it, then both ends write
--- the same bytes: the receiver of the frame, and the sender of the codeword
+-- Suppose a frame is delivered, its decided word is a codeword, and its message the first Kbch bits of it. Then both ends
+-- write the same bytes: the receiver for the frame, and the transmitter for the codeword
 abbrev pub BothEndsLaw : Type 0
 BothEndsLaw =
     (m : Mode) (decision : Decision) (codeword : List Bool) → kbch_of m ≤ length codeword → is_some decision.delivered ≡ true

@@ -45,7 +45,7 @@ fn write_message<W: CountedWrite>(
     write_bits(out, block, bits)
 }
 
-/// Writes zeros in the place of skipped symbols, if there were any.
+/// Writes zeros instead of skipped symbols, if there were any.
 fn write_gap<W: CountedWrite>(out: &mut W, zeros: &[u8], after_gap: bool) -> Result<(), WriteFault>
     requires { CanCount (W.count out.old) }
     ensures bytes { OnOk result (Appends (W.contents out.old) (W.contents out.new) (if after_gap then zeros.now else [])) }

@@ -25,15 +25,16 @@ pub fn values()
     ensures { ValuesLaw }
 {}
 
-/// `join` reads from the BBFRAME of a delivered frame the delivered header and data field, and from that of another frame
-/// a refused header. The frame's message must say what is delivered, as every frame's of `s2_modem` does
+/// `join` reads from the BBFRAME of a delivered frame the delivered header and data field, and from that of another
+/// frame a refused header. The message of the frame must agree with its delivered field, as in each frame of `s2_modem`
 /// (`s2_modem::laws::frames`).
 pub fn read_back()
     ensures { ReadBackLaw }
 {}
 
 /// The packets of `join` over the BBFRAMEs of all frames that a receiver met are exactly the packets that the receiver
-/// wrote. The receiver was new, came to the end, and the bytes of its stream are known. So a file of BBFRAMEs loses nothing.
+/// wrote. The receiver was new, came to the end, and the bytes of its stream are known. So a file of BBFRAMEs loses
+/// nothing.
 pub fn joined()
     ensures { JoinedLaw }
 {}
@@ -48,8 +49,9 @@ pub fn sent<W: CountedWrite>()
     ensures { SentLaw W.contents }
 {}
 
-/// Both ends write the same. If a frame is delivered, its decided word is a codeword and its message the first Kbch bits
-/// of that, then the receiver writes of the frame what the sender writes of the codeword: word and BBFRAME.
+/// Both ends write the same. Suppose a frame is delivered, its decided word is a codeword, and its message the first
+/// Kbch bits of that. Then the receiver writes the same word and the same BBFRAME for it as the transmitter for the
+/// codeword.
 pub fn both_ends()
     ensures { BothEndsLaw }
 {}

@@ -15,7 +15,7 @@ use s2_receive::{Frame, Sink};
 use std::alloc::{AllocError, Global};
 use std::marker::Model;
 
-/// The most bytes of a soft value and what follows it: a minus, three digits and a separator.
+/// The maximum length of a soft value with its separator, in bytes: a minus, three digits and a separator.
 const VALUE_BYTES: usize = 5;
 
 /// What follows a value, before these others.

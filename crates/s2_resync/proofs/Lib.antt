@@ -1,0 +1,2 @@
+pub mod ResyncLemmas
+pub mod StepLemmas

@@ -1,1 +1,3 @@
+pub mod Packets
+pub mod Steps
 pub mod Syncs

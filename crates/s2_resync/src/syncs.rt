@@ -12,14 +12,14 @@ pub struct Syncs {
 }
 
 /// Whether a place has a sync byte.
-fn has_sync(bytes: &[u8], place: usize) -> bool
+pub(crate) fn has_sync(bytes: &[u8], place: usize) -> bool
     ensures { result ≡ has_sync bytes.now place }
 {
     place < bytes.len() && bytes[place] == SYNC
 }
 
 /// Whether five sync bytes follow each other at a distance, from a place on.
-fn has_five(bytes: &[u8], place: usize, distance: usize) -> bool
+pub(crate) fn has_five(bytes: &[u8], place: usize, distance: usize) -> bool
     requires place { place < 1000000 }
     requires distance { distance < 1000 }
     ensures { result ≡ has_five bytes.now place distance }

@@ -6,7 +6,7 @@ use Rattle.s2_mode.specs.Symbols.{symbol_of}
 use Rattle.s2_plframe.specs.Search.{decision}
 use Rattle.s2_plframe.specs.Inside.{held}
 use Rattle.s2_plframe.specs.declared.receive.registers.Signs.{Signs}
-use Rattle.s2_scan.specs.Forms.{byte_at, symbol_in, set_right, is_little, way_of}
+use Rattle.s2_scan.specs.Forms.{byte_at, symbol_in, undo, is_little, orientation_of}
 use Rattle.s2_scan.specs.Inside.{HoldsLast, HoldsWindow, decisions_by}
 use Rattle.s2_scan.specs.Passing.{window_at, seen_as}
 use Rattle.s2_scan.proofs.Ranges.{same_maps}
@@ -52,8 +52,8 @@ chosen_holds true window a b s is big small = subst (λ (r : Signs). HoldsWindow
 chosen_holds false window a b s is big small = subst (λ (r : Signs). HoldsWindow false window r.odd r.even) (sym is) big
 
 -- the decisions on a window in a form
-pub seen_is : (form : ℕ) (window : List ℕ) (odd even : ℕ) → HoldsWindow (is_little form) window odd even → decisions_by (way_of form) odd even ≡ seen_as form window
+pub seen_is : (form : ℕ) (window : List ℕ) (odd even : ℕ) → HoldsWindow (is_little form) window odd even → decisions_by (orientation_of form) odd even ≡ seen_as form window
 unfolding decisions_by seen_as
 seen_is form window odd even holds =
-    same_maps (λ k. set_right (way_of form) (held odd even (90 - 1 - k))) (λ k. set_right (way_of form) (decision (symbol_in (is_little form) window k))) 90
-    (λ k lt. let place : 90 - 1 - k ≡ 89 - k = omega arith in ap (λ j. set_right (way_of form) (held odd even j)) place ∙ ap (set_right (way_of form)) (holds.each k lt))
+    same_maps (λ k. undo (orientation_of form) (held odd even (90 - 1 - k))) (λ k. undo (orientation_of form) (decision (symbol_in (is_little form) window k))) 90
+    (λ k lt. let place : 90 - 1 - k ≡ 89 - k = omega arith in ap (λ j. undo (orientation_of form) (held odd even j)) place ∙ ap (undo (orientation_of form)) (holds.each k lt))

@@ -3,7 +3,7 @@ use Rattle.std.proofs.Common.{◌≡◌, ℕ, ◌+◌, ◌-◌, ◌<◌, ◌≤�
 use Rattle.std.specs.Prelude.{if◌then◌else◌}
 use Rattle.std.specs.List.{flat_map}
 use Rattle.std.proofs.lemmas.Bool.{cases_Bool}
-use Rattle.s2_scan.specs.Forms.{forms, is_little, way_of}
+use Rattle.s2_scan.specs.Forms.{forms, is_little, orientation_of}
 use Rattle.s2_scan.specs.Inside.{HoldsLast, HoldsWindow, NoneMatches}
 use Rattle.s2_scan.specs.Passing.{headers, matches_sof, passes_as, passes_at, passes_in_form, seen_as, window_at}
 use Rattle.s2_scan.proofs.Held.{seen_is, window_held}
@@ -21,8 +21,8 @@ some_in_form position window form is = ap (λ (b : Bool). if b then flat_map (pa
 
 form_none : (position : ℕ) (window : List ℕ) (odd even form : ℕ) → HoldsWindow (is_little form) window odd even → NoneMatches odd even → passes_in_form position window form ≡ []
 form_none position window odd even form holds none =
-    let way : way_of form < 8 = omega arith in
-    none_in_form position window form (sym (ap matches_sof (seen_is form window odd even holds)) ∙ none (way_of form) way)
+    let orientation : orientation_of form < 8 = omega arith in
+    none_in_form position window form (sym (ap matches_sof (seen_is form window odd even holds)) ∙ none (orientation_of form) orientation)
 
 pub no_passes : (position : ℕ) (window : List ℕ) (big_odd big_even odd even : ℕ) → HoldsWindow false window big_odd big_even → HoldsWindow true window odd even
     → NoneMatches big_odd big_even → NoneMatches odd even → passes_at position window ≡ []

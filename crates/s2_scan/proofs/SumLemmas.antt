@@ -7,9 +7,7 @@ use Rattle.std.proofs.lemmas.Int.{ints}
 use Rattle.std.proofs.lemmas.List.{get_or_append_left, map-append}
 use Rattle.std.proofs.Math.Seq.{get_or-append_seam}
 use Rattle.s2_scan.specs.Inside.{IsWithin}
-use Rattle.s2_scan.specs.Pilots.{best_below, better, tried}
 use Rattle.s2_scan.specs.Sums.{no_sum, plus, sum_below, turned_back}
-use Rattle.s2_scan.specs.declared.candidate.Candidate.{Candidate}
 use Rattle.s2_scan.specs.declared.sums.Sum.{Sum}
 use Rattle.s2_scan.proofs.Ranges.{below_more}
 
@@ -20,14 +18,6 @@ sum_none f = refl
 pub sum_more : (f : ℕ → Sum) (n : ℕ) → plus (sum_below f n) (f n) ≡ sum_below f (n + 1)
 unfolding sum_below
 sum_more f n = sym (ap (sum_below f) (add-one n))
-
-pub best_none : (pilots : List Sum) → tried pilots 0 ≡ best_below pilots 0
-unfolding best_below
-best_none pilots = refl
-
-pub best_more : (pilots : List Sum) (n : ℕ) → better (best_below pilots n) (tried pilots n) ≡ best_below pilots (n + 1)
-unfolding best_below
-best_more pilots n = sym (ap (best_below pilots) (add-one n))
 
 -- nothing is within each bound
 pub none_within : (most : ℕ) → IsWithin most no_sum

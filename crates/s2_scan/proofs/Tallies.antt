@@ -3,7 +3,7 @@ use Rattle.std.proofs.Common.{◌≡◌, ℕ, suc, ◌+◌, ◌<◌, ◌≤◌, 
 use Rattle.std.specs.Prelude.{◌==◌, if◌then◌else◌}
 use Rattle.std.proofs.lemmas.Bool.{eq-eqb}
 use Rattle.std.proofs.lemmas.List.{drop_all, drop_more, set_split, take_all}
-use Rattle.s2_scan.specs.Sightings.{counted_on, no_tally, tallied}
+use Rattle.s2_scan.specs.Candidates.{counted_on, no_tally, tallied}
 use Rattle.s2_scan.specs.declared.tally.Tally.{Tally}
 
 -- the distance is there

@@ -20,12 +20,12 @@ turned_by n d =
     then d
     else (if n == 1 then quarter_turned d else (if n == 2 then quarter_turned (quarter_turned d) else quarter_turned (quarter_turned (quarter_turned d))))
 
--- the eight ways to set a recording right: ways 0 to 3 are that many quarter turns, ways 4 to 7 conjugation and then way - 4
+-- a decision with one of the eight orientations undone: 0 to 3 by that many quarter turns, 4 to 7 by conjugation and then orientation - 4
 -- quarter turns
-abbrev pub set_right : ℕ → Decision → Decision
-set_right way d = if nat_lt way 4 then turned_by way d else turned_by (way - 4) (conjugated d)
+abbrev pub undo : ℕ → Decision → Decision
+undo orientation d = if nat_lt orientation 4 then turned_by orientation d else turned_by (orientation - 4) (conjugated d)
 
--- the sixteen forms: forms 0 to 7 are big endian, 8 to 15 little endian, and form mod 8 is the way to set them right
+-- the sixteen forms: forms 0 to 7 are big endian, 8 to 15 little endian, and form mod 8 is their orientation
 unfoldable pub forms : List ℕ
 forms = range_with_len 0 16
 
@@ -33,9 +33,9 @@ forms = range_with_len 0 16
 abbrev pub is_little : ℕ → Bool
 is_little form = nat_le 8 form
 
--- the way to set a form right
-abbrev pub way_of : ℕ → ℕ
-way_of form = form % 8
+-- the orientation of a form
+abbrev pub orientation_of : ℕ → ℕ
+orientation_of form = form % 8
 
 -- a byte, and 0 past the end
 abbrev pub byte_at : List ℕ → ℕ → ℕ

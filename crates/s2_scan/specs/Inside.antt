@@ -7,7 +7,7 @@ use Rattle.s2_mode.specs.Limits.{header_symbols}
 use Rattle.s2_plframe.specs.Header.{header_bit}
 use Rattle.s2_plframe.specs.Search.{Decision, decision}
 use Rattle.s2_plframe.specs.Inside.{held, IsHeader}
-use Rattle.s2_scan.specs.Forms.{set_right, symbol_in}
+use Rattle.s2_scan.specs.Forms.{undo, symbol_in}
 use Rattle.s2_scan.specs.Passing.{code_at, header_count, matches_sof, passes_below, sof_threshold}
 use Rattle.s2_scan.specs.Pilots.{front_of, pilot_count}
 use Rattle.s2_scan.specs.Sums.{no_sum}
@@ -16,17 +16,17 @@ use Rattle.s2_scan.specs.declared.passes.Pass.{Pass}
 use Rattle.s2_scan.specs.declared.reading.Feed.{Feed}
 use Rattle.s2_scan.specs.declared.sums.Sum.{Sum}
 
--- the decisions on the last 90 symbols that two registers hold, set right
+-- the decisions on the last 90 symbols that two registers hold, with an orientation undone
 unfoldable pub decisions_by : ℕ → ℕ → ℕ → List Decision
-decisions_by way odd even = map (λ k. set_right way (held odd even (header_symbols - 1 - k))) (range_with_len 0 header_symbols)
+decisions_by orientation odd even = map (λ k. undo orientation (held odd even (header_symbols - 1 - k))) (range_with_len 0 header_symbols)
 
 -- the test of the start of frame on numbers of 90 bits
 abbrev pub sof_at : ℕ → ℕ → Bool
 sof_at header window = nat_le (count_ones (bit_xor header window / 2 ^ 64)) sof_threshold
 
--- the start of frame matches in no way
+-- the start of frame matches in no orientation
 abbrev pub NoneMatches : ℕ → ℕ → Type 0
-NoneMatches odd even = (way : ℕ) → way < 8 → matches_sof (decisions_by way odd even) ≡ false
+NoneMatches odd even = (orientation : ℕ) → orientation < 8 → matches_sof (decisions_by orientation odd even) ≡ false
 
 -- all headers as numbers
 abbrev pub AreHeaders : List ℕ → Type 0

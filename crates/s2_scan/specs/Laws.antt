@@ -1,4 +1,4 @@
--- The ways to set a recording right, by its symbols (own).
+-- The orientations of a recording, by its symbols (own).
 use Rattle.std.specs.Prelude.{◌≡◌, ◌≢◌, neg_ℤ}
 use Rattle.s2_mode.specs.declared.symbols.Symbol.{Symbol}
 use Rattle.s2_mode.specs.Symbols.{symbol}

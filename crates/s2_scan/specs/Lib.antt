@@ -1,6 +1,7 @@
 pub mod Forms
+pub mod Strength
 pub mod Passing
-pub mod Sightings
+pub mod Candidates
 pub mod Lines
 pub mod Scanning
 pub mod Laws

@@ -2,8 +2,9 @@
 use Rattle.std.specs.Prelude.{ℕ, ◌+◌, ◌-◌, ◌*◌, ◌/◌, ◌%◌, ◌==◌, ◌&&◌, ◌||◌, Bool, true, not, nat_le, nat_lt, max, min, List, [], ◌∷◌, ◌++◌, get_or, drop, Option, None, Some, codes, decimal, if◌then◌else◌}
 use Rattle.s2_console.specs.declared.exit.Exit.{Exit}
 use Rattle.s2_console.specs.declared.exit.Exit.TheVariants as exits
-use Rattle.s2_scan.specs.Forms.{is_little, way_of}
-use Rattle.s2_scan.specs.declared.sighting.Sighting.{Sighting}
+use Rattle.s2_scan.specs.Forms.{is_little, orientation_of}
+use Rattle.s2_scan.specs.Strength.{nothing_text}
+use Rattle.s2_scan.specs.declared.candidate.Candidate.{Candidate}
 
 -- the names of MODCOD 0 to 28
 abbrev pub names : List (List ℕ)
@@ -28,11 +29,11 @@ is_short header = header / 2 % 2 == 1
 abbrev pub has_pilots : ℕ → Bool
 has_pilots header = header % 2 == 1
 
--- whether setting a form right begins with conjugation
+-- whether undoing a form begins with conjugation
 abbrev pub is_conjugate : ℕ → Bool
-is_conjugate form = not (nat_lt (way_of form) 4)
+is_conjugate form = not (nat_lt (orientation_of form) 4)
 
--- the quarter turns that set a form right
+-- the quarter turns that undo a form
 abbrev pub turns_back : ℕ → ℕ
 turns_back form = form % 4
 
@@ -46,7 +47,7 @@ header_words header =
     name_at header ++ ((if is_short header then codes " short" else codes " normal") ++ (if has_pilots header then codes " pilots" else codes " no-pilots"))
 
 -- the positions in words
-unfoldable pub place_words : Sighting → List ℕ
+unfoldable pub place_words : Candidate → List ℕ
 place_words s =
     (codes " seen " ++ decimal s.seen) ++ ((codes " first " ++ decimal s.first) ++ (codes " every " ++ decimal s.every))
 
@@ -56,12 +57,12 @@ form_words form =
     (codes " turn " ++ decimal (turns_of form))
     ++ ((if is_conjugate form then codes " conjugate yes" else codes " conjugate no") ++ (if is_little form then codes " bytes little" else codes " bytes big"))
 
--- the line of a sighting
-unfoldable pub line_of : Sighting → List ℕ
+-- the line of a candidate
+unfoldable pub line_of : Candidate → List ℕ
 line_of s = header_words s.header ++ (place_words s ++ (form_words s.form ++ ((codes " amplitude " ++ decimal s.amplitude) ++ codes "\n")))
 
--- the lines of sightings
-abbrev pub lines_of : List Sighting → List ℕ
+-- the lines of candidates
+abbrev pub lines_of : List Candidate → List ℕ
 lines_of [] = []
 lines_of (s ∷ ss) = line_of s ++ lines_of ss
 
@@ -92,11 +93,11 @@ is_usual amplitude = nat_le 833 amplitude && nat_le amplitude 1177
 unfoldable pub gain_words : ℕ → List ℕ
 gain_words gain = (codes " --gain " ++ decimal (gain / 10000)) ++ (codes "." ++ drop 1 (decimal (10000 + gain % 10000)))
 
--- the quarter turns that set a form right, if there are any
+-- the quarter turns that undo a form, if there are any
 unfoldable pub turn_words : ℕ → List ℕ
 turn_words turns = if turns == 0 then [] else codes " --turn " ++ decimal turns
 
--- the command that sets a form right
+-- the command that undoes a form
 unfoldable pub convert_words : ℕ → List ℕ
 convert_words form =
     (if is_little form then codes "tools/convert ci16_le ci16_be" else codes "tools/convert ci16_be ci16_be")
@@ -124,8 +125,8 @@ quoted_bytes (byte ∷ bytes) = quoted_byte byte ++ quoted_bytes bytes
 unfoldable pub shell_word : List ℕ → List ℕ
 shell_word name = if are_plain name then name else codes "'" ++ (quoted_bytes name ++ codes "'")
 
--- the command that sets a sighting's form right, as far as the pipe
-unfoldable pub source_words : List ℕ → Sighting → List ℕ
+-- the command that undoes a candidate's form, as far as the pipe
+unfoldable pub source_words : List ℕ → Candidate → List ℕ
 source_words name s = convert_words s.form ++ (gain_words (gain_of s.amplitude) ++ (codes " " ++ (shell_word name ++ codes " | ")))
 
 -- the option for a scrambling number, if it is found and not 0
@@ -141,21 +142,21 @@ mode_words header = name_at header ++ ((if is_short header then codes " --short"
 unfoldable pub demod_words : Option ℕ → ℕ → List ℕ
 demod_words number header = codes "./s2 demod --modcod " ++ (mode_words header ++ (number_words number ++ codes " --tuned rows "))
 
--- the line that says how a sighting's frames are received after they are set right
-unfoldable pub converted_line : List ℕ → Option ℕ → Sighting → List ℕ
+-- the line that says how a candidate's frames are received after their form is undone
+unfoldable pub converted_line : List ℕ → Option ℕ → Candidate → List ℕ
 converted_line name number s = source_words name s ++ (demod_words number s.header ++ codes "- received.ts\n")
 
 -- the line that says how the frames of a header are received as they are
 unfoldable pub direct_line : List ℕ → Option ℕ → ℕ → List ℕ
 direct_line name number header = demod_words number header ++ (shell_word name ++ codes " received.ts\n")
 
--- The line that says how a sighting's frames are received: as they are, if they are in our byte order, neither conjugated
+-- The line that says how a candidate's frames are received: as they are, if they are in our byte order, neither conjugated
 -- nor rotated, and their amplitude needs no gain
-abbrev pub command_line : List ℕ → Option ℕ → Sighting → List ℕ
+abbrev pub command_line : List ℕ → Option ℕ → Candidate → List ℕ
 command_line name number s = if (s.form == 0) && is_usual s.amplitude then direct_line name number s.header else converted_line name number s
 
 -- the last line: how the likeliest frames that this program receives are received from the file of this name
-abbrev pub advice_of : List ℕ → Option ℕ → List Sighting → List ℕ
+abbrev pub advice_of : List ℕ → Option ℕ → List Candidate → List ℕ
 advice_of name number [] = codes "s2 demod receives none of these\n"
 advice_of name number (s ∷ ss) = if is_received s.header then command_line name number s else advice_of name number ss
 
@@ -164,12 +165,12 @@ unfoldable pub number_line : Option ℕ → List ℕ
 number_line None = codes "number not looked for: no pilots\n"
 number_line (Some number) = (codes "number " ++ decimal number) ++ codes "\n"
 
--- all that is printed
-abbrev pub scan_text : List ℕ → Option ℕ → List Sighting → List ℕ
-scan_text name number [] = codes "nothing found\n"
-scan_text name number (s ∷ ss) = lines_of (s ∷ ss) ++ (number_line number ++ advice_of name number (s ∷ ss))
+-- all that is printed of candidates in the file of this name and these first bytes
+abbrev pub scan_text : List ℕ → List ℕ → Option ℕ → List Candidate → List ℕ
+scan_text name front number [] = nothing_text front
+scan_text name front number (s ∷ ss) = lines_of (s ∷ ss) ++ (number_line number ++ advice_of name number (s ∷ ss))
 
--- exit 0 if there is a sighting, else 2
-abbrev pub scan_exit : List Sighting → Exit
+-- exit 0 if there is a candidate, else 2
+abbrev pub scan_exit : List Candidate → Exit
 scan_exit [] = exits.No
 scan_exit (s ∷ ss) = exits.Fine

@@ -6,9 +6,9 @@ use Rattle.s2_mode.specs.Mode.{Mode, mode_of}
 use Rattle.s2_bits.specs.Bits.{number}
 use Rattle.s2_plframe.specs.Header.{header_bit, dummy_mode}
 use Rattle.s2_plframe.specs.Search.{Decision, decision, mismatches, matches_header}
-use Rattle.s2_scan.specs.Forms.{forms, is_little, way_of, set_right, symbol_in}
+use Rattle.s2_scan.specs.Forms.{forms, is_little, orientation_of, undo, symbol_in}
 use Rattle.s2_scan.specs.Lines.{is_conjugate}
-use Rattle.s2_scan.specs.Sums.{energy, righted, sum_below, turned_back}
+use Rattle.s2_scan.specs.Sums.{energy, conjugated_if, sum_below, turned_back}
 use Rattle.s2_scan.specs.declared.passes.Pass.{Pass}
 use Rattle.s2_scan.specs.declared.sums.Sum.{Sum}
 
@@ -32,9 +32,9 @@ headers = range_with_len 0 header_count
 abbrev pub window_at : ℕ → List ℕ → List ℕ
 window_at position bytes = take 360 (drop (4 * position) bytes)
 
--- the decisions on the 90 symbols of a window, in a form that is set right
+-- the decisions on the 90 symbols of a window, with their form undone
 unfoldable pub seen_as : ℕ → List ℕ → List Decision
-seen_as form window = map (λ k. set_right (way_of form) (decision (symbol_in (is_little form) window k))) (range_with_len 0 header_symbols)
+seen_as form window = map (λ k. undo (orientation_of form) (decision (symbol_in (is_little form) window k))) (range_with_len 0 header_symbols)
 
 -- the largest number of wrong bits of the start of frame
 abbrev pub sof_threshold : ℕ
@@ -52,7 +52,7 @@ header_quarters m k = k % 2 + 2 * number (header_bit m k)
 -- its amplitude
 unfoldable pub header_sum : ℕ → ℕ → List ℕ → Sum
 header_sum form header window =
-    sum_below (λ k. turned_back (header_quarters (code_at header) k) (righted (is_conjugate form) (symbol_in (is_little form) window k))) header_symbols
+    sum_below (λ k. turned_back (header_quarters (code_at header) k) (conjugated_if (is_conjugate form) (symbol_in (is_little form) window k))) header_symbols
 
 -- the pass of a window as a header in a form
 abbrev pub pass_as : ℕ → List ℕ → ℕ → ℕ → Pass

@@ -1,15 +1,14 @@
 -- The scrambling number of a recording, by its pilots (EN 302 307-1, 5.5.3 and 5.5.4): a pilot is sent as (A, A), and then
 -- rotated by the quarter turns of the scrambling number.
-use Rattle.std.specs.Prelude.{ℕ, zero, suc, ◌+◌, ◌*◌, ◌/◌, ◌%◌, ◌&&◌, Bool, nat_lt, nat_le, List, [], ◌∷◌, map, take, length, get_or, Option, None, Some, if◌then◌else◌}
+use Rattle.std.specs.Prelude.{◌≡◌, ℕ, ◌+◌, ◌*◌, ◌/◌, ◌%◌, ◌<◌, ◌≤◌, ◌&&◌, Bool, nat_lt, nat_le, List, [], ◌∷◌, map, take, length, get_or, Option, None, Some, if◌then◌else◌}
 use Rattle.std.specs.List.{filter, range_with_len}
 use Rattle.s2_scramble.specs.Gold.{quarter_turns}
 use Rattle.s2_scan.specs.Forms.{is_little, symbol_in}
 use Rattle.s2_scan.specs.Lines.{has_pilots, is_conjugate}
-use Rattle.s2_scan.specs.Sightings.{is_of}
-use Rattle.s2_scan.specs.Sums.{energy, no_sum, righted, sum_below, turned_back}
-use Rattle.s2_scan.specs.declared.candidate.Candidate.{Candidate}
+use Rattle.s2_scan.specs.Candidates.{is_of}
+use Rattle.s2_scan.specs.Sums.{energy, no_sum, conjugated_if, sum_below, turned_back}
 use Rattle.s2_scan.specs.declared.passes.Pass.{Pass}
-use Rattle.s2_scan.specs.declared.sighting.Sighting.{Sighting}
+use Rattle.s2_scan.specs.declared.candidate.Candidate.{Candidate}
 use Rattle.s2_scan.specs.declared.sums.Sum.{Sum}
 
 -- ---- pilots
@@ -34,9 +33,9 @@ frame_count = 16
 abbrev pub pilot_place : ℕ → ℕ
 pilot_place k = 1440 + 1476 * (k / 36) + k % 36
 
--- symbol k of a recording in a form, conjugated if that sets it right; nothing past the end
+-- symbol k of a recording in a form, conjugated if that undoes the form; nothing past the end
 abbrev pub symbol_at : ℕ → List ℕ → ℕ → Sum
-symbol_at form bytes k = if nat_lt k (length bytes / 4) then righted (is_conjugate form) (symbol_in (is_little form) bytes k) else no_sum
+symbol_at form bytes k = if nat_lt k (length bytes / 4) then conjugated_if (is_conjugate form) (symbol_in (is_little form) bytes k) else no_sum
 
 -- the position of a frame
 abbrev pub position_at : List Pass → ℕ → ℕ
@@ -56,41 +55,44 @@ pilot_sums form bytes frames = map (pilot_sum form bytes frames) (range_with_len
 unfoldable pub descrambled : List Sum → ℕ → Sum
 descrambled pilots number = sum_below (λ k. turned_back (quarter_turns number (pilot_place k)) (get_or pilots k no_sum)) pilot_count
 
--- a scrambling number, and the energy of that sum
-abbrev pub tried : List Sum → ℕ → Candidate
-tried pilots number = record { number = number; energy = energy (descrambled pilots number) }
-
--- the one with more energy; the first of equal ones
-abbrev pub better : Candidate → Candidate → Candidate
-better a b = if nat_lt a.energy b.energy then b else a
-
--- the best of number 0 and the numbers below n; the least of equally good ones
-unfoldable pub best_below : List Sum → ℕ → Candidate
-best_below pilots zero = tried pilots 0
-best_below pilots (suc n) = better (best_below pilots n) (tried pilots n)
+-- the energy of that sum
+unfoldable pub energy_under : List Sum → ℕ → ℕ
+energy_under pilots number = energy (descrambled pilots number)
 
 -- how many scrambling numbers there are
 abbrev pub numbers : ℕ
 numbers = 262142
 
+-- the best of the scrambling numbers below n: none has more energy, and of equal ones it is the least
+pub record IsBest (pilots : List Sum) (n number : ℕ) : Type 0 where
+  pub there : number < n
+  pub most : (other : ℕ) → other < n → energy_under pilots other ≤ energy_under pilots number
+  pub least : (other : ℕ) → other < number → energy_under pilots other < energy_under pilots number
+
 -- ---- a recording
 
--- the frames whose pilots are used: the first ones of a sighting
-abbrev pub frames_of : Sighting → List Pass → List Pass
+-- the frames whose pilots are used: the first ones of a candidate
+abbrev pub frames_of : Candidate → List Pass → List Pass
 frames_of s passes = take frame_count (filter (is_of s.form s.header) passes)
 
--- the scrambling number by the pilots of a sighting, if those of its first frame are kept
-unfoldable pub number_by : List ℕ → List Pass → Sighting → Option ℕ
-number_by bytes passes s =
-    if nat_le (s.first + 3042) (length bytes / 4)
-    then Some (best_below (pilot_sums s.form bytes (frames_of s passes)) numbers).number
-    else None
+-- this is the scrambling number by the pilots of a candidate; none, if those of its first frame are not kept
+abbrev pub IsNumberBy : List ℕ → List Pass → Candidate → Option ℕ → Type 0
+IsNumberBy bytes passes s None = length bytes / 4 < s.first + 3042
+IsNumberBy bytes passes s (Some number) = (s.first + 3042 ≤ length bytes / 4) × IsBest (pilot_sums s.form bytes (frames_of s passes)) numbers number
 
 -- whether frames have pilots; dummy frames have none
 abbrev pub is_piloted : ℕ → Bool
 is_piloted header = nat_le 4 header && has_pilots header
 
--- the scrambling number by the likeliest frames with pilots
-abbrev pub number_of : List ℕ → List Pass → List Sighting → Option ℕ
-number_of bytes passes [] = None
-number_of bytes passes (s ∷ ss) = if is_piloted s.header then number_by bytes passes s else number_of bytes passes ss
+-- the candidates of frames with pilots
+abbrev pub piloted : List Candidate → List Candidate
+piloted = filter (λ s. is_piloted s.header)
+
+-- this is the scrambling number by the first of these; none, if there is none
+abbrev pub IsNumberOf : List ℕ → List Pass → List Candidate → Option ℕ → Type 0
+IsNumberOf bytes passes [] found = found ≡ None
+IsNumberOf bytes passes (s ∷ ss) found = IsNumberBy bytes passes s found
+
+-- this is the scrambling number by the likeliest frames with pilots
+abbrev pub IsNumber : List ℕ → List Pass → List Candidate → Option ℕ → Type 0
+IsNumber bytes passes candidates = IsNumberOf bytes passes (piloted candidates)

@@ -5,8 +5,8 @@ use Rattle.s2_console.specs.declared.exit.Exit.{Exit}
 use Rattle.s2_console.specs.declared.fault.Fault.{Fault}
 use Rattle.s2_console.specs.declared.fault.Fault.TheVariants as faults
 use Rattle.s2_scan.specs.Passing.{all_passes}
-use Rattle.s2_scan.specs.Pilots.{front_of, number_of}
-use Rattle.s2_scan.specs.Sightings.{sightings_of}
+use Rattle.s2_scan.specs.Pilots.{IsNumber, front_of}
+use Rattle.s2_scan.specs.Candidates.{candidates_of}
 use Rattle.s2_scan.specs.Lines.{scan_text, scan_exit}
 use Rattle.s2_scan.specs.declared.passes.Pass.{Pass}
 
@@ -37,10 +37,16 @@ abbrev pub MayFail : Option (List ℕ) → Fault → Type 0
 MayFail known faults.TooLong = IsRecording known (Err faults.TooLong)
 MayFail known f = IsOutside f
 
+-- `scan` prints this of the passes and the first bytes of a recording in the file of this name
+pub record SaysSeen (name : List ℕ) (passes : List Pass) (front : List ℕ) (exit : Exit) (text : List ℕ) : Type 0 where
+  pub number : Option ℕ
+  pub found : IsNumber front passes (candidates_of passes) number
+  pub line : text ≡ scan_text name front number (candidates_of passes)
+  pub ends : exit ≡ scan_exit (candidates_of passes)
+
 -- `scan` prints this of a recording in the file of this name
-pub record SaysScan (name bytes : List ℕ) (exit : Exit) (text : List ℕ) : Type 0 where
-  pub line : text ≡ scan_text name (number_of (front_of bytes) (all_passes bytes) (sightings_of (all_passes bytes))) (sightings_of (all_passes bytes))
-  pub ends : exit ≡ scan_exit (sightings_of (all_passes bytes))
+abbrev pub SaysScan : List ℕ → List ℕ → Exit → List ℕ → Type 0
+SaysScan name bytes = SaysSeen name (all_passes bytes) (front_of bytes)
 
 -- `scan` prints this of the recording
 abbrev pub IsScanned : List ℕ → Option (List ℕ) → Exit → List ℕ → Type 0

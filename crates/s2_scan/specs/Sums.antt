@@ -32,5 +32,5 @@ abbrev pub energy : Sum → ℕ
 energy s = unsigned_abs s.i * unsigned_abs s.i + unsigned_abs s.q * unsigned_abs s.q
 
 -- a symbol, conjugated or not
-abbrev pub righted : Bool → Symbol → Sum
-righted conjugate s = sum_of s.i (if conjugate then neg_ℤ s.q else s.q)
+abbrev pub conjugated_if : Bool → Symbol → Sum
+conjugated_if conjugate s = sum_of s.i (if conjugate then neg_ℤ s.q else s.q)

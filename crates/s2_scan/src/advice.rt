@@ -3,9 +3,9 @@ ghost use Rattle.std.specs.Prelude.{◌≡◌, ◌++◌, OnOk};
 ghost use Rattle.s2_scan.specs.Lines as lines;
 
 use crate::amplitude::MAX_AMPLITUDE;
+use crate::candidate::Candidate;
 use crate::lines::{choose, has_pilots, is_conjugate, is_short, name_at};
 use crate::shell::{push_name, push_word};
-use crate::sighting::Sighting;
 use crate::texts::{push, push_fraction, push_number};
 use std::alloc::AllocError;
 
@@ -58,7 +58,7 @@ fn push_turn(text: &mut Vec<u8>, turns: usize) -> Result<(), AllocError>
     push_number(text, " --turn ", turns as u64)
 }
 
-/// The command that sets a form right.
+/// The command that undoes a form.
 #[tactic(auto, unfolding(crate::specs::Lines::convert_words))]
 fn push_convert(text: &mut Vec<u8>, form: usize) -> Result<(), AllocError>
     ensures { OnOk result (text.new.items ≡ text.old.items ++ lines.convert_words form) }
@@ -75,13 +75,13 @@ fn push_convert(text: &mut Vec<u8>, form: usize) -> Result<(), AllocError>
     push_turn(text, form % 4)
 }
 
-/// The command that sets a sighting's form right, as far as the pipe.
+/// The command that undoes a candidate's form, as far as the pipe.
 #[tactic(auto, unfolding(crate::specs::Lines::source_words))]
-fn push_source(text: &mut Vec<u8>, name: &str, sighting: &Sighting) -> Result<(), AllocError>
-    ensures { OnOk result (text.new.items ≡ text.old.items ++ lines.source_words name.now sighting.now) }
+fn push_source(text: &mut Vec<u8>, name: &str, candidate: &Candidate) -> Result<(), AllocError>
+    ensures { OnOk result (text.new.items ≡ text.old.items ++ lines.source_words name.now candidate.now) }
 {
-    push_convert(text, sighting.form)?;
-    push_gain(text, gain_of(sighting.amplitude))?;
+    push_convert(text, candidate.form)?;
+    push_gain(text, gain_of(candidate.amplitude))?;
     push_word(text, " ", name, " | ")
 }
 
@@ -120,18 +120,18 @@ fn push_demod(text: &mut Vec<u8>, number: Option<u64>, header: usize) -> Result<
     push(text, " --tuned rows ")
 }
 
-/// The line that says how a sighting's frames are received after they are set right.
+/// The line that says how a candidate's frames are received after their form is undone.
 #[tactic(auto, unfolding(crate::specs::Lines::converted_line))]
 fn push_converted(
     text: &mut Vec<u8>,
     name: &str,
     number: Option<u64>,
-    sighting: &Sighting,
+    candidate: &Candidate,
 ) -> Result<(), AllocError>
-    ensures { OnOk result (text.new.items ≡ text.old.items ++ lines.converted_line name.now number sighting.now) }
+    ensures { OnOk result (text.new.items ≡ text.old.items ++ lines.converted_line name.now number candidate.now) }
 {
-    push_source(text, name, sighting)?;
-    push_demod(text, number, sighting.header)?;
+    push_source(text, name, candidate)?;
+    push_demod(text, number, candidate.header)?;
     push(text, "- received.ts\n")
 }
 
@@ -150,19 +150,19 @@ fn push_direct(
     push(text, " received.ts\n")
 }
 
-/// The line that says how a sighting's frames are received.
+/// The line that says how a candidate's frames are received.
 fn push_command(
     text: &mut Vec<u8>,
     name: &str,
     number: Option<u64>,
-    sighting: &Sighting,
+    candidate: &Candidate,
 ) -> Result<(), AllocError>
-    ensures { OnOk result (text.new.items ≡ text.old.items ++ lines.command_line name.now number sighting.now) }
+    ensures { OnOk result (text.new.items ≡ text.old.items ++ lines.command_line name.now number candidate.now) }
 {
-    if sighting.form == 0 && is_usual(sighting.amplitude) {
-        push_direct(text, name, number, sighting.header)
+    if candidate.form == 0 && is_usual(candidate.amplitude) {
+        push_direct(text, name, number, candidate.header)
     } else {
-        push_converted(text, name, number, sighting)
+        push_converted(text, name, number, candidate)
     }
 }
 
@@ -171,13 +171,13 @@ pub(crate) fn push_advice(
     text: &mut Vec<u8>,
     name: &str,
     number: Option<u64>,
-    sightings: &[Sighting],
+    candidates: &[Candidate],
 ) -> Result<(), AllocError>
-    ensures { OnOk result (text.new.items ≡ text.old.items ++ lines.advice_of name.now number sightings.now) }
+    ensures { OnOk result (text.new.items ≡ text.old.items ++ lines.advice_of name.now number candidates.now) }
 {
-    for k in 0..sightings.len() {
-        if is_received(sightings[k].header) {
-            return push_command(text, name, number, &sightings[k]);
+    for k in 0..candidates.len() {
+        if is_received(candidates[k].header) {
+            return push_command(text, name, number, &candidates[k]);
         }
     }
     push(text, "s2 demod receives none of these\n")

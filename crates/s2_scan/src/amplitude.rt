@@ -1,7 +1,8 @@
 //! The amplitude of passes.
 ghost use Rattle.std.specs.Prelude.{◌≡◌, ◌*◌, ◌^◌, ◌<◌, ◌≤◌, length, if◌then◌else◌};
 ghost use Rattle.s2_mode.specs.Limits.{header_symbols};
-ghost use Rattle.s2_scan.specs.Sightings.{energy_in, roots_below, max_amplitude, amplitude_by, amplitude_of};
+ghost use Rattle.s2_scan.specs.Candidates.{energy_in, amplitude_of};
+ghost use Rattle.s2_scan.specs.Strength.{root_of, amplitude_by};
 
 use crate::passes::Pass;
 use s2_mode::HEADER_SYMBOLS;
@@ -21,7 +22,7 @@ fn energy_in(passes: &[Pass]) -> u128
 }
 
 /// One, if a number counts.
-fn one_if(counts: bool) -> u64
+pub(crate) fn one_if(counts: bool) -> u64
     ensures is { result ≡ (if counts then 1 else 0) }
     ensures most { result ≤ 1 }
 {
@@ -29,9 +30,9 @@ fn one_if(counts: bool) -> u64
 }
 
 /// The rounded root of a mean, at most 46341.
-fn rounded_root(mean: u128) -> u64
+pub(crate) fn rounded_root(mean: u128) -> u64
     requires { mean < 2 ^ 125 }
-    ensures { result ≡ roots_below mean max_amplitude }
+    ensures { result ≡ root_of mean }
 {
     let mut root = 0u64;
     for k in 0..MAX_AMPLITUDE {

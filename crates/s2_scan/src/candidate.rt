@@ -1,90 +1,51 @@
-//! Scrambling numbers, tried on pilots.
-ghost use Rattle.std.specs.Prelude.{◌≡◌, ◌<◌};
-ghost use Rattle.s2_scramble.specs.Gold.{quarter_turns, x, y};
-ghost use Rattle.s2_scramble.specs.Sequence.{HoldsFirst};
-ghost use Rattle.s2_scan.specs.Inside.{AreWithin, IsWithin};
-ghost use Rattle.s2_scan.specs.Pilots as by;
+//! A header that is seen in a form.
+ghost use Rattle.std.specs.Prelude.{◌≡◌, ◌<◌, length, IfOk, OnOk, ◌++◌};
+ghost use Rattle.s2_scan.specs.Candidates.{first_of, candidate_by, candidate_of};
 
-use crate::pilots::{PILOTS, pilot_place};
-use crate::sequences::{HALF, PERIOD};
-use crate::sums::{NO_SUM, Sum, energy, plus, turned_back};
+use crate::amplitude::amplitude_of;
+use crate::codes::frame_length;
+use crate::distances::{distances, occurrences};
+use crate::passes::Pass;
+use crate::tally::usual_distance;
+use std::alloc::{AllocError, Global};
 
-/// How many scrambling numbers there are.
-const NUMBERS: usize = 262_142;
-
-/// A scrambling number, and the energy of the pilots that it rotates back, added up.
+/// A header in a form. It has the number of passes, the number of those at the frame's distance from the one before,
+/// the first position, the most frequent distance, and the amplitude.
 #[derive(Clone, Copy)]
 pub(crate) struct Candidate {
-    pub(crate) number: usize,
-    pub(crate) energy: u64,
+    pub(crate) form: usize,
+    pub(crate) header: usize,
+    pub(crate) seen: usize,
+    pub(crate) pairs: usize,
+    pub(crate) first: u64,
+    pub(crate) every: u64,
+    pub(crate) amplitude: u64,
 }
 
-/// R(i) of a scrambling number: by how many quarter turns symbol i after the header is rotated.
-#[inline(always)]
-fn quarter(x_bits: &[bool], y_bits: &[bool], number: usize, i: usize) -> u8
-    requires x_bits { HoldsFirst x 262143 x_bits.now }
-    requires y_bits { HoldsFirst y 134114 y_bits.now }
-    requires number { number < 262142 }
-    requires i { i < 3042 }
-    ensures { result ≡ quarter_turns number i }
+/// Appends the candidate of passes to others, if two passes have their frame's distance.
+pub(crate) fn push_candidate(
+    alloc: Global,
+    form: usize,
+    header: usize,
+    passes: &[Pass],
+    candidates: &mut Vec<Candidate>,
+) -> Result<(), AllocError>
+    ensures { OnOk result (candidates.new.items ≡ candidates.old.items ++ candidate_of form header passes.now) }
 {
-    let low = x_bits[(i + number) % PERIOD] ^ y_bits[i];
-    let high = x_bits[(i + HALF + number) % PERIOD] ^ y_bits[i + HALF];
-    2 * u8::from(high) + u8::from(low)
-}
-
-/// Pilots rotated back by the quarter turns of a scrambling number, and added up.
-fn descrambled(pilots: &[Sum], x_bits: &[bool], y_bits: &[bool], number: usize) -> Sum
-    requires pilots { AreWithin pilots.now }
-    requires x_bits { HoldsFirst x 262143 x_bits.now }
-    requires y_bits { HoldsFirst y 134114 y_bits.now }
-    requires number { number < 262142 }
-    ensures is { result ≡ by.descrambled pilots.now number }
-    ensures within { IsWithin 37748736 result }
-{
-    let mut sum = NO_SUM;
-    for k in 0..PILOTS {
-        let quarters = quarter(x_bits, y_bits, number, pilot_place(k));
-        sum = plus(sum, turned_back(quarters, pilots[k]));
+    let distances = distances(alloc, passes)?;
+    let pairs = occurrences(frame_length(header) as u64, &distances);
+    if pairs == 0 {
+        return Ok(());
     }
-    sum
-}
-
-/// A scrambling number, tried on pilots.
-fn tried(pilots: &[Sum], x_bits: &[bool], y_bits: &[bool], number: usize) -> Candidate
-    requires pilots { AreWithin pilots.now }
-    requires x_bits { HoldsFirst x 262143 x_bits.now }
-    requires y_bits { HoldsFirst y 134114 y_bits.now }
-    requires number { number < 262142 }
-    ensures { result ≡ by.tried pilots.now number }
-{
-    Candidate {
-        number,
-        energy: energy(descrambled(pilots, x_bits, y_bits, number)),
-    }
-}
-
-/// The one with more energy; the first of equal ones.
-fn better(best: Candidate, other: Candidate) -> Candidate
-    ensures { result ≡ by.better best other }
-{
-    if best.energy < other.energy {
-        other
-    } else {
-        best
-    }
-}
-
-/// The scrambling number that rotates pilots back best.
-pub(crate) fn best_of(pilots: &[Sum], x_bits: &[bool], y_bits: &[bool]) -> Candidate
-    requires pilots { AreWithin pilots.now }
-    requires x_bits { HoldsFirst x 262143 x_bits.now }
-    requires y_bits { HoldsFirst y 134114 y_bits.now }
-    ensures { result ≡ by.best_below pilots.now by.numbers }
-{
-    let mut best = tried(pilots, x_bits, y_bits, 0);
-    for number in 0..NUMBERS {
-        best = better(best, tried(pilots, x_bits, y_bits, number));
-    }
-    best
+    let every = usual_distance(alloc, &distances)?;
+    candidates.push(Candidate {
+        form,
+        header,
+        seen: passes.len(),
+        pairs,
+        first: passes[0].position,
+        every,
+        amplitude: amplitude_of(passes),
+    })?;
+    Ok(())
 }

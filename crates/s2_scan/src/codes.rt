@@ -3,7 +3,7 @@ ghost use Rattle.std.specs.Prelude.{◌≡◌, ◌<◌, length};
 ghost use Rattle.s2_mode.specs.Mode.{mode_of};
 ghost use Rattle.s2_scan.specs.Inside.{AreHeaders};
 ghost use Rattle.s2_scan.specs.Passing.{code_at};
-ghost use Rattle.s2_scan.specs.Sightings as frames;
+ghost use Rattle.s2_scan.specs.Candidates as frames;
 
 use s2_mode::{DUMMY_SYMBOLS, HEADER_SYMBOLS};
 use s2_plframe::{PlsCode, header_number};

@@ -3,14 +3,11 @@ ghost use Rattle.std.specs.Prelude.{◌≡◌, ◌≢◌, ◌+◌, Err, IfErr, I
 ghost use Rattle.s2_mode.specs.Counts.{CanCount};
 ghost use Rattle.s2_console.specs.Exits.{CommandRuns, CommandCounts, CommandExits};
 ghost use Rattle.s2_console.specs.Screens.{CanShow};
-ghost use Rattle.s2_scan.specs.Lines.{scan_exit, scan_text};
-ghost use Rattle.s2_scan.specs.Pilots.{number_of};
-ghost use Rattle.s2_scan.specs.Sightings.{sightings_of};
-ghost use Rattle.s2_scan.specs.Scanning.{IsRecording, IsScanned, MayFail, SaysScan};
+ghost use Rattle.s2_scan.specs.Scanning.{IsRecording, IsScanned, MayFail, SaysScan, SaysSeen};
 
 use crate::number::number_of;
 use crate::passes::Pass;
-use crate::ranking::sightings_of;
+use crate::ranking::candidates_of;
 use crate::reading::read_seen;
 use crate::text::{scan_exit, scan_text};
 use s2_console::{Console, Exit, Fault, print};
@@ -31,14 +28,13 @@ impl Drop for Report {
 
 /// The text and the exit for the passes and the first bytes of the file of this name.
 fn report_by(alloc: Global, name: &str, passes: &[Pass], front: &[u8]) -> Result<Report, AllocError>
-    ensures exit { IfOk result (λ s. s.exit ≡ scan_exit (sightings_of passes.now)) }
-    ensures text { IfOk result (λ s. s.text.items ≡ scan_text name.now (number_of front.now passes.now (sightings_of passes.now)) (sightings_of passes.now)) }
+    ensures { IfOk result (λ s. SaysSeen name.now passes.now front.now s.exit s.text.items) }
 {
-    let sightings = sightings_of(alloc, passes)?;
-    let number = number_of(alloc, front, passes, &sightings)?;
-    let text = scan_text(alloc, name, number, &sightings)?;
+    let candidates = candidates_of(alloc, passes)?;
+    let number = number_of(alloc, front, passes, &candidates)?;
+    let text = scan_text(alloc, name, front, number, &candidates)?;
     Ok(Report {
-        exit: scan_exit(&sightings),
+        exit: scan_exit(&candidates),
         text,
     })
 }
@@ -95,5 +91,5 @@ pub fn scan_command<R: CountedRead, O: CountedWrite, E: CountedWrite>(
         (R.count symbols.old) (R.count symbols.new) console.old console.new result }
 {
     let ended = print_scan(alloc, name, symbols, &mut console.output);
-    console.conclude(ended)
+    console.finish(ended)
 }

@@ -1,7 +1,7 @@
 //! The passes of a header in a form, and their distances.
 ghost use Rattle.std.specs.Prelude.{◌≡◌, ◌≤◌, [], ◌∷◌, ◌++◌, length, IfOk, OnOk};
 ghost use Rattle.std.specs.List.{filter};
-ghost use Rattle.s2_scan.specs.Sightings.{is_of, distances, occurrences};
+ghost use Rattle.s2_scan.specs.Candidates.{is_of, distances, occurrences};
 
 use crate::passes::Pass;
 use std::alloc::{AllocError, Global};

@@ -1,21 +1,21 @@
-//! The forms of a recording: the byte order, and the ways to set it right.
+//! The forms of a recording: the byte order, and the orientation by rotation and conjugation.
 ghost use Rattle.std.specs.Prelude.{◌≡◌, ◌+◌, ◌*◌, ◌<◌, ◌≤◌, ◌==◌, ℕ, false, not, length};
 ghost use Rattle.std.specs.Int.{bit_at as digit};
 ghost use Rattle.s2_mode.specs.Symbols.{symbol_of};
 ghost use Rattle.s2_plframe.specs.Header.{header_bit, dummy_mode};
 ghost use Rattle.s2_plframe.specs.Inside.{held, IsHeader};
-ghost use Rattle.s2_scan.specs.Forms.{set_right, symbol_in};
+ghost use Rattle.s2_scan.specs.Forms.{undo, symbol_in};
 ghost use Rattle.s2_scan.specs.Inside.{decisions_by, sof_at, NoneMatches};
 ghost use Rattle.s2_scan.specs.Passing.{matches_sof};
 
 use s2_mode::Symbol;
 use s2_plframe::Signs;
 
-/// The number of forms: two byte orders, and eight ways to set a recording right.
+/// The number of forms: two byte orders, and eight orientations.
 pub(crate) const FORMS: usize = 16;
 
-/// The number of ways to set a recording right.
-pub(crate) const WAYS: usize = 8;
+/// The number of orientations.
+pub(crate) const ORIENTATIONS: usize = 8;
 
 /// The largest number of wrong bits of the start of frame.
 const SOF_THRESHOLD: u32 = 4;
@@ -55,14 +55,14 @@ fn negated(register: u128) -> u128
     !register
 }
 
-/// The signs of a recording that is set right.
+/// The signs of a recording whose orientation is undone.
 #[inline(always)]
-pub(crate) fn set_right(way: usize, signs: Signs) -> Signs
-    requires { way < 8 }
-    ensures { (j : ℕ) → j < 128 → held result.odd result.even j ≡ set_right way (held signs.odd signs.even j) }
+pub(crate) fn undo(orientation: usize, signs: Signs) -> Signs
+    requires { orientation < 8 }
+    ensures { (j : ℕ) → j < 128 → held result.odd result.even j ≡ undo orientation (held signs.odd signs.even j) }
 {
     let Signs { odd, even } = signs;
-    match way {
+    match orientation {
         0 => Signs { odd, even },
         1 => Signs {
             odd: negated(even),
@@ -103,25 +103,25 @@ pub(crate) fn is_sof(header: u128, window: u128) -> bool
     ((header ^ window) >> 64).count_ones() <= SOF_THRESHOLD
 }
 
-/// Whether the start of frame matches in signs that are set right.
+/// Whether the start of frame matches in signs whose orientation is undone.
 #[inline(always)]
-fn matches_sof(header: u128, way: usize, signs: Signs) -> bool
+fn matches_sof(header: u128, orientation: usize, signs: Signs) -> bool
     requires header { IsHeader (header_bit (dummy_mode false false)) header }
-    requires way { way < 8 }
-    ensures { result ≡ matches_sof (decisions_by way signs.odd signs.even) }
+    requires orientation { orientation < 8 }
+    ensures { result ≡ matches_sof (decisions_by orientation signs.odd signs.even) }
 {
-    is_sof(header, set_right(way, signs).window())
+    is_sof(header, undo(orientation, signs).window())
 }
 
-/// Whether the start of frame may match in some way.
+/// Whether the start of frame may match in some orientation.
 #[inline(always)]
 pub(crate) fn may_match(header: u128, signs: Signs) -> bool
     requires { IsHeader (header_bit (dummy_mode false false)) header }
     ensures { result ≡ false → NoneMatches signs.odd signs.even }
 {
     let mut any = false;
-    for way in 0..WAYS {
-        any = any | matches_sof(header, way, signs);
+    for orientation in 0..ORIENTATIONS {
+        any = any | matches_sof(header, orientation, signs);
     }
     any
 }

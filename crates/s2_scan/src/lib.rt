@@ -1,14 +1,15 @@
-//! The contents of an unknown recording: its headers, their modes, and how to set it right.
+//! The contents of an unknown recording: its headers, their modes, and the form of its symbols.
 //!
 //! A recording may be in either byte order, conjugated and rotated. [`scan_command`] tests each position in all sixteen
 //! forms for each header of the standard (PLHEADER, EN 302 307-1, 5.5.2): MODCOD 0 to 28 with every TYPE. A position
 //! passes with at most 4 wrong bits of the 26 of the SOF and at most 12 of all 90. A header that comes twice at its
-//! frame's distance has a line. The last line is the command that receives the likeliest frames. [`amplitude_by`],
-//! [`is_usual`] and [`gain_of`] say how strong symbols are, and which gain they need. A [`Beginning`] is the first symbols of
-//! a recording.
+//! frame's distance has a line. The last line is the command that receives the likeliest frames. If there is no such header,
+//! two lines say how strong the symbols are. [`amplitude_by`], [`is_usual`] and [`gain_of`] say how strong symbols are, and
+//! which gain they need. A [`Beginning`] is the first symbols of a recording. [`push_name`] writes a file's name as a word of
+//! a shell.
 //!
 //! ```text
-//! let exit = scan_command(rt.alloc(), &mut symbols, &mut console);
+//! let exit = scan_command(rt.alloc(), name, &mut symbols, &mut console);
 //! ```
 #![tactic(auto)]
 
@@ -28,16 +29,17 @@ mod passes;
 mod pilots;
 mod ranking;
 mod reading;
-mod sequences;
 mod shell;
-mod sighting;
+mod strength;
 mod sums;
 mod tally;
 mod text;
 mod texts;
+mod trial;
 mod windows;
 
 pub use advice::{gain_of, is_usual};
 pub use amplitude::amplitude_by;
 pub use beginning::Beginning;
 pub use command::scan_command;
+pub use shell::push_name;

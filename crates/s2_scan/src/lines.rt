@@ -1,8 +1,8 @@
-//! The lines of sightings.
+//! The lines of candidates.
 ghost use Rattle.std.specs.Prelude.{◌≡◌, ◌<◌, ◌≤◌, ◌/◌, ◌++◌, [], codes, get_or, map, if◌then◌else◌, OnOk};
 ghost use Rattle.s2_scan.specs.Lines as lines;
 
-use crate::sighting::Sighting;
+use crate::candidate::Candidate;
 use crate::texts::{push, push_number};
 use std::alloc::AllocError;
 
@@ -81,7 +81,7 @@ pub(crate) fn has_pilots(header: usize) -> bool
     header % 2 == 1
 }
 
-/// Whether setting a form right begins with conjugation.
+/// Whether undoing a form begins with conjugation.
 pub(crate) fn is_conjugate(form: usize) -> bool
     ensures { result ≡ lines.is_conjugate form }
 {
@@ -100,12 +100,12 @@ fn push_header(text: &mut Vec<u8>, header: usize) -> Result<(), AllocError>
 
 /// The positions of a header in words.
 #[tactic(auto, unfolding(crate::specs::Lines::place_words))]
-fn push_places(text: &mut Vec<u8>, sighting: &Sighting) -> Result<(), AllocError>
-    ensures { OnOk result (text.new.items ≡ text.old.items ++ lines.place_words sighting.now) }
+fn push_places(text: &mut Vec<u8>, candidate: &Candidate) -> Result<(), AllocError>
+    ensures { OnOk result (text.new.items ≡ text.old.items ++ lines.place_words candidate.now) }
 {
-    push_number(text, " seen ", sighting.seen as u64)?;
-    push_number(text, " first ", sighting.first)?;
-    push_number(text, " every ", sighting.every)
+    push_number(text, " seen ", candidate.seen as u64)?;
+    push_number(text, " first ", candidate.first)?;
+    push_number(text, " every ", candidate.every)
 }
 
 /// A form in words.
@@ -121,14 +121,14 @@ fn push_form(text: &mut Vec<u8>, form: usize) -> Result<(), AllocError>
     push(text, choose(form >= 8, " bytes little", " bytes big"))
 }
 
-/// The line of a sighting.
+/// The line of a candidate.
 #[tactic(auto, unfolding(crate::specs::Lines::line_of))]
-pub(crate) fn push_line(text: &mut Vec<u8>, sighting: &Sighting) -> Result<(), AllocError>
-    ensures { OnOk result (text.new.items ≡ text.old.items ++ lines.line_of sighting.now) }
+pub(crate) fn push_line(text: &mut Vec<u8>, candidate: &Candidate) -> Result<(), AllocError>
+    ensures { OnOk result (text.new.items ≡ text.old.items ++ lines.line_of candidate.now) }
 {
-    push_header(text, sighting.header)?;
-    push_places(text, sighting)?;
-    push_form(text, sighting.form)?;
-    push_number(text, " amplitude ", sighting.amplitude)?;
+    push_header(text, candidate.header)?;
+    push_places(text, candidate)?;
+    push_form(text, candidate.form)?;
+    push_number(text, " amplitude ", candidate.amplitude)?;
     push(text, "\n")
 }

@@ -8,7 +8,7 @@ ghost use Rattle.s2_scan.specs.Passing as passing;
 use crate::codes::HEADERS;
 use crate::forms::{is_sof, symbol_in};
 use crate::lines::is_conjugate;
-use crate::sums::{NO_SUM, Sum, energy, plus, righted, turned_back};
+use crate::sums::{NO_SUM, Sum, conjugated_if, energy, plus, turned_back};
 use s2_mode::HEADER_SYMBOLS;
 use s2_plframe::{HEADER_THRESHOLD, wrong_in};
 use std::alloc::AllocError;
@@ -44,7 +44,7 @@ fn header_sum(numbers: &[u128; HEADERS], form: usize, header: usize, window: &[u
     let mut sum = NO_SUM;
     for k in 0..HEADER_SYMBOLS {
         let quarters = header_quarters(numbers, header, k);
-        let symbol = righted(is_conjugate(form), symbol_in(form >= 8, window, k));
+        let symbol = conjugated_if(is_conjugate(form), symbol_in(form >= 8, window, k));
         sum = plus(sum, turned_back(quarters, symbol));
     }
     sum

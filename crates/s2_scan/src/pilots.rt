@@ -6,7 +6,7 @@ ghost use Rattle.s2_scan.specs.Pilots as by;
 use crate::forms::symbol_in;
 use crate::lines::is_conjugate;
 use crate::passes::Pass;
-use crate::sums::{NO_SUM, Sum, plus, righted};
+use crate::sums::{NO_SUM, Sum, conjugated_if, plus};
 use s2_mode::HEADER_SYMBOLS;
 use std::alloc::{AllocError, Global};
 
@@ -30,7 +30,7 @@ fn symbol_at(form: usize, bytes: &[u8], position: u64, place: usize) -> Sum
 {
     let at = position.saturating_add(place as u64);
     if at < bytes.len() as u64 / 4 {
-        righted(is_conjugate(form), symbol_in(form >= 8, bytes, at as usize))
+        conjugated_if(is_conjugate(form), symbol_in(form >= 8, bytes, at as usize))
     } else {
         NO_SUM
     }

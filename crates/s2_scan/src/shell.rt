@@ -59,7 +59,7 @@ fn push_bytes(text: &mut Vec<u8>, name: &[u8]) -> Result<(), AllocError>
 
 /// Appends a name to a text, between single quotes if it needs them.
 #[tactic(auto, unfolding(crate::specs::Lines::shell_word))]
-pub(crate) fn push_name(text: &mut Vec<u8>, name: &str) -> Result<(), AllocError>
+pub fn push_name(text: &mut Vec<u8>, name: &str) -> Result<(), AllocError>
     ensures { OnOk result (text.new.items ≡ text.old.items ++ lines.shell_word name.now) }
 {
     if are_plain(name.as_bytes()) {

@@ -28,8 +28,8 @@ fn negated_if(negates: bool, component: i16) -> i64
 }
 
 /// A symbol, conjugated or not.
-pub(crate) fn righted(conjugate: bool, symbol: Symbol) -> Sum
-    ensures is { result ≡ by.righted conjugate symbol }
+pub(crate) fn conjugated_if(conjugate: bool, symbol: Symbol) -> Sum
+    ensures is { result ≡ by.conjugated_if conjugate symbol }
     ensures within { IsWithin 32768 result }
 {
     Sum {

@@ -1,6 +1,6 @@
 //! The most frequent distance.
 ghost use Rattle.std.specs.Prelude.{◌≡◌, nat_lt, if◌then◌else◌, OnOk, IfOk};
-ghost use Rattle.s2_scan.specs.Sightings.{tallied, most_frequent, no_tally, usual_distance};
+ghost use Rattle.s2_scan.specs.Candidates.{tallied, most_frequent, no_tally, usual_distance};
 
 use std::alloc::{AllocError, Global};
 

@@ -7,7 +7,7 @@ ghost use Rattle.s2_scan.specs.Inside.{AreHeaders, HoldsLast, HoldsWindow, NoneM
 ghost use Rattle.s2_scan.specs.Passing as passing;
 
 use crate::codes::HEADERS;
-use crate::forms::{FORMS, WAYS, may_match, set_right, symbol_in};
+use crate::forms::{FORMS, ORIENTATIONS, may_match, symbol_in, undo};
 use crate::passes::{Pass, push_form};
 use s2_mode::HEADER_SYMBOLS;
 use s2_plframe::Signs;
@@ -53,7 +53,7 @@ fn with_symbol(orders: Orders, bytes: &[u8], k: usize) -> Orders
 fn signs_in(form: usize, orders: Orders) -> Signs
     ensures { result ≡ (if is_little form then orders.little else orders.big) }
 {
-    if form >= WAYS {
+    if form >= ORIENTATIONS {
         orders.little
     } else {
         orders.big
@@ -66,7 +66,7 @@ fn seen_as(form: usize, window: &[u8], orders: Orders) -> u128
     requires little { HoldsWindow true window.now orders.little.odd orders.little.even }
     ensures { IsWindow (passing.seen_as form window.now) result }
 {
-    set_right(form % WAYS, signs_in(form, orders)).window()
+    undo(form % ORIENTATIONS, signs_in(form, orders)).window()
 }
 
 /// The bytes of the 90 symbols from a position on.

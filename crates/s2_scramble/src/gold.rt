@@ -126,7 +126,7 @@ impl Gold {
     }
 
     /// Rotates symbols back, as those from symbol `at` after the header on.
-    pub fn unturn_into(&self, at: usize, symbols: &[Symbol], out: &mut [Symbol])
+    pub fn derotate_into(&self, at: usize, symbols: &[Symbol], out: &mut [Symbol])
         requires same { length out.old ≡ length symbols.now }
         requires within { at + length symbols.now ≤ max_scrambled }
         ensures { (k : ℕ) → k < length symbols.now

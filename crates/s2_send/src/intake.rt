@@ -14,7 +14,7 @@ use std::alloc::{AllocError, Global};
 use std::marker::Model;
 
 /// The most packets that one stream accepts, unless a lower limit is set.
-pub const MAX_PACKETS: u64 = 1 << 32;
+pub const MAX_PACKETS: u64 = 1 << 62;
 
 /// Cuts the bytes of a stream into packets, and these into data fields. Its value is the stream.
 pub(crate) struct Intake {

@@ -9,7 +9,7 @@ use Rattle.s2_minsum.specs.Plain.{others}
 use Rattle.s2_minsum.proofs.Columns.{found}
 use Rattle.s2_settle.specs.Rests.{gap}
 use Rattle.s2_settle.specs.Nodes.{min1_of, min2_of, least_at}
-use Rattle.s2_settle.specs.Plain.{first_reserve, least_of, half_gap, amount_to}
+use Rattle.s2_settle.specs.Plain.{first_margin, least_of, half_gap, amount_to}
 use Rattle.s2_settle.proofs.Least.{first_le, first_at, second_le, second_at}
 use Rattle.s2_settle.proofs.LeastMember.{least_each, least_holds}
 use Rattle.s2_settle.proofs.RestWords.{no_less_is, gap_is, gap_alone}
@@ -17,9 +17,9 @@ use Rattle.s2_settle.proofs.RestWords.{no_less_is, gap_is, gap_alone}
 abbrev pub Has : List ℕ → ℕ → Type 0
 Has xs y = position_or_len (λ m. m == y) xs < length xs
 
-half_none : (reserve : ℕ) (a b : ℤ) → b ≤ℤ a → half_gap reserve a b ≡ 0
-half_none reserve a b le =
-    ap (λ t. cond t (min (unsigned_abs (b -ℤ a -ℤ pos reserve) / 2) 1048576) 0) (no_less_is (a +ℤ pos reserve) b (omega (arith, ints)))
+half_none : (margin : ℕ) (a b : ℤ) → b ≤ℤ a → half_gap margin a b ≡ 0
+half_none margin a b le =
+    ap (λ t. cond t (min (unsigned_abs (b -ℤ a -ℤ pos margin) / 2) 1048576) 0) (no_less_is (a +ℤ pos margin) b (omega (arith, ints)))
 
 -- each of the first n numbers is that of a member, or none; each member has one
 pub record Lanes (f : ℕ → ℕ) (n : ℕ) (g : ℕ → ℤ) (ms : List ℕ) (bit : ℕ → ℕ) (absent : ℕ → Bool) (entry : ℕ → ℕ) : Type 0 where
@@ -163,32 +163,32 @@ module _ (f : ℕ → ℕ) (n : ℕ) (g : ℕ → ℤ) (ms : List ℕ) (bit : �
       second_high f zero = omega arith
       second_high f (suc n) = (let rest = second_high f n in omega arith)
 
-  pub amount_is : (reserve : ℕ) → reserve ≤ first_reserve → gap reserve (min1_of f n) (min2_of f n) ≡ amount_to reserve g t (others ms t)
-  amount_is reserve few = go (others ms t) refl
+  pub amount_is : (margin : ℕ) → margin ≤ first_margin → gap margin (min1_of f n) (min2_of f n) ≡ amount_to margin g t (others ms t)
+  amount_is margin few = go (others ms t) refl
     where
-      go : (xs : List ℕ) → others ms t ≡ xs → gap reserve (min1_of f n) (min2_of f n) ≡ amount_to reserve g t xs
-      go [] is = ap (gap reserve (min1_of f n)) (second_none is) ∙ gap_alone reserve (min1_of f n) (g t) first_is (l.small t t_in) few
+      go : (xs : List ℕ) → others ms t ≡ xs → gap margin (min1_of f n) (min2_of f n) ≡ amount_to margin g t xs
+      go [] is = ap (gap margin (min1_of f n)) (second_none is) ∙ gap_alone margin (min1_of f n) (g t) first_is (l.small t t_in) few
       go (k ∷ ks) is =
           let all : All (Has ms) (k ∷ ks) = subst (All (Has ms)) is (All-filter (λ i. not (i == t)) (Has ms) ms l.members) in
           let has : Has ms (least_of g (k ∷ ks)) = least_holds g (Has ms) (k ∷ ks) (omega arith) all in
-          gap_is reserve (min1_of f n) (min2_of f n) (g t) (g (least_of g (k ∷ ks))) first_is (second_is k ks is) (l.small t t_in) (l.small (least_of g (k ∷ ks)) has) few (t_least (least_of g (k ∷ ks)) has)
+          gap_is margin (min1_of f n) (min2_of f n) (g t) (g (least_of g (k ∷ ks))) first_is (second_is k ks is) (l.small t t_in) (l.small (least_of g (k ∷ ks)) has) few (t_least (least_of g (k ∷ ks)) has)
 
   pub target_low : at < n
   target_low = at_low
 
   -- where anything is moved, the target is the member whose number is least
-  pub target_is : (reserve : ℕ) → reserve ≤ first_reserve → 0 < amount_to reserve g t (others ms t) → bit at ≡ t
-  target_is reserve few moved = elim (cases_eq (bit at) t) [
+  pub target_is : (margin : ℕ) → margin ≤ first_margin → 0 < amount_to margin g t (others ms t) → bit at ≡ t
+  target_is margin few moved = elim (cases_eq (bit at) t) [
     | inl same ↦ same
     | inr other ↦ absurd (go (others ms t) refl (in_others (bit at) (l.member at at_low at_there) other) moved)
   ]
     where
-      go : (xs : List ℕ) → others ms t ≡ xs → Has xs (bit at) → 0 < amount_to reserve g t xs → ⊥
+      go : (xs : List ℕ) → others ms t ≡ xs → Has xs (bit at) → 0 < amount_to margin g t xs → ⊥
       go [] is has moved = omega arith
       go (k ∷ ks) is has moved =
           let le = subst (λ w. g (least_of g (k ∷ ks)) ≤ℤ g w) (found (k ∷ ks) (bit at) has) (least_each g (k ∷ ks) (position_or_len (λ m. m == bit at) (k ∷ ks)) has) in
           let gives = l.gives at at_low at_there in
           let first = first_is in
           let at' = at_first in
-          let none = half_none reserve (g t) (g (least_of g (k ∷ ks))) (omega (arith, ints, le, gives, first, at')) in
+          let none = half_none margin (g t) (g (least_of g (k ∷ ks))) (omega (arith, ints, le, gives, first, at')) in
           omega (arith, none, moved)

@@ -18,7 +18,7 @@ use Rattle.s2_minsum.proofs.StepStates
 use Rattle.s2_minsum.proofs.StepStates.{of_lane, lane_small, stands}
 use Rattle.s2_bits.specs.Lanes32.{plus32}
 use Rattle.s2_settle.specs.Rests.{change, changed}
-use Rattle.s2_settle.specs.Plain.{first_reserve, State, raise, rest, input, least_of, amount_to, new_target as to_target, new_amount as to_amount, layer as layer_of_checks}
+use Rattle.s2_settle.specs.Plain.{first_margin, State, raise, rest, input, least_of, amount_to, new_target as to_target, new_amount as to_amount, layer as layer_of_checks}
 use Rattle.s2_settle.specs.Layer.{Held, with_layer, new_target, new_amount, change_in, layer as layer_of_rows}
 use Rattle.s2_settle.specs.Placing.{shown, place_of_check}
 use Rattle.s2_minsum.specs.Decoding.{AreFit}
@@ -33,17 +33,17 @@ either_most true x y one two = one
 either_most false x y one two = two
 
 -- no more is ever moved than the most
-pub amount_most : (reserve : ℕ) (f : ℕ → ℤ) (t : ℕ) (xs : List ℕ) → amount_to reserve f t xs ≤ 1048576
-amount_most reserve f t [] = omega arith
-amount_most reserve f t (k ∷ ks) =
+pub amount_most : (margin : ℕ) (f : ℕ → ℤ) (t : ℕ) (xs : List ℕ) → amount_to margin f t xs ≤ 1048576
+amount_most margin f t [] = omega arith
+amount_most margin f t (k ∷ ks) =
     let a = f t in
     let b = f (least_of f (k ∷ ks)) in
-    either_most (int_lt (a +ℤ pos reserve) b) (min (unsigned_abs (b -ℤ a -ℤ pos reserve) / 2) 1048576) 0 (omega arith) (omega arith)
+    either_most (int_lt (a +ℤ pos margin) b) (min (unsigned_abs (b -ℤ a -ℤ pos margin) / 2) 1048576) 0 (omega arith) (omega arith)
 
-pub layer_within : (rows : Rows) (reserve r : ℕ) (st : State) → IsWithin rows st → IsWithin rows (layer_of_checks (code_of rows) rows.shape.q reserve st r)
-layer_within rows reserve r st within = record {
+pub layer_within : (rows : Rows) (margin r : ℕ) (st : State) → IsWithin rows st → IsWithin rows (layer_of_checks (code_of rows) rows.shape.q margin st r)
+layer_within rows margin r st within = record {
   values = within.values;
-  amounts = λ j. either_most (j % rows.shape.q == r) (to_amount (code_of rows) reserve st j) (st.amount j) (amount_most reserve (input (code_of rows) st j) (to_target (code_of rows) st j) (others (members (code_of rows) j) (to_target (code_of rows) st j))) (within.amounts j);
+  amounts = λ j. either_most (j % rows.shape.q == r) (to_amount (code_of rows) margin st j) (st.amount j) (amount_most margin (input (code_of rows) st j) (to_target (code_of rows) st j) (others (members (code_of rows) j) (to_target (code_of rows) st j))) (within.amounts j);
 }
 
 -- a place of a list with another layer
@@ -56,38 +56,38 @@ layer_at n q r xs f r' c lt small long =
 length-with_layer : (n r : ℕ) (xs : List ℕ) (f : ℕ → ℕ) → length (with_layer n r xs f) ≡ length xs
 length-with_layer n r xs f = length-upto_map (λ k. cond (k / n == r) (f (k % n)) (get_or xs k 0)) (length xs)
 
-module _ (rows : Rows) (fit : AreFit rows) (reserve : ℕ) (few : reserve ≤ first_reserve) (r : ℕ) (layer : r < rows.shape.q) (h : Held) (st : State) (within : IsWithin rows st) (shows : Shows rows h st) where
+module _ (rows : Rows) (fit : AreFit rows) (margin : ℕ) (few : margin ≤ first_margin) (r : ℕ) (layer : r < rows.shape.q) (h : Held) (st : State) (within : IsWithin rows st) (shows : Shows rows h st) where
   abbrev after : State
-  after = layer_of_checks (code_of rows) rows.shape.q reserve st r
+  after = layer_of_checks (code_of rows) rows.shape.q margin st r
 
   abbrev then' : Held
-  then' = layer_of_rows rows reserve h r
+  then' = layer_of_rows rows margin h r
 
   r_low : (j : ℕ) → j % rows.shape.q < rows.shape.q
   r_low j = let some = fit.shaped.q_some in omega arith
 
-  amounts_at : (j : ℕ) → j < check_count rows.shape → get_or then'.amounts (place_of_check rows.shape j) 0 ≡ cond (j % rows.shape.q == r) (new_amount rows reserve r h (j / rows.shape.q)) (get_or h.amounts (place_of_check rows.shape j) 0)
-  amounts_at j low = layer_at rows.shape.group rows.shape.q r h.amounts (new_amount rows reserve r h) (j % rows.shape.q) (j / rows.shape.q) (r_low j) (lane_small rows fit.shaped r layer j low) shows.long.amounts_long
+  amounts_at : (j : ℕ) → j < check_count rows.shape → get_or then'.amounts (place_of_check rows.shape j) 0 ≡ cond (j % rows.shape.q == r) (new_amount rows margin r h (j / rows.shape.q)) (get_or h.amounts (place_of_check rows.shape j) 0)
+  amounts_at j low = layer_at rows.shape.group rows.shape.q r h.amounts (new_amount rows margin r h) (j % rows.shape.q) (j / rows.shape.q) (r_low j) (lane_small rows fit.shaped r layer j low) shows.long.amounts_long
 
   targets_at : (j : ℕ) → j < check_count rows.shape → get_or then'.targets (place_of_check rows.shape j) 0 ≡ cond (j % rows.shape.q == r) (new_target rows r h (j / rows.shape.q)) (get_or h.targets (place_of_check rows.shape j) 0)
   targets_at j low = layer_at rows.shape.group rows.shape.q r h.targets (new_target rows r h) (j % rows.shape.q) (j / rows.shape.q) (r_low j) (lane_small rows fit.shaped r layer j low) shows.long.targets_long
 
   -- the move of a check of this layer
-  moved_amount : (j : ℕ) → j < check_count rows.shape → j % rows.shape.q ≡ r → new_amount rows reserve r h (j / rows.shape.q) ≡ to_amount (code_of rows) reserve st j
+  moved_amount : (j : ℕ) → j < check_count rows.shape → j % rows.shape.q ≡ r → new_amount rows margin r h (j / rows.shape.q) ≡ to_amount (code_of rows) margin st j
   moved_amount j low of =
-      lane_amount rows fit r layer h st within shows (j / rows.shape.q) (lane_small rows fit.shaped r layer j low) reserve few ∙ ap (to_amount (code_of rows) reserve st) (of_lane rows fit.shaped r layer j of)
+      lane_amount rows fit r layer h st within shows (j / rows.shape.q) (lane_small rows fit.shaped r layer j low) margin few ∙ ap (to_amount (code_of rows) margin st) (of_lane rows fit.shaped r layer j of)
 
   moved_within : (j : ℕ) → j < check_count rows.shape → j % rows.shape.q ≡ r → new_target rows r h (j / rows.shape.q) < entry_count rows (j % rows.shape.q)
   moved_within j low of =
       let is = lane_within rows fit r layer h st within shows (j / rows.shape.q) (lane_small rows fit.shaped r layer j low) in
       omega (arith, is, ap (entry_count rows) of)
 
-  moved_target : (j : ℕ) → j < check_count rows.shape → j % rows.shape.q ≡ r → 0 < to_amount (code_of rows) reserve st j → shown rows (j % rows.shape.q) (j / rows.shape.q) (new_target rows r h (j / rows.shape.q)) ≡ to_target (code_of rows) st j
+  moved_target : (j : ℕ) → j < check_count rows.shape → j % rows.shape.q ≡ r → 0 < to_amount (code_of rows) margin st j → shown rows (j % rows.shape.q) (j / rows.shape.q) (new_target rows r h (j / rows.shape.q)) ≡ to_target (code_of rows) st j
   moved_target j low of some =
       let j_is = of_lane rows fit.shaped r layer j of in
-      let some' : 0 < to_amount (code_of rows) reserve st (r + j / rows.shape.q * rows.shape.q) = omega (arith, some, ap (to_amount (code_of rows) reserve st) j_is) in
+      let some' : 0 < to_amount (code_of rows) margin st (r + j / rows.shape.q * rows.shape.q) = omega (arith, some, ap (to_amount (code_of rows) margin st) j_is) in
       ap (λ x. shown rows x (j / rows.shape.q) (new_target rows r h (j / rows.shape.q))) of
-      ∙ lane_target rows fit r layer h st within shows (j / rows.shape.q) (lane_small rows fit.shaped r layer j low) reserve few some'
+      ∙ lane_target rows fit r layer h st within shows (j / rows.shape.q) (lane_small rows fit.shaped r layer j low) margin few some'
       ∙ ap (to_target (code_of rows) st) j_is
 
   pub moves_shown : ShowsMoves rows then'.targets then'.amounts after
@@ -101,7 +101,7 @@ module _ (rows : Rows) (fit : AreFit rows) (reserve : ℕ) (few : reserve ≤ fi
       | inr apart ↦ (let no' : eqb (j % rows.shape.q) r ≡ false = ne_eqb (j % rows.shape.q) r apart in let is' = is ∙ ap (λ b. cond b (new_target rows r h (j / rows.shape.q)) (get_or h.targets (place_of_check rows.shape j) 0)) no' in let some' : 0 < st.amount j = rw no' at some in omega (arith, is', shows.moves.within j low some'))
     ]);
     target = λ j low some. ap (shown rows (j % rows.shape.q) (j / rows.shape.q)) (targets_at j low) ∙ elim (cases_eq (j % rows.shape.q) r) [
-      | inl of ↦ (let yes' : eqb (j % rows.shape.q) r ≡ true = eq-eqb (j % rows.shape.q) r of in let some' : 0 < to_amount (code_of rows) reserve st j = rw yes' at some in rw yes' (moved_target j low of some'))
+      | inl of ↦ (let yes' : eqb (j % rows.shape.q) r ≡ true = eq-eqb (j % rows.shape.q) r of in let some' : 0 < to_amount (code_of rows) margin st j = rw yes' at some in rw yes' (moved_target j low of some'))
       | inr apart ↦ (let no' : eqb (j % rows.shape.q) r ≡ false = ne_eqb (j % rows.shape.q) r apart in let some' : 0 < st.amount j = rw no' at some in rw no' (shows.moves.target j low some'))
     ];
   }
@@ -114,7 +114,7 @@ module _ (rows : Rows) (fit : AreFit rows) (reserve : ℕ) (few : reserve ≤ fi
   still : (k i : ℕ) → k % rows.shape.q ≢ r → gain k i ≡ pos 0
   still k i apart =
       let no' : eqb (k % rows.shape.q) r ≡ false = ne_eqb (k % rows.shape.q) r apart in
-      let same : raise after k i ≡ raise st k i = (λ x. signed (i == cond (no' x) (to_target (code_of rows) st k) (st.target k)) (cond (no' x) (to_amount (code_of rows) reserve st k) (st.amount k))) in
+      let same : raise after k i ≡ raise st k i = (λ x. signed (i == cond (no' x) (to_target (code_of rows) st k) (st.target k)) (cond (no' x) (to_amount (code_of rows) margin st k) (st.amount k))) in
       omega (arith, ints, same)
 
   signed_small : (b : Bool) (a : ℕ) → a ≤ 1048576 → unsigned_abs (signed b a) ≤ 1048576
@@ -123,7 +123,7 @@ module _ (rows : Rows) (fit : AreFit rows) (reserve : ℕ) (few : reserve ≤ fi
 
   gain_small : (k i : ℕ) → unsigned_abs (gain k i) ≤ 2097152
   gain_small k i =
-      let one = signed_small (i == after.target k) (after.amount k) ((layer_within rows reserve r st within).amounts k) in
+      let one = signed_small (i == after.target k) (after.amount k) ((layer_within rows margin r st within).amounts k) in
       let two = signed_small (i == st.target k) (st.amount k) (within.amounts k) in
       omega (arith, ints, one, two)
 
@@ -140,7 +140,7 @@ module _ (rows : Rows) (fit : AreFit rows) (reserve : ℕ) (few : reserve ≤ fi
 
   -- what the entries below e make of the rest of a bit
   run_to : (e i : ℕ) → e ≤ entry_count rows r → i < code_bits rows.shape
-      → pos (changed rows.shape.group (entries_of rows r) h.rests (change_in rows reserve r h) e (row_of_bit rows.shape i * rows.shape.group + lane_of_bit rows.shape i)) ≡ pos 2147483648 +ℤ (rest (code_of rows) st i +ℤ LayerSums.sum_to rows fit.shaped r layer gain e i)
+      → pos (changed rows.shape.group (entries_of rows r) h.rests (change_in rows margin r h) e (row_of_bit rows.shape i * rows.shape.group + lane_of_bit rows.shape i)) ≡ pos 2147483648 +ℤ (rest (code_of rows) st i +ℤ LayerSums.sum_to rows fit.shaped r layer gain e i)
   run_to zero i h' low =
       let is = shows.rests i low in
       let none = LayerSums.sum_none rows fit.shaped r layer gain i in
@@ -160,7 +160,7 @@ module _ (rows : Rows) (fit : AreFit rows) (reserve : ℕ) (few : reserve ≤ fi
       let c = (lane + (n - 1 - lane_of_bit s b)) % n in
       let small : c < n = omega arith in
       let entry = entry_is rows fit r layer e lt in
-      let so_far = changed n es h.rests (change_in rows reserve r h) e p in
+      let so_far = changed n es h.rests (change_in rows margin r h) e p in
       let j = r + c * s.q in
       let lacking = is_lacking (lacked_row s r) (entry_of s b) c in
       let rest' = run_to e i (omega arith) low in
@@ -172,8 +172,8 @@ module _ (rows : Rows) (fit : AreFit rows) (reserve : ℕ) (few : reserve ≤ fi
       let few' = fit.few i low in
       let own = rest_small rows fit st within i low in
       let x : Circulant = entry_of s b in
-      let given : changed n es h.rests (change_in rows reserve r h) (suc e) p ≡ cond (row_of_bit s b == row) (plus32 so_far (cond lacking 0 (change (get_or h.targets (r * n + c) 0) (get_or h.amounts (r * n + c) 0) (new_target rows r h c) (new_amount rows reserve r h c) e))) so_far =
-      (λ t. cond ((entry t).row == row_is t) (plus32 so_far (cond (is_lacking (lacked_row s r) (entry t) ((lane_is t + (entry t).shift) % n)) 0 (change (get_or h.targets (r * n + (lane_is t + (entry t).shift) % n) 0) (get_or h.amounts (r * n + (lane_is t + (entry t).shift) % n) 0) (new_target rows r h ((lane_is t + (entry t).shift) % n)) (new_amount rows reserve r h ((lane_is t + (entry t).shift) % n)) e))) so_far)
+      let given : changed n es h.rests (change_in rows margin r h) (suc e) p ≡ cond (row_of_bit s b == row) (plus32 so_far (cond lacking 0 (change (get_or h.targets (r * n + c) 0) (get_or h.amounts (r * n + c) 0) (new_target rows r h c) (new_amount rows margin r h c) e))) so_far =
+      (λ t. cond ((entry t).row == row_is t) (plus32 so_far (cond (is_lacking (lacked_row s r) (entry t) ((lane_is t + (entry t).shift) % n)) 0 (change (get_or h.targets (r * n + (lane_is t + (entry t).shift) % n) 0) (get_or h.amounts (r * n + (lane_is t + (entry t).shift) % n) 0) (new_target rows r h ((lane_is t + (entry t).shift) % n)) (new_amount rows margin r h ((lane_is t + (entry t).shift) % n)) e))) so_far)
       in
       ap pos given ∙ elim (cases_eq (row_of_bit s b) row) [
         | inr other ↦ (
@@ -200,13 +200,13 @@ module _ (rows : Rows) (fit : AreFit rows) (reserve : ℕ) (few : reserve ≤ fi
                   let lane' = StepStates.lane_of rows fit.shaped r layer c in
                   let yes'' : eqb (j % s.q) r ≡ true = eq-eqb (j % s.q) r of in
                   let new_t : get_or then'.targets (r * n + c) 0 ≡ new_target rows r h c = ap (λ k. get_or then'.targets k 0) (sym place) ∙ targets_at j j_low ∙ (λ t. cond (yes'' t) (new_target rows r h (lane' t)) (get_or h.targets (place_of_check s j) 0)) in
-                  let new_a : get_or then'.amounts (r * n + c) 0 ≡ new_amount rows reserve r h c = ap (λ k. get_or then'.amounts k 0) (sym place) ∙ amounts_at j j_low ∙ (λ t. cond (yes'' t) (new_amount rows reserve r h (lane' t)) (get_or h.amounts (place_of_check s j) 0)) in
-                  let now = raise_shown rows fit r layer then'.targets then'.amounts after moves_shown c e (new_target rows r h c) (new_amount rows reserve r h c) small lt new_t new_a in
+                  let new_a : get_or then'.amounts (r * n + c) 0 ≡ new_amount rows margin r h c = ap (λ k. get_or then'.amounts k 0) (sym place) ∙ amounts_at j j_low ∙ (λ t. cond (yes'' t) (new_amount rows margin r h (lane' t)) (get_or h.amounts (place_of_check s j) 0)) in
+                  let now = raise_shown rows fit r layer then'.targets then'.amounts after moves_shown c e (new_target rows r h c) (new_amount rows margin r h c) small lt new_t new_a in
                   let was = raise_shown rows fit r layer h.targets h.amounts st shows.moves c e (get_or h.targets (r * n + c) 0) (get_or h.amounts (r * n + c) 0) small lt refl refl in
-                  let now_most = (layer_within rows reserve r st within).amounts j in
+                  let now_most = (layer_within rows margin r st within).amounts j in
                   let was_most = within.amounts j in
-                  let adds = change_adds so_far (rest (code_of rows) st i +ℤ sum e) (new_target rows r h c == e) (get_or h.targets (r * n + c) 0 == e) (new_amount rows reserve r h c) (get_or h.amounts (r * n + c) 0) rest' (omega (arith, ints, bound, few', own)) (omega (arith, now.0, now_most)) (omega (arith, was.0, was_most)) in
-                  let gains : signed (new_target rows r h c == e) (new_amount rows reserve r h c) -ℤ signed (get_or h.targets (r * n + c) 0 == e) (get_or h.amounts (r * n + c) 0) ≡ gain j i = (λ t. now.1 t -ℤ was.1 t) ∙ ap (gain j) forth_is in
+                  let adds = change_adds so_far (rest (code_of rows) st i +ℤ sum e) (new_target rows r h c == e) (get_or h.targets (r * n + c) 0 == e) (new_amount rows margin r h c) (get_or h.amounts (r * n + c) 0) rest' (omega (arith, ints, bound, few', own)) (omega (arith, now.0, now_most)) (omega (arith, was.0, was_most)) in
+                  let gains : signed (new_target rows r h c == e) (new_amount rows margin r h c) -ℤ signed (get_or h.targets (r * n + c) 0 == e) (get_or h.amounts (r * n + c) 0) ≡ gain j i = (λ t. now.1 t -ℤ was.1 t) ∙ ap (gain j) forth_is in
                   rw there (adds ∙ omega (arith, ints, more, gains))
                   )
             ])
@@ -216,13 +216,13 @@ module _ (rows : Rows) (fit : AreFit rows) (reserve : ℕ) (few : reserve ≤ fi
   pub layer_shown : Shows rows then' after
   layer_shown = record {
     long = record {
-      rests_long = length-upto_map (changed rows.shape.group (entries_of rows r) h.rests (change_in rows reserve r h) (length (entries_of rows r))) (length h.rests) ∙ shows.long.rests_long;
+      rests_long = length-upto_map (changed rows.shape.group (entries_of rows r) h.rests (change_in rows margin r h) (length (entries_of rows r))) (length h.rests) ∙ shows.long.rests_long;
       targets_long = length-with_layer rows.shape.group r h.targets (new_target rows r h) ∙ shows.long.targets_long;
-      amounts_long = length-with_layer rows.shape.group r h.amounts (new_amount rows reserve r h) ∙ shows.long.amounts_long;
+      amounts_long = length-with_layer rows.shape.group r h.amounts (new_amount rows margin r h) ∙ shows.long.amounts_long;
     };
     rests = λ i low. (
         let n = rows.shape.group in
-        let f = λ (m : ℕ). changed n (entries_of rows r) h.rests (change_in rows reserve r h) m in
+        let f = λ (m : ℕ). changed n (entries_of rows r) h.rests (change_in rows margin r h) m in
         let p = row_of_bit rows.shape i * n + lane_of_bit rows.shape i in
         let p_low : p < length h.rests = omega (arith, Places.place_below rows.shape fit.shaped i low, shows.long.rests_long) in
         let at : get_or then'.rests p 0 ≡ f (length (entries_of rows r)) p = upto_at 0 (f (length (entries_of rows r))) (length h.rests) p p_low in

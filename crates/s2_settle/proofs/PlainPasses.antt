@@ -25,7 +25,7 @@ use Rattle.s2_minsum.specs.Layout.{row_of_bit, lane_of_bit, bit_of}
 use Rattle.s2_minsum.proofs.Places
 use Rattle.s2_minsum.proofs.Orders.{Within, sum_within}
 use Rattle.s2_settle.specs.Rests.{zero_rest, lacking}
-use Rattle.s2_settle.specs.Plain.{settling_scale, first_reserve, State, raise, rest, is_hopeless, begun, after}
+use Rattle.s2_settle.specs.Plain.{settling_scale, first_margin, State, raise, rest, is_hopeless, begun, after}
 use Rattle.s2_settle.specs.declared.course.Course.{Course}
 use Rattle.s2_settle.specs.Plain as plain
 use Rattle.s2_settle.specs.Layer.{Held, layer}
@@ -113,28 +113,28 @@ start_both rows fit soft word all = record { within = start_within rows soft wor
 
 -- ---- a pass
 
-module _ (rows : Rows) (fit : AreFit rows) (reserve : ℕ) (few : reserve ≤ first_reserve) (h : Held) (st : State) (within : IsWithin rows st) (shows : Shows rows h st) where
-  plain_more : (n : ℕ) → fold (plain.layer (code_of rows) rows.shape.q reserve) st (upto (n + 1)) ≡ plain.layer (code_of rows) rows.shape.q reserve (fold (plain.layer (code_of rows) rows.shape.q reserve) st (upto n)) n
+module _ (rows : Rows) (fit : AreFit rows) (margin : ℕ) (few : margin ≤ first_margin) (h : Held) (st : State) (within : IsWithin rows st) (shows : Shows rows h st) where
+  plain_more : (n : ℕ) → fold (plain.layer (code_of rows) rows.shape.q margin) st (upto (n + 1)) ≡ plain.layer (code_of rows) rows.shape.q margin (fold (plain.layer (code_of rows) rows.shape.q margin) st (upto n)) n
   plain_more n =
-      ap (fold (plain.layer (code_of rows) rows.shape.q reserve) st) (upto_more n) ∙ fold-append (plain.layer (code_of rows) rows.shape.q reserve) st (upto n) (n ∷ [])
+      ap (fold (plain.layer (code_of rows) rows.shape.q margin) st) (upto_more n) ∙ fold-append (plain.layer (code_of rows) rows.shape.q margin) st (upto n) (n ∷ [])
 
-  layers_shown : (n : ℕ) → n ≤ rows.shape.q → IsShown rows (fold (layer rows reserve) h (upto n)) (fold (plain.layer (code_of rows) rows.shape.q reserve) st (upto n))
+  layers_shown : (n : ℕ) → n ≤ rows.shape.q → IsShown rows (fold (layer rows margin) h (upto n)) (fold (plain.layer (code_of rows) rows.shape.q margin) st (upto n))
   layers_shown zero le = record { within = within; shows = shows }
   layers_shown (suc n) le =
       let one : suc n ≡ n + 1 = omega arith in
       let before = layers_shown n (omega arith) in
       let low : n < rows.shape.q = omega arith in
-      let after = layer_shown rows fit reserve few n low _ _ before.within before.shows in
-      let after' = layer_within rows reserve n _ before.within in
-      let now : IsShown rows (layer rows reserve (fold (layer rows reserve) h (upto n)) n) (plain.layer (code_of rows) rows.shape.q reserve (fold (plain.layer (code_of rows) rows.shape.q reserve) st (upto n)) n) = record { within = after'; shows = after } in
-      let a = ap (λ k. fold (layer rows reserve) h (upto k)) one ∙ pass_more rows reserve n h in
-      let b = ap (λ k. fold (plain.layer (code_of rows) rows.shape.q reserve) st (upto k)) one ∙ plain_more n in
-      subst (λ (x : State). IsShown rows (fold (layer rows reserve) h (upto (suc n))) x) (sym b) (subst (λ (x : Held). IsShown rows x (plain.layer (code_of rows) rows.shape.q reserve (fold (plain.layer (code_of rows) rows.shape.q reserve) st (upto n)) n)) (sym a) now)
+      let after = layer_shown rows fit margin few n low _ _ before.within before.shows in
+      let after' = layer_within rows margin n _ before.within in
+      let now : IsShown rows (layer rows margin (fold (layer rows margin) h (upto n)) n) (plain.layer (code_of rows) rows.shape.q margin (fold (plain.layer (code_of rows) rows.shape.q margin) st (upto n)) n) = record { within = after'; shows = after } in
+      let a = ap (λ k. fold (layer rows margin) h (upto k)) one ∙ pass_more rows margin n h in
+      let b = ap (λ k. fold (plain.layer (code_of rows) rows.shape.q margin) st (upto k)) one ∙ plain_more n in
+      subst (λ (x : State). IsShown rows (fold (layer rows margin) h (upto (suc n))) x) (sym b) (subst (λ (x : Held). IsShown rows x (plain.layer (code_of rows) rows.shape.q margin (fold (plain.layer (code_of rows) rows.shape.q margin) st (upto n)) n)) (sym a) now)
 
-  pub pass_shown : Shows rows (pass rows reserve h) (plain.pass (code_of rows) rows.shape.q reserve st)
+  pub pass_shown : Shows rows (pass rows margin h) (plain.pass (code_of rows) rows.shape.q margin st)
   pass_shown = (layers_shown rows.shape.q (omega arith)).shows
 
-  pub pass_within : IsWithin rows (plain.pass (code_of rows) rows.shape.q reserve st)
+  pub pass_within : IsWithin rows (plain.pass (code_of rows) rows.shape.q margin st)
   pass_within = (layers_shown rows.shape.q (omega arith)).within
 
 -- ---- bits that lack
@@ -275,17 +275,17 @@ module _ (code : Code) (q : ℕ) where
   unfolding plain.passes
   passes_queued n p c s some hopeful found =
       let b = begun code c s in
-      let on = plain.passes code q n (p + 1) (after code c p (plain.lacking code s)) (plain.pass code q (after code c p (plain.lacking code s)).reserve b) in
+      let on = plain.passes code q n (p + 1) (after code c p (plain.lacking code s)) (plain.pass code q (after code c p (plain.lacking code s)).margin b) in
       ap (λ x. cond x (Some s) (cond (is_hopeless code.bits p c.before (plain.lacking code s)) None (cond (plain.lacking code b == 0) (Some b) on))) some
       ∙ ap (λ x. cond x None (cond (plain.lacking code b == 0) (Some b) on)) hopeful
       ∙ ap (λ x. cond x (Some b) on) found
 
   pub passes_later : (n p : ℕ) (c : Course) (s : State) → (plain.lacking code s == 0) ≡ false → is_hopeless code.bits p c.before (plain.lacking code s) ≡ false → (plain.lacking code (begun code c s) == 0) ≡ false
-      → plain.passes code q (suc n) p c s ≡ plain.passes code q n (p + 1) (after code c p (plain.lacking code s)) (plain.pass code q (after code c p (plain.lacking code s)).reserve (begun code c s))
+      → plain.passes code q (suc n) p c s ≡ plain.passes code q n (p + 1) (after code c p (plain.lacking code s)) (plain.pass code q (after code c p (plain.lacking code s)).margin (begun code c s))
   unfolding plain.passes
   passes_later n p c s some hopeful none =
       let b = begun code c s in
-      let on = plain.passes code q n (p + 1) (after code c p (plain.lacking code s)) (plain.pass code q (after code c p (plain.lacking code s)).reserve b) in
+      let on = plain.passes code q n (p + 1) (after code c p (plain.lacking code s)) (plain.pass code q (after code c p (plain.lacking code s)).margin b) in
       ap (λ x. cond x (Some s) (cond (is_hopeless code.bits p c.before (plain.lacking code s)) None (cond (plain.lacking code b == 0) (Some b) on))) some
       ∙ ap (λ x. cond x None (cond (plain.lacking code b == 0) (Some b) on)) hopeful
       ∙ ap (λ x. cond x (Some b) on) none

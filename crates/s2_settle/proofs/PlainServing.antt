@@ -18,7 +18,7 @@ use Rattle.s2_minsum.proofs.RotationFacts.{same_tests}
 use Rattle.s2_minsum.proofs.StepStates.{of_lane, lane_small}
 use Rattle.s2_bits.specs.Lanes32.{minus32, plus32}
 use Rattle.s2_settle.specs.declared.serving.Moved.{Moved}
-use Rattle.s2_settle.specs.Plain.{first_reserve, State, raise, rest, lacks, differ, input, new_target as to_target, new_amount as to_amount, serve, unsettled, call_for}
+use Rattle.s2_settle.specs.Plain.{first_margin, State, raise, rest, lacks, differ, input, new_target as to_target, new_amount as to_amount, serve, unsettled, call_for}
 use Rattle.s2_settle.specs.Rests.{change, is_calling}
 use Rattle.s2_settle.specs.Layer.{Held, new_target, new_amount}
 use Rattle.s2_settle.specs.Placing.{shown as bit_shown, place_of_check}

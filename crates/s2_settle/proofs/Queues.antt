@@ -11,7 +11,7 @@ use Rattle.s2_matrix.proofs.Totals.{upto_more}
 use Rattle.s2_settle.specs.Plain.{State, rest, lacks, call, call_for, serve, unsettled, queue}
 use Rattle.s2_settle.specs.Rests.{least_rest}
 use Rattle.s2_settle.specs.Serving.{rest_at}
-use Rattle.s2_settle.specs.Waiting.{first, later}
+use Rattle.s2_settle.specs.WorkList.{first, later}
 use Rattle.s2_settle.specs.Layer.{Held}
 use Rattle.s2_settle.specs.Shows.{IsShown}
 use Rattle.s2_matrix.proofs.Members.{upto_below}
@@ -20,20 +20,20 @@ use Rattle.s2_settle.proofs.PlainServing.{filter_along}
 
 -- what is left of a queue: so many checks to serve at most, those that wait, and a state that rows and lanes show, from which it ends
 -- where it is to end
-pub record IsLeft (rows : Rows) (left : ℕ) (h : Held) (waiting : List ℕ) (end : State) : Type 0 where
+pub record IsLeft (rows : Rows) (left : ℕ) (h : Held) (work_list : List ℕ) (end : State) : Type 0 where
   pub state : State
   pub shown : IsShown rows h state
-  pub same : queue (code_of rows) left state waiting ≡ end
+  pub same : queue (code_of rows) left state work_list ≡ end
 
-pub queue_over : (code : Code) (left : ℕ) (s : State) (waiting : List ℕ) → waiting ≡ [] → queue code left s waiting ≡ s
+pub queue_over : (code : Code) (left : ℕ) (s : State) (work_list : List ℕ) → work_list ≡ [] → queue code left s work_list ≡ s
 unfolding queue
-queue_over code left s waiting none = rw none (go left)
+queue_over code left s work_list none = rw none (go left)
   where
     go : (left : ℕ) → queue code left s [] ≡ s
     go zero = refl
     go (suc left) = refl
 
-pub queue_done : (code : Code) (s : State) (waiting : List ℕ) → queue code 0 s waiting ≡ s
+pub queue_done : (code : Code) (s : State) (work_list : List ℕ) → queue code 0 s work_list ≡ s
 unfolding queue
 queue_done code s [] = refl
 queue_done code s (j ∷ js) = refl
@@ -42,11 +42,11 @@ pub queue_more : (code : Code) (left : ℕ) (s : State) (j : ℕ) (js : List ℕ
 unfolding queue
 queue_more code left s j js = refl
 
-pub first_none : (waiting : List ℕ) → first waiting ≡ None → waiting ≡ []
+pub first_none : (work_list : List ℕ) → first work_list ≡ None → work_list ≡ []
 first_none [] e = refl
 first_none (j ∷ js) e = cc
 
-pub first_some : (waiting : List ℕ) (j : ℕ) → first waiting ≡ Some j → waiting ≡ j ∷ later waiting
+pub first_some : (work_list : List ℕ) (j : ℕ) → first work_list ≡ Some j → work_list ≡ j ∷ later work_list
 first_some [] j e = cc
 first_some (i ∷ js) j e = let same : i ≡ j = cc in ap (λ x. x ∷ js) same
 
@@ -63,12 +63,12 @@ lacking_bits rows h s shown =
     ))
 
 -- one bit more
-pub call_for_push : (code : Code) (waiting : List ℕ) (t : ℕ → Bool) (xs : List ℕ) (i : ℕ) → call_for code waiting (filter t (xs ++ i ∷ [])) ≡ cond (t i) (fold call (call_for code waiting (filter t xs)) (checks_of code i)) (call_for code waiting (filter t xs))
-call_for_push code waiting t xs i =
-    ap (call_for code waiting) (filter-append t xs (i ∷ [])) ∙ fold-append (λ w x. fold call w (checks_of code x)) waiting (filter t xs) (filter t (i ∷ [])) ∙ elim (cases_Bool (t i)) [
+pub call_for_push : (code : Code) (work_list : List ℕ) (t : ℕ → Bool) (xs : List ℕ) (i : ℕ) → call_for code work_list (filter t (xs ++ i ∷ [])) ≡ cond (t i) (fold call (call_for code work_list (filter t xs)) (checks_of code i)) (call_for code work_list (filter t xs))
+call_for_push code work_list t xs i =
+    ap (call_for code work_list) (filter-append t xs (i ∷ [])) ∙ fold-append (λ w x. fold call w (checks_of code x)) work_list (filter t xs) (filter t (i ∷ [])) ∙ elim (cases_Bool (t i)) [
       | inl keeps ↦ rw keeps refl
       | inr drops ↦ rw drops refl
     ]
 
-pub call_for_more : (code : Code) (waiting : List ℕ) (t : ℕ → Bool) (i : ℕ) → call_for code waiting (filter t (upto (i + 1))) ≡ cond (t i) (fold call (call_for code waiting (filter t (upto i))) (checks_of code i)) (call_for code waiting (filter t (upto i)))
-call_for_more code waiting t i = ap (λ xs. call_for code waiting (filter t xs)) (upto_more i) ∙ call_for_push code waiting t (upto i) i
+pub call_for_more : (code : Code) (work_list : List ℕ) (t : ℕ → Bool) (i : ℕ) → call_for code work_list (filter t (upto (i + 1))) ≡ cond (t i) (fold call (call_for code work_list (filter t (upto i))) (checks_of code i)) (call_for code work_list (filter t (upto i)))
+call_for_more code work_list t i = ap (λ xs. call_for code work_list (filter t xs)) (upto_more i) ∙ call_for_push code work_list t (upto i) i

@@ -3,7 +3,7 @@ use Rattle.std.proofs.Common.{◌≡◌, ℕ, ◌+◌, ◌-◌, ◌/◌, ◌%◌
 use Rattle.std.proofs.lemmas.Int.{ints, by_lt_z}
 use Rattle.s2_bits.specs.Lanes32.{minus32, plus32}
 use Rattle.s2_settle.specs.Rests.{gap}
-use Rattle.s2_settle.specs.Plain.{first_reserve, half_gap}
+use Rattle.s2_settle.specs.Plain.{first_margin, half_gap}
 
 pub less_is : (a b : ℤ) → a <ℤ b → int_lt a b ≡ true
 less_is a b h = grind (arith, ints)
@@ -33,28 +33,28 @@ given_is A amount z false is small few =
     omega (arith, ints, e)
 
 -- what is moved, where both numbers are rests
-pub gap_is : (reserve F S : ℕ) (a b : ℤ) → pos F ≡ pos 2147483648 +ℤ a → pos S ≡ pos 2147483648 +ℤ b → unsigned_abs a ≤ 1073741824 → unsigned_abs b ≤ 1073741824 → reserve ≤ first_reserve → a ≤ℤ b → gap reserve F S ≡ half_gap reserve a b
-gap_is reserve F S a b first second small small' few le =
+pub gap_is : (margin F S : ℕ) (a b : ℤ) → pos F ≡ pos 2147483648 +ℤ a → pos S ≡ pos 2147483648 +ℤ b → unsigned_abs a ≤ 1073741824 → unsigned_abs b ≤ 1073741824 → margin ≤ first_margin → a ≤ℤ b → gap margin F S ≡ half_gap margin a b
+gap_is margin F S a b first second small small' few le =
     let up : F ≤ S = omega (arith, ints) in
     let low : S < 4294967296 = omega (arith, ints) in
     let d : (S + (4294967296 - F)) % 4294967296 ≡ S - F = omega arith in
-    let m : (max (S - F) reserve + (4294967296 - reserve)) % 4294967296 ≡ S - F - reserve = omega arith in
-    let g : gap reserve F S ≡ min ((S - F - reserve) / 2) 1048576 = ap (λ x. min ((max x reserve + (4294967296 - reserve)) % 4294967296 / 2) 1048576) d ∙ ap (λ x. min (x / 2) 1048576) m in
-    by_lt_z (a +ℤ pos reserve) b
+    let m : (max (S - F) margin + (4294967296 - margin)) % 4294967296 ≡ S - F - margin = omega arith in
+    let g : gap margin F S ≡ min ((S - F - margin) / 2) 1048576 = ap (λ x. min ((max x margin + (4294967296 - margin)) % 4294967296 / 2) 1048576) d ∙ ap (λ x. min (x / 2) 1048576) m in
+    by_lt_z (a +ℤ pos margin) b
     (λ lt.
-    let size : unsigned_abs (b -ℤ a -ℤ pos reserve) ≡ S - F - reserve = omega (arith, ints) in
-    g ∙ sym (ap (λ t. cond t (min (unsigned_abs (b -ℤ a -ℤ pos reserve) / 2) 1048576) 0) (less_is (a +ℤ pos reserve) b lt) ∙ ap (λ x. min (x / 2) 1048576) size))
+    let size : unsigned_abs (b -ℤ a -ℤ pos margin) ≡ S - F - margin = omega (arith, ints) in
+    g ∙ sym (ap (λ t. cond t (min (unsigned_abs (b -ℤ a -ℤ pos margin) / 2) 1048576) 0) (less_is (a +ℤ pos margin) b lt) ∙ ap (λ x. min (x / 2) 1048576) size))
     (λ ge.
-    let none : S - F - reserve ≡ 0 = omega (arith, ints) in
-    g ∙ ap (λ x. min (x / 2) 1048576) none ∙ sym (ap (λ t. cond t (min (unsigned_abs (b -ℤ a -ℤ pos reserve) / 2) 1048576) 0) (no_less_is (a +ℤ pos reserve) b ge)))
+    let none : S - F - margin ≡ 0 = omega (arith, ints) in
+    g ∙ ap (λ x. min (x / 2) 1048576) none ∙ sym (ap (λ t. cond t (min (unsigned_abs (b -ℤ a -ℤ pos margin) / 2) 1048576) 0) (no_less_is (a +ℤ pos margin) b ge)))
 
 -- what is moved where there are no others
-pub gap_alone : (reserve F : ℕ) (a : ℤ) → pos F ≡ pos 2147483648 +ℤ a → unsigned_abs a ≤ 1073741824 → reserve ≤ first_reserve → gap reserve F 4294967295 ≡ 1048576
-gap_alone reserve F a first small few =
+pub gap_alone : (margin F : ℕ) (a : ℤ) → pos F ≡ pos 2147483648 +ℤ a → unsigned_abs a ≤ 1073741824 → margin ≤ first_margin → gap margin F 4294967295 ≡ 1048576
+gap_alone margin F a first small few =
     let low : F ≤ 3221225472 = omega (arith, ints) in
     let d : (4294967295 + (4294967296 - F)) % 4294967296 ≡ 4294967295 - F = omega arith in
-    let m : (max (4294967295 - F) reserve + (4294967296 - reserve)) % 4294967296 ≡ 4294967295 - F - reserve = omega arith in
-    ap (λ x. min ((max x reserve + (4294967296 - reserve)) % 4294967296 / 2) 1048576) d ∙ ap (λ x. min (x / 2) 1048576) m ∙ omega arith
+    let m : (max (4294967295 - F) margin + (4294967296 - margin)) % 4294967296 ≡ 4294967295 - F - margin = omega arith in
+    ap (λ x. min ((max x margin + (4294967296 - margin)) % 4294967296 / 2) 1048576) d ∙ ap (λ x. min (x / 2) 1048576) m ∙ omega arith
 
 -- what a change of moves adds to a rest
 pub change_adds : (A : ℕ) (z : ℤ) (now old : Bool) (new was : ℕ) → pos A ≡ pos 2147483648 +ℤ z → unsigned_abs z ≤ 1073741824 → new ≤ 1048576 → was ≤ 1048576

@@ -10,7 +10,7 @@ use Rattle.std.proofs.lemmas.Map.Keys.{IsDistinct-push, IsDistinct-head, IsDisti
 use Rattle.std.proofs.lemmas.Map.Steps.{length-le_from_distinct_below}
 use Rattle.s2_mode.specs.Limits.{max_bits}
 use Rattle.s2_settle.specs.Plain.{call}
-use Rattle.s2_settle.specs.Waiting.{window, IsWaiting}
+use Rattle.s2_settle.specs.WorkList.{window, IsWorkList}
 use Rattle.s2_settle.proofs.Windows.{length-window, window_push, window_pop}
 
 below_of : (n : ℕ) (xs : List ℕ) (q : ℕ) → All (λ j. j < n) xs → list_any (λ k. q == k) xs ≡ true → q < n
@@ -20,7 +20,7 @@ below_of n (x ∷ xs) q all any = elim (cases_eq q x) [
   | inr other ↦ (let rest : list_any (λ k. q == k) xs ≡ true = sym (ap (λ b. b || list_any (λ k. q == k) xs) (ne_eqb q x other)) ∙ any in below_of n xs q (All-tail (λ j. j < n) x xs all) rest)
 ]
 
-module _ (oldest count : ℕ) (slots : List ℕ) (marks : List Bool) (w : IsWaiting oldest count slots marks) where
+module _ (oldest count : ℕ) (slots : List ℕ) (marks : List Bool) (w : IsWorkList oldest count slots marks) where
   abbrev xs : List ℕ
   xs = window oldest count slots
 
@@ -65,7 +65,7 @@ module _ (oldest count : ℕ) (slots : List ℕ) (marks : List Bool) (w : IsWait
         or_false true = refl
         or_false false = refl
 
-    pub pushed : (n : ℕ) → n ≡ length slots → IsWaiting oldest (count + 1) (set slots ((oldest + count) % n) j) (set marks j true)
+    pub pushed : (n : ℕ) → n ≡ length slots → IsWorkList oldest (count + 1) (set slots ((oldest + count) % n) j) (set marks j true)
     pushed n is =
         let len = length-set marks j true in
         let seen = push_is n is in
@@ -105,7 +105,7 @@ module _ (oldest count : ℕ) (slots : List ℕ) (marks : List Bool) (w : IsWait
     none_in [] apart = refl
     none_in (y ∷ ys) apart = ap (λ b. b || list_any (λ m. x == m) ys) apart.0 ∙ none_in ys apart.1
 
-    pub popped : (n : ℕ) → n ≡ length slots → IsWaiting ((oldest + 1) % n) (count - 1) slots (set marks x false)
+    pub popped : (n : ℕ) → n ≡ length slots → IsWorkList ((oldest + 1) % n) (count - 1) slots (set marks x false)
     popped n is =
         let len = length-set marks x false in
         let seen = pop_is n is in

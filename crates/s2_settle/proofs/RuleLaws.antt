@@ -10,9 +10,9 @@ pub start_law : StartLaw
 start_law rows soft word fit all = (start_shown rows fit soft word all, start_within rows soft word all)
 
 pub layer_law : LayerLaw
-layer_law rows reserve r h s fit few low within shows =
-    (layer_shown rows fit reserve few r low h s within shows, layer_within rows reserve r s within)
+layer_law rows margin r h s fit few low within shows =
+    (layer_shown rows fit margin few r low h s within shows, layer_within rows margin r s within)
 
 pub serve_law : ServeLaw
-serve_law rows j h h' waiting waiting' s fit low shown served =
-    (served_shown rows fit j low h s shown h' waiting waiting' served, served_calls rows fit j low h s shown h' waiting waiting' served)
+serve_law rows j h h' work_list work_list' s fit low shown served =
+    (served_shown rows fit j low h s shown h' work_list work_list' served, served_calls rows fit j low h s shown h' work_list work_list' served)

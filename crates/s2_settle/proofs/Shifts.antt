@@ -82,8 +82,8 @@ module _ (s : Shape) (shaped : IsShape s) (ms : List ℕ) (rising : AllPairs (λ
   word_here rests are p p_is = ap (λ x. get_or rests x 0) p_is ∙ here rests are
 
   -- one member more is asked whether it calls
-  pub calls_more : (code : Code) (waiting : List ℕ) (t : ℕ → Bool) → call_for code waiting (filter t (take (at + 1) ms)) ≡ cond (t m) (fold call (call_for code waiting (filter t (take at ms))) (checks_of code m)) (call_for code waiting (filter t (take at ms)))
-  calls_more code waiting t = ap (λ xs. call_for code waiting (filter t xs)) (take_more ms at 0 low) ∙ call_for_push code waiting t (take at ms) m
+  pub calls_more : (code : Code) (work_list : List ℕ) (t : ℕ → Bool) → call_for code work_list (filter t (take (at + 1) ms)) ≡ cond (t m) (fold call (call_for code work_list (filter t (take at ms))) (checks_of code m)) (call_for code work_list (filter t (take at ms)))
+  calls_more code work_list t = ap (λ xs. call_for code work_list (filter t xs)) (take_more ms at 0 low) ∙ call_for_push code work_list t (take at ms) m
 
 -- a bit is among the members of a check that has it
 pub among_members : (p : ℕ → Bool) (n i : ℕ) → i < n → list_any (λ k. i == k) (filter p (upto n)) ≡ p i

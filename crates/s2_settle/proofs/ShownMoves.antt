@@ -22,7 +22,7 @@ use Rattle.s2_minsum.proofs.Posteriors.{total_small}
 use Rattle.s2_minsum.proofs.StepStates.{lane_of, layer_of}
 use Rattle.s2_settle.specs.Rests.{given}
 use Rattle.s2_check.specs.Moves.{max_moved}
-use Rattle.s2_settle.specs.Plain.{settling_scale, first_reserve, State, raise, rest, input, new_target as to_target, new_amount as to_amount}
+use Rattle.s2_settle.specs.Plain.{settling_scale, first_margin, State, raise, rest, input, new_target as to_target, new_amount as to_amount}
 use Rattle.s2_settle.specs.Layer.{Held, of_layer, layer_inputs, new_target, new_amount}
 use Rattle.s2_settle.specs.Placing.{shown, place_of_check}
 use Rattle.s2_minsum.specs.Decoding.{AreFit}
@@ -216,15 +216,15 @@ module _ (rows : Rows) (fit : AreFit rows) (r : ℕ) (layer : r < rows.shape.q) 
           members = all_have ms (λ k lt. omega (arith, place_of ms k (members_rising (code_of rows) j) lt));
         }
 
-    pub lane_amount : (reserve : ℕ) → reserve ≤ first_reserve → new_amount rows reserve r h c ≡ to_amount (code_of rows) reserve st (r + c * rows.shape.q)
-    lane_amount reserve few =
-        amount_is (layer_inputs rows r h c) (length (entries_of rows r)) (input (code_of rows) st (r + c * rows.shape.q)) (members (code_of rows) (r + c * rows.shape.q)) (λ e. forth rows.shape c (bit e)) (λ e. is_lacking (lacked_row rows.shape r) (entry_of rows.shape (bit e)) c) (λ y. position_or_len (λ m. m == back rows.shape c y) (members (code_of rows) (last_check rows.shape r))) lanes reserve few
+    pub lane_amount : (margin : ℕ) → margin ≤ first_margin → new_amount rows margin r h c ≡ to_amount (code_of rows) margin st (r + c * rows.shape.q)
+    lane_amount margin few =
+        amount_is (layer_inputs rows r h c) (length (entries_of rows r)) (input (code_of rows) st (r + c * rows.shape.q)) (members (code_of rows) (r + c * rows.shape.q)) (λ e. forth rows.shape c (bit e)) (λ e. is_lacking (lacked_row rows.shape r) (entry_of rows.shape (bit e)) c) (λ y. position_or_len (λ m. m == back rows.shape c y) (members (code_of rows) (last_check rows.shape r))) lanes margin few
 
     pub lane_within : new_target rows r h c < entry_count rows r
     lane_within =
         omega (arith, entries_long, target_low (layer_inputs rows r h c) (length (entries_of rows r)) (input (code_of rows) st (r + c * rows.shape.q)) (members (code_of rows) (r + c * rows.shape.q)) (λ e. forth rows.shape c (bit e)) (λ e. is_lacking (lacked_row rows.shape r) (entry_of rows.shape (bit e)) c) (λ y. position_or_len (λ m. m == back rows.shape c y) (members (code_of rows) (last_check rows.shape r))) lanes)
 
-    pub lane_target : (reserve : ℕ) → reserve ≤ first_reserve → 0 < to_amount (code_of rows) reserve st (r + c * rows.shape.q) → shown rows r c (new_target rows r h c) ≡ to_target (code_of rows) st (r + c * rows.shape.q)
-    lane_target reserve few some =
+    pub lane_target : (margin : ℕ) → margin ≤ first_margin → 0 < to_amount (code_of rows) margin st (r + c * rows.shape.q) → shown rows r c (new_target rows r h c) ≡ to_target (code_of rows) st (r + c * rows.shape.q)
+    lane_target margin few some =
         shown_is c (new_target rows r h c) lane_within
-        ∙ target_is (layer_inputs rows r h c) (length (entries_of rows r)) (input (code_of rows) st (r + c * rows.shape.q)) (members (code_of rows) (r + c * rows.shape.q)) (λ e. forth rows.shape c (bit e)) (λ e. is_lacking (lacked_row rows.shape r) (entry_of rows.shape (bit e)) c) (λ y. position_or_len (λ m. m == back rows.shape c y) (members (code_of rows) (last_check rows.shape r))) lanes reserve few some
+        ∙ target_is (layer_inputs rows r h c) (length (entries_of rows r)) (input (code_of rows) st (r + c * rows.shape.q)) (members (code_of rows) (r + c * rows.shape.q)) (λ e. forth rows.shape c (bit e)) (λ e. is_lacking (lacked_row rows.shape r) (entry_of rows.shape (bit e)) c) (λ y. position_or_len (λ m. m == back rows.shape c y) (members (code_of rows) (last_check rows.shape r))) lanes margin few some

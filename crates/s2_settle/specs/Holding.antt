@@ -1,4 +1,4 @@
--- What a settler holds (own).
+-- What a ascent holds (own).
 use Rattle.std.specs.Prelude.{◌≡◌, ℕ, ◌<◌, Bool, List, length, get_or, ℤ}
 use Rattle.s2_rows.specs.Rows.{Rows}
 use Rattle.s2_matrix.specs.Code.{Code, code_of}
@@ -6,10 +6,10 @@ use Rattle.s2_check.specs.Moves.{Move, no_move, AreTargets}
 use Rattle.s2_check.specs.Views.{View}
 use Rattle.s2_minsum.specs.Decoding.{AreFit, HasRoom}
 use Rattle.s2_settle.specs.Layer.{Held, AreLong}
-use Rattle.s2_settle.specs.Waiting.{Waiting}
+use Rattle.s2_settle.specs.WorkList.{WorkList}
 use Rattle.s2_settle.specs.Settled.{moved_view}
 
--- the rows of a settler's matrix, and the moves that it made last, check by check
+-- the rows of a ascent's matrix, and the moves that it made last, check by check
 pub record Settling : Type 0 where
   pub rows : Rows
   pub moves : List Move
@@ -25,11 +25,11 @@ pub record AreMoves (code : Code) (ms : List Move) : Type 0 where
   pub fit : (j : ℕ) → (get_or ms j no_move).amount < 2147483648
   pub unmoved : (j : ℕ) → (get_or ms j no_move).amount ≡ 0 → (get_or ms j no_move).place ≡ 0
 
--- the invariant of a settler's lists
-pub record IsSettler (rows layered : Rows) (h : Held) (w : Waiting) (ms : List Move) (scratch : ℕ) : Type 0 where
+-- the invariant of a ascent's lists
+pub record IsDualAscent (rows layered : Rows) (h : Held) (w : WorkList) (ms : List Move) (scratch : ℕ) : Type 0 where
   pub layers : layered ≡ rows
   pub fit : AreFit rows
   pub long : AreLong rows h
   pub room : HasRoom rows scratch
-  pub waiting : w.room ≡ (code_of rows).checks
+  pub work_list : w.room ≡ (code_of rows).checks
   pub moves : AreMoves (code_of rows) ms

@@ -4,7 +4,7 @@ use Rattle.s2_rows.specs.Rows.{Rows}
 use Rattle.s2_matrix.specs.Code.{code_of, IsCodeword}
 use Rattle.s2_check.specs.Views.{View, IsSoft}
 use Rattle.s2_check.specs.Strict.{IsStrict}
-use Rattle.s2_settle.specs.Plain.{first_reserve, State}
+use Rattle.s2_settle.specs.Plain.{first_margin, State}
 use Rattle.s2_settle.specs.Plain as plain
 use Rattle.s2_settle.specs.Layer.{Held, layer}
 use Rattle.s2_settle.specs.Serving.{IsServed}
@@ -22,8 +22,8 @@ SettledLaw =
 -- the calls are those of that state
 abbrev pub ServeLaw : Type 0
 ServeLaw =
-    (rows : Rows) (j : ℕ) (h h' : Held) (waiting waiting' : List ℕ) (s : State) → AreFit rows → j < (code_of rows).checks → IsShown rows h s → IsServed rows j h h' waiting waiting'
-    → IsShown rows h' (plain.serve (code_of rows) s j) × (waiting' ≡ plain.call_for (code_of rows) waiting (plain.unsettled (code_of rows) s j))
+    (rows : Rows) (j : ℕ) (h h' : Held) (work_list work_list' : List ℕ) (s : State) → AreFit rows → j < (code_of rows).checks → IsShown rows h s → IsServed rows j h h' work_list work_list'
+    → IsShown rows h' (plain.serve (code_of rows) s j) × (work_list' ≡ plain.call_for (code_of rows) work_list (plain.unsettled (code_of rows) s j))
 
 -- the rows before any move show the state without moves
 abbrev pub StartLaw : Type 0
@@ -33,5 +33,5 @@ StartLaw =
 -- if rows and lanes show a state, they show its layer after their layer
 abbrev pub LayerLaw : Type 0
 LayerLaw =
-    (rows : Rows) (reserve r : ℕ) (h : Held) (s : State) → AreFit rows → reserve ≤ first_reserve → r < rows.shape.q → IsWithin rows s → Shows rows h s
-    → Shows rows (layer rows reserve h r) (plain.layer (code_of rows) rows.shape.q reserve s r) × IsWithin rows (plain.layer (code_of rows) rows.shape.q reserve s r)
+    (rows : Rows) (margin r : ℕ) (h : Held) (s : State) → AreFit rows → margin ≤ first_margin → r < rows.shape.q → IsWithin rows s → Shows rows h s
+    → Shows rows (layer rows margin h r) (plain.layer (code_of rows) rows.shape.q margin s r) × IsWithin rows (plain.layer (code_of rows) rows.shape.q margin s r)

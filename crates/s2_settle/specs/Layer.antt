@@ -38,20 +38,20 @@ abbrev pub new_target : Rows → ℕ → Held → ℕ → ℕ
 new_target rows r h c = least_at (layer_inputs rows r h c) (length (entries_of rows r))
 
 abbrev pub new_amount : Rows → ℕ → ℕ → Held → ℕ → ℕ
-new_amount rows reserve r h c =
-    gap reserve (min1_of (layer_inputs rows r h c) (length (entries_of rows r))) (min2_of (layer_inputs rows r h c) (length (entries_of rows r)))
+new_amount rows margin r h c =
+    gap margin (min1_of (layer_inputs rows r h c) (length (entries_of rows r))) (min2_of (layer_inputs rows r h c) (length (entries_of rows r)))
 
 -- the change of the rest of its member at entry e
 abbrev pub change_in : Rows → ℕ → ℕ → Held → ℕ → ℕ → ℕ
-change_in rows reserve r h e c =
-    if is_lacking (lacked_row rows.shape r) (entry_at (entries_of rows r) e) c then 0 else change (get_or h.targets (r * rows.shape.group + c) 0) (get_or h.amounts (r * rows.shape.group + c) 0) (new_target rows r h c) (new_amount rows reserve r h c) e
+change_in rows margin r h e c =
+    if is_lacking (lacked_row rows.shape r) (entry_at (entries_of rows r) e) c then 0 else change (get_or h.targets (r * rows.shape.group + c) 0) (get_or h.amounts (r * rows.shape.group + c) 0) (new_target rows r h c) (new_amount rows margin r h c) e
 
 -- each check of layer r takes its move back and moves anew, all by the rests before the layer
 abbrev pub layer : Rows → ℕ → Held → ℕ → Held
-layer rows reserve h r = record {
-  rests = map (changed rows.shape.group (entries_of rows r) h.rests (change_in rows reserve r h) (length (entries_of rows r))) (upto (length h.rests));
+layer rows margin h r = record {
+  rests = map (changed rows.shape.group (entries_of rows r) h.rests (change_in rows margin r h) (length (entries_of rows r))) (upto (length h.rests));
   targets = with_layer rows.shape.group r h.targets (new_target rows r h);
-  amounts = with_layer rows.shape.group r h.amounts (new_amount rows reserve r h);
+  amounts = with_layer rows.shape.group r h.amounts (new_amount rows margin r h);
 }
 
 -- the sizes of the lists

@@ -6,7 +6,7 @@ pub mod Layer
 pub mod Passes
 pub mod Start
 pub mod Placing
-pub mod Waiting
+pub mod WorkList
 pub mod Serving
 pub mod Shows
 pub mod Holding

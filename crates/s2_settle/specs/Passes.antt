@@ -6,4 +6,4 @@ use Rattle.s2_settle.specs.Layer.{Held, layer}
 
 -- layers 0 to q - 1 in order
 abbrev pub pass : Rows → ℕ → Held → Held
-pass rows reserve h = fold (layer rows reserve) h (upto rows.shape.q)
+pass rows margin h = fold (layer rows margin) h (upto rows.shape.q)

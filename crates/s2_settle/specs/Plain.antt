@@ -15,11 +15,11 @@ use Rattle.s2_settle.specs.declared.course.Course.{Course}
 abbrev pub settling_scale : ℕ
 settling_scale = 16
 
--- the reserve of the first passes
-abbrev pub first_reserve : ℕ
-first_reserve = 256
+-- the margin of the first passes
+abbrev pub first_margin : ℕ
+first_margin = 256
 
--- the number of passes with the first reserve
+-- the number of passes with the first margin
 abbrev pub full_passes : ℕ
 full_passes = 2
 
@@ -27,11 +27,11 @@ full_passes = 2
 abbrev pub fall_part : ℕ
 fall_part = 320
 
--- the least fall of the reserve before a pass
+-- the least fall of the margin before a pass
 abbrev pub least_fall : ℕ
 least_fall = 12
 
--- the largest fall of the reserve before a pass
+-- the largest fall of the margin before a pass
 abbrev pub max_fall : ℕ
 max_fall = 64
 
@@ -95,53 +95,53 @@ abbrev pub least_of : (ℕ → ℤ) → List ℕ → ℕ
 least_of f [] = 0
 least_of f (m ∷ ms) = fold (λ k i. if int_lt (f i) (f k) then i else k) m ms
 
--- half of the amount by which input b exceeds input a and the reserve, at most `max_moved`; nothing if it does not
+-- half of the amount by which input b exceeds input a and the margin, at most `max_moved`; nothing if it does not
 abbrev pub half_gap : ℕ → ℤ → ℤ → ℕ
-half_gap reserve a b =
-    if int_lt (a +ℤ pos reserve) b then min (unsigned_abs (b -ℤ a -ℤ pos reserve) / 2) max_moved else 0
+half_gap margin a b =
+    if int_lt (a +ℤ pos margin) b then min (unsigned_abs (b -ℤ a -ℤ pos margin) / 2) max_moved else 0
 
 -- The amount moved to a member, by its input and the least of the others'. It is nothing if two are least, and
 -- `max_moved` if there are no others
 abbrev pub amount_to : ℕ → (ℕ → ℤ) → ℕ → List ℕ → ℕ
-amount_to reserve f t [] = max_moved
-amount_to reserve f t (k ∷ ks) = half_gap reserve (f t) (f (least_of f (k ∷ ks)))
+amount_to margin f t [] = max_moved
+amount_to margin f t (k ∷ ks) = half_gap margin (f t) (f (least_of f (k ∷ ks)))
 
 abbrev pub new_target : Code → State → ℕ → ℕ
 new_target code s j = least_of (input code s j) (members code j)
 
 abbrev pub new_amount : Code → ℕ → State → ℕ → ℕ
-new_amount code reserve s j =
-    amount_to reserve (input code s j) (new_target code s j) (others (members code j) (new_target code s j))
+new_amount code margin s j =
+    amount_to margin (input code s j) (new_target code s j) (others (members code j) (new_target code s j))
 
 -- ---- layers and passes
 
 -- the checks that are chosen take their moves back and move anew, all by the state before
 abbrev pub anew : Code → ℕ → (ℕ → Bool) → State → State
-anew code reserve chosen s = record {
+anew code margin chosen s = record {
   value = s.value;
   target = λ j. if chosen j then new_target code s j else s.target j;
-  amount = λ j. if chosen j then new_amount code reserve s j else s.amount j;
+  amount = λ j. if chosen j then new_amount code margin s j else s.amount j;
 }
 
 -- layer r: the checks j with j mod q = r
 abbrev pub layer : Code → ℕ → ℕ → State → ℕ → State
-layer code q reserve s r = anew code reserve (λ j. j % q == r) s
+layer code q margin s r = anew code margin (λ j. j % q == r) s
 
 -- layers 0 to q - 1 in this order
 abbrev pub pass : Code → ℕ → ℕ → State → State
-pass code q reserve s = fold (layer code q reserve) s (upto q)
+pass code q margin s = fold (layer code q margin) s (upto q)
 
 -- ---- the queue
 
 -- a check is added after those that wait, unless it waits already
 abbrev pub call : List ℕ → ℕ → List ℕ
-call waiting j = if list_any (λ k. j == k) waiting then waiting else waiting ++ j ∷ []
+call work_list j = if list_any (λ k. j == k) work_list then work_list else work_list ++ j ∷ []
 
 -- and so the checks of some bits, bit by bit
 abbrev pub call_for : Code → List ℕ → List ℕ → List ℕ
-call_for code = fold (λ waiting i. fold call waiting (checks_of code i))
+call_for code = fold (λ work_list i. fold call work_list (checks_of code i))
 
--- check j is served: it moves anew with no reserve
+-- check j is served: it moves anew with no margin
 abbrev pub serve : Code → State → ℕ → State
 serve code s j = anew code 0 (λ k. k == j) s
 
@@ -157,9 +157,9 @@ unsettled code s j =
 -- at most n of the waiting checks are served, the first one first, and each calls the checks of such members
 unfoldable pub queue : Code → ℕ → State → List ℕ → State
 queue code left s [] = s
-queue code zero s (j ∷ waiting) = s
-queue code (suc left) s (j ∷ waiting) =
-    queue code left (serve code s j) (call_for code waiting (unsettled code s j))
+queue code zero s (j ∷ work_list) = s
+queue code (suc left) s (j ∷ work_list) =
+    queue code left (serve code s j) (call_for code work_list (unsettled code s j))
 
 -- it begins with the checks of the bits that lack
 abbrev pub queued : Code → State → State
@@ -170,9 +170,9 @@ queued code s =
 
 -- before the first pass: as if all bits had lacked before the last queue
 abbrev pub at_first : Code → Course
-at_first code = record { reserve = first_reserve; before = 0; tried = code.bits }
+at_first code = record { margin = first_margin; before = 0; tried = code.bits }
 
--- the fall of the reserve, by the numbers of bits that lacked before and that lack now
+-- the fall of the margin, by the numbers of bits that lacked before and that lack now
 abbrev pub fall : ℕ → ℕ → ℕ
 fall before now =
     min max_fall (max least_fall (if nat_lt now before then fall_part * (before - now) / before else 0))
@@ -194,7 +194,7 @@ begun code c s = if is_time code.bits c.tried (lacking code s) then queued code 
 -- the course from pass p on, with this number of lacking bits
 abbrev pub after : Code → Course → ℕ → ℕ → Course
 after code c p now = record {
-  reserve = if nat_lt p full_passes then c.reserve else c.reserve - fall c.before now;
+  margin = if nat_lt p full_passes then c.margin else c.margin - fall c.before now;
   before = now;
   tried = if is_time code.bits c.tried now then now else c.tried;
 }
@@ -206,4 +206,4 @@ passes code q (suc left) p c s =
     if lacking code s == 0 then Some s else
     if is_hopeless code.bits p c.before (lacking code s) then None else
     if lacking code (begun code c s) == 0 then Some (begun code c s) else
-    passes code q left (p + 1) (after code c p (lacking code s)) (pass code q (after code c p (lacking code s)).reserve (begun code c s))
+    passes code q left (p + 1) (after code c p (lacking code s)) (pass code q (after code c p (lacking code s)).margin (begun code c s))

@@ -25,10 +25,10 @@ no_rest = 4294967295
 abbrev pub given : ℕ → ℕ → ℕ → ℕ → ℕ
 given rest target amount e = if target == e then minus32 rest amount else plus32 rest amount
 
--- the amount moved to the least rest, by the least other one and the reserve
+-- the amount moved to the least rest, by the least other one and the margin
 abbrev pub gap : ℕ → ℕ → ℕ → ℕ
-gap reserve min1 min2 =
-    min (minus32 (max (minus32 min2 min1) reserve) reserve / 2) max_moved
+gap margin min1 min2 =
+    min (minus32 (max (minus32 min2 min1) margin) margin / 2) max_moved
 
 -- the change of the rest of member e
 abbrev pub change : ℕ → ℕ → ℕ → ℕ → ℕ → ℕ

@@ -29,18 +29,18 @@ calling rows j rests before now =
     filter (λ i. is_calling (shift_of before now i) (shifted rows.shape rests before now i)) (members (code_of rows) j)
 
 -- the rests of the members of check j change, and of no other bit; and for such members the checks are called
-pub record IsShifted (rows : Rows) (j : ℕ) (before now : Moved) (old new waiting waiting' : List ℕ) : Type 0 where
+pub record IsShifted (rows : Rows) (j : ℕ) (before now : Moved) (old new work_list work_list' : List ℕ) : Type 0 where
   pub long : length new ≡ length old
   pub rests : (i : ℕ) → i < code_bits rows.shape → rest_at rows.shape new i ≡ (if is_member rows j i then shifted rows.shape old before now i else rest_at rows.shape old i)
-  pub calls : waiting' ≡ call_for (code_of rows) waiting (calling rows j old before now)
+  pub calls : work_list' ≡ call_for (code_of rows) work_list (calling rows j old before now)
 
 -- a move by the member to which it goes
 abbrev pub by_member : Rows → ℕ → ℕ → ℕ → Moved
 by_member rows j entry amount =
     record { target = shown rows (j % rows.shape.q) (j / rows.shape.q) entry; amount = amount }
 
--- check j moves anew with no reserve
-pub record IsServed (rows : Rows) (j : ℕ) (h h' : Held) (waiting waiting' : List ℕ) : Type 0 where
+-- check j moves anew with no margin
+pub record IsServed (rows : Rows) (j : ℕ) (h h' : Held) (work_list work_list' : List ℕ) : Type 0 where
   pub targets : h'.targets ≡ set h.targets (place_of_check rows.shape j) (new_target rows (j % rows.shape.q) h (j / rows.shape.q))
   pub amounts : h'.amounts ≡ set h.amounts (place_of_check rows.shape j) (new_amount rows 0 (j % rows.shape.q) h (j / rows.shape.q))
-  pub rests : IsShifted rows j (by_member rows j (get_or h.targets (place_of_check rows.shape j) 0) (get_or h.amounts (place_of_check rows.shape j) 0)) (by_member rows j (new_target rows (j % rows.shape.q) h (j / rows.shape.q)) (new_amount rows 0 (j % rows.shape.q) h (j / rows.shape.q))) h.rests h'.rests waiting waiting'
+  pub rests : IsShifted rows j (by_member rows j (get_or h.targets (place_of_check rows.shape j) 0) (get_or h.amounts (place_of_check rows.shape j) 0)) (by_member rows j (new_target rows (j % rows.shape.q) h (j / rows.shape.q)) (new_amount rows 0 (j % rows.shape.q) h (j / rows.shape.q))) h.rests h'.rests work_list work_list'

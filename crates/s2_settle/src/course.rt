@@ -1,22 +1,22 @@
-//! The course of settling: the reserve, when there is a queue, and when settling is given up.
+//! The course of settling: the margin, when there is a queue, and when settling is given up.
 ghost use Rattle.std.specs.Prelude.{◌≡◌, ◌≤◌, ◌-◌, nat_lt, if◌then◌else◌};
 ghost use Rattle.s2_mode.specs.Limits.{max_bits};
 ghost use Rattle.s2_matrix.specs.Code.{Code};
 ghost use Rattle.s2_settle.specs.Plain.{full_passes, fall, is_hopeless, is_time, at_first, after};
 
 use crate::limits::{
-    BITS_A_FEW, FALL_PART, FIRST_END, FIRST_RESERVE, FULL_PASSES, GROWTH_PART, LEAST_FALL, MAX_FALL,
+    BITS_A_FEW, FALL_PART, FIRST_END, FIRST_MARGIN, FULL_PASSES, GROWTH_PART, LEAST_FALL, MAX_FALL,
 };
 
-/// The reserve, and the numbers of bits that lacked before the last pass and before the last queue.
+/// The margin, and the numbers of bits that lacked before the last pass and before the last queue.
 #[derive(Clone, Copy)]
 pub(crate) struct Course {
-    pub(crate) reserve: u32,
+    pub(crate) margin: u32,
     pub(crate) before: usize,
     pub(crate) tried: usize,
 }
 
-/// The fall of the reserve, by the numbers of bits that lacked before, and that lack now.
+/// The fall of the margin, by the numbers of bits that lacked before, and that lack now.
 fn fall(before: usize, now: usize) -> u32
     requires { before ≤ max_bits }
     ensures { result ≡ fall before now }
@@ -51,21 +51,21 @@ impl Course {
         ensures { (code : Code) → code.bits ≡ bits → result ≡ at_first code }
     {
         Course {
-            reserve: FIRST_RESERVE,
+            margin: FIRST_MARGIN,
             before: 0,
             tried: bits,
         }
     }
 
-    /// The reserve from a pass on, by the number of bits that lack before it.
-    fn next_reserve(self, pass: u32, now: usize) -> u32
+    /// The margin from a pass on, by the number of bits that lack before it.
+    fn next_margin(self, pass: u32, now: usize) -> u32
         requires { self.before ≤ max_bits }
-        ensures { result ≡ (if nat_lt pass full_passes then self.reserve else self.reserve - fall self.before now) }
+        ensures { result ≡ (if nat_lt pass full_passes then self.margin else self.margin - fall self.before now) }
     {
         if pass < FULL_PASSES {
-            self.reserve
+            self.margin
         } else {
-            self.reserve.saturating_sub(fall(self.before, now))
+            self.margin.saturating_sub(fall(self.before, now))
         }
     }
 
@@ -77,7 +77,7 @@ impl Course {
     {
         let is_time = is_time(bits, self.tried, now);
         Course {
-            reserve: self.next_reserve(pass, now),
+            margin: self.next_margin(pass, now),
             before: now,
             tried: if is_time { now } else { self.tried },
         }

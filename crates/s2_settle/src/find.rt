@@ -11,7 +11,7 @@ ghost use Rattle.s2_settle.specs.Holding.{AreMoves};
 
 use crate::held::Held;
 use crate::passes::run_passes;
-use crate::waiting::Waiting;
+use crate::work_list::WorkList;
 use s2_check::Move;
 use s2_matrix::Matrix;
 use s2_minsum::Layers;
@@ -25,7 +25,7 @@ pub(crate) fn find_moves(
     passes: u32,
     held: &mut Held,
     scratch: &mut [u32],
-    waiting: &mut Waiting,
+    work_list: &mut WorkList,
     moves: &mut [Move],
 ) -> bool
     requires layers { layers.now ≡ matrix.now }
@@ -35,15 +35,15 @@ pub(crate) fn find_moves(
     requires long { AreLong matrix.now held.old }
     requires room { HasRoom matrix.now (length scratch.old) }
     requires fit { AreFit matrix.now }
-    requires waiting { waiting.old.room ≡ (code_of matrix.now).checks }
+    requires work_list { work_list.old.room ≡ (code_of matrix.now).checks }
     requires moves { AreMoves (code_of matrix.now) moves.old }
     ensures found { Finds matrix.now (ended matrix.now soft.now word.now passes) result moves.new }
     ensures moves { AreMoves (code_of matrix.now) moves.new }
     ensures long { AreLong matrix.now held.new }
-    ensures waiting { waiting.new.room ≡ (code_of matrix.now).checks }
+    ensures work_list { work_list.new.room ≡ (code_of matrix.now).checks }
 {
     held.start(matrix, soft, word);
-    if !run_passes(matrix, layers, passes, held, scratch, waiting) {
+    if !run_passes(matrix, layers, passes, held, scratch, work_list) {
         return false;
     }
     held.put_moves(matrix, layers, moves);

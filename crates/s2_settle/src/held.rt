@@ -1,4 +1,4 @@
-//! What a settler holds while it settles.
+//! What a ascent holds while it settles.
 ghost use Rattle.std.specs.Prelude.{◌≡◌, ◌*◌, ◌<◌, ◌≤◌, nat_lt, filter, All, IfOk, length};
 ghost use Rattle.s2_mode.specs.Shape.{code_bits};
 ghost use Rattle.s2_matrix.specs.Code.{code_of};
@@ -9,7 +9,7 @@ ghost use Rattle.s2_matrix.specs.Total.{upto};
 ghost use Rattle.s2_settle.specs.Plain.{call_for};
 ghost use Rattle.s2_settle.specs.Rests.{least_rest, lacking};
 ghost use Rattle.s2_settle.specs.Serving.{rest_at, IsServed};
-ghost use Rattle.s2_settle.specs.Waiting.{waiting as waiting_of};
+ghost use Rattle.s2_settle.specs.WorkList.{work_list as work_list_of};
 ghost use Rattle.s2_settle.specs.Start.{start as started};
 ghost use Rattle.s2_settle.specs.Placing.{moves_of};
 ghost use Rattle.s2_settle.specs.Holding.{AreMoves};
@@ -20,7 +20,7 @@ use crate::moves::put_moves;
 use crate::one_layer::run_layer;
 use crate::serving::serve;
 use crate::start::put_rests;
-use crate::waiting::Waiting;
+use crate::work_list::WorkList;
 use s2_check::Move;
 use s2_matrix::Matrix;
 use s2_minsum::Layers;
@@ -83,12 +83,12 @@ impl Held {
         self.amounts.fill(0);
     }
 
-    /// Each check of layer r takes its move back and moves anew.
+    /// Recomputes the moves of all checks of layer r.
     pub(crate) fn layer(
         &mut self,
         matrix: &Matrix,
         layers: &Layers<'_>,
-        reserve: u32,
+        margin: u32,
         scratch: &mut [u32],
         r: usize,
     )
@@ -96,13 +96,13 @@ impl Held {
         requires long { AreLong matrix.now self.old }
         requires room { HasRoom matrix.now (length scratch.old) }
         requires layer { r < matrix.now.shape.q }
-        ensures is { self.new ≡ after_layer matrix.now reserve self.old r }
+        ensures is { self.new ≡ after_layer matrix.now margin self.old r }
         ensures long { AreLong matrix.now self.new }
     {
         run_layer(
             matrix,
             layers,
-            reserve,
+            margin,
             &mut self.rests,
             &mut self.targets,
             &mut self.amounts,
@@ -120,30 +120,30 @@ impl Held {
     }
 
     /// Calls the checks of the bits that lack.
-    pub(crate) fn call_lacking(&self, matrix: &Matrix, waiting: &mut Waiting)
+    pub(crate) fn call_lacking(&self, matrix: &Matrix, work_list: &mut WorkList)
         requires long { AreLong matrix.now self.now }
-        requires room { waiting.old.room ≡ (code_of matrix.now).checks }
-        ensures { waiting.new ≡ waiting_of waiting.old.room (call_for (code_of matrix.now) waiting.old.checks (filter (λ i. nat_lt (rest_at matrix.now.shape self.now.rests i) least_rest) (upto (code_of matrix.now).bits))) }
+        requires room { work_list.old.room ≡ (code_of matrix.now).checks }
+        ensures { work_list.new ≡ work_list_of work_list.old.room (call_for (code_of matrix.now) work_list.old.checks (filter (λ i. nat_lt (rest_at matrix.now.shape self.now.rests i) least_rest) (upto (code_of matrix.now).bits))) }
     {
-        call_lacking(matrix, &self.rests, waiting);
+        call_lacking(matrix, &self.rests, work_list);
     }
 
-    /// A check takes its move back and moves anew, with no reserve. It calls the checks of its members whose rests
+    /// A check takes its move back and moves anew, with no margin. It calls the checks of its members whose rests
     /// changed and that then lack.
     pub(crate) fn serve(
         &mut self,
         matrix: &Matrix,
         layers: &Layers<'_>,
         check: usize,
-        waiting: &mut Waiting,
+        work_list: &mut WorkList,
     )
         requires layers { layers.now ≡ matrix.now }
         requires check { check < (code_of matrix.now).checks }
         requires long { AreLong matrix.now self.old }
-        requires room { waiting.old.room ≡ (code_of matrix.now).checks }
-        ensures is { IsServed matrix.now check self.old self.new waiting.old.checks waiting.new.checks }
+        requires room { work_list.old.room ≡ (code_of matrix.now).checks }
+        ensures is { IsServed matrix.now check self.old self.new work_list.old.checks work_list.new.checks }
         ensures long { AreLong matrix.now self.new }
-        ensures room { waiting.new.room ≡ waiting.old.room }
+        ensures room { work_list.new.room ≡ work_list.old.room }
     {
         serve(
             matrix,
@@ -152,7 +152,7 @@ impl Held {
             &mut self.rests,
             &mut self.targets,
             &mut self.amounts,
-            waiting,
+            work_list,
         );
     }
 

@@ -130,12 +130,12 @@ pub(crate) fn update_two_min(
 }
 
 /// The part of [`take_gaps`] for the whole vectors of a row.
-fn take_gap_blocks(min1: &[u32], min2: &mut [u32], reserve: u32)
+fn take_gap_blocks(min1: &[u32], min2: &mut [u32], margin: u32)
     requires { length min1.now ≡ length min2.old }
-    ensures { Rewritten 0 (length min2.old / 4 * 4) (λ k. gap reserve (slice_index min1.now k) (slice_index min2.old k)) min2.old min2.new }
+    ensures { Rewritten 0 (length min2.old / 4 * 4) (λ k. gap margin (slice_index min1.now k) (slice_index min2.old k)) min2.old min2.new }
 {
     let n = min2.len();
-    let held = lanes32::all(reserve);
+    let held = lanes32::all(margin);
     for block in 0..n / 4 {
         let at = 4 * block;
         lanes::gap(held, load(min1, at), load(min2, at)).copy_to_slice(&mut min2[at..]);
@@ -143,15 +143,15 @@ fn take_gap_blocks(min1: &[u32], min2: &mut [u32], reserve: u32)
 }
 
 /// Replaces the least of the others by the amounts that are moved.
-pub(crate) fn take_gaps(min1: &[u32], min2: &mut [u32], reserve: u32)
+pub(crate) fn take_gaps(min1: &[u32], min2: &mut [u32], margin: u32)
     requires { length min1.now ≡ length min2.old }
-    ensures { EachIndex min2.new (λ k. slice_index min2.new k ≡ gap reserve (slice_index min1.now k) (slice_index min2.old k)) }
+    ensures { EachIndex min2.new (λ k. slice_index min2.new k ≡ gap margin (slice_index min1.now k) (slice_index min2.old k)) }
 {
     let n = min2.len();
-    take_gap_blocks(min1, min2, reserve);
+    take_gap_blocks(min1, min2, margin);
     for i in n / 4 * 4..n {
-        let wide = min2[i].wrapping_sub(min1[i]).max(reserve);
-        min2[i] = (wide.wrapping_sub(reserve) / 2).min(MAX_MOVED);
+        let wide = min2[i].wrapping_sub(min1[i]).max(margin);
+        min2[i] = (wide.wrapping_sub(margin) / 2).min(MAX_MOVED);
     }
 }
 

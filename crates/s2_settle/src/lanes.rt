@@ -25,10 +25,10 @@ pub(crate) fn given(rest: u32x4, target: u32x4, amount: u32x4, e: u32x4) -> u32x
 
 /// The amount that is moved.
 #[inline(always)]
-pub(crate) fn gap(reserve: u32x4, min1: u32x4, min2: u32x4) -> u32x4
-    ensures { HasLanes 4 (λ k. gap (lane reserve k) (lane min1 k) (lane min2 k)) result }
+pub(crate) fn gap(margin: u32x4, min1: u32x4, min2: u32x4) -> u32x4
+    ensures { HasLanes 4 (λ k. gap (lane margin k) (lane min1 k) (lane min2 k)) result }
 {
-    let free = minus(most(minus(min2, min1), reserve), reserve);
+    let free = minus(most(minus(min2, min1), margin), margin);
     least(half(free), all(MAX_MOVED))
 }
 

@@ -1,11 +1,11 @@
 //! Laws of the definitions: each a call that does nothing, whose clause is the law.
 ghost use Rattle.std.specs.Prelude.{◌≡◌};
 ghost use Rattle.s2_settle.specs.Laws.{SettledLaw, StartLaw, LayerLaw, ServeLaw};
-ghost use Rattle.s2_settle.specs.Plain.{settling_scale, first_reserve, full_passes, fall_part, least_fall, max_fall, bits_a_few, first_end, growth_part, max_served};
+ghost use Rattle.s2_settle.specs.Plain.{settling_scale, first_margin, full_passes, fall_part, least_fall, max_fall, bits_a_few, first_end, growth_part, max_served};
 
 use crate::limits::{
-    BITS_A_FEW, FALL_PART, FIRST_END, FIRST_RESERVE, FULL_PASSES, GROWTH_PART, LEAST_FALL,
-    MAX_FALL, MAX_SERVED, SETTLING_SCALE,
+    BITS_A_FEW, FALL_PART, FIRST_END, FIRST_MARGIN, FULL_PASSES, GROWTH_PART, LEAST_FALL, MAX_FALL,
+    MAX_SERVED, SETTLING_SCALE,
 };
 
 /// A certificate settled for a codeword is strict, and of these values and this word.
@@ -32,7 +32,7 @@ pub fn serve()
 /// The program's numbers are those of the rule.
 pub fn limits()
     ensures scale { SETTLING_SCALE ≡ settling_scale }
-    ensures reserve { FIRST_RESERVE ≡ first_reserve }
+    ensures margin { FIRST_MARGIN ≡ first_margin }
     ensures full { FULL_PASSES ≡ full_passes }
     ensures part { FALL_PART ≡ fall_part }
     ensures least { LEAST_FALL ≡ least_fall }

@@ -3,35 +3,36 @@
 //! It works beside the maker of greedy amounts (`s2_split`), and replaces its spreading. On links that work, it
 //! finds a certificate for nearly every codeword that min-sum decodes. Each check moves an amount from its
 //! other members to the one with the least rest, layer by layer. Nothing is moved unless the least rest is
-//! below the next one by more than a reserve. The reserve falls as fast as the number of lacking bits, those
+//! below the next one by more than a margin. The margin falls as fast as the number of lacking bits, those
 //! whose rest is below 1. So a rest is lifted above zero, and its neighbours are not dragged to exactly zero.
 //! When few bits lack, a queue serves only the checks around them, one after another. An attempt ends early
 //! when the lacking bits grow. This project's own rule is in `specs/Plain.antt`, by checks and their members.
 //!
-//! In the literature's words, settling is dual coordinate ascent by layers, with the reserve as a margin. The
+//! In the literature's words, settling is dual coordinate ascent by layers, with a margin. The
 //! certificate is a dual solution of LP decoding. Its rests are the reduced costs: the slack of the dual
 //! constraints.
 //!
-//! [`Settler::certify`] finds exactly what the definition `settled` says of its arguments and the matrix. It
+//! [`DualAscent::certify`] finds exactly what the definition `settled` says of its arguments and the matrix. It
 //! returns `true` only if the checker of certificates accepts the result and finds it strict. It is not
-//! promised that passes lead to a certificate. [`Settler::held`] shows the certificate found. Only
-//! [`Settler::new`] takes memory.
+//! promised that passes lead to a certificate. [`DualAscent::held`] shows the certificate found. Only
+//! [`DualAscent::new`] takes memory.
 //!
-//! The settler keeps rests in rows of a group, and a layer's targets and amounts in rows of the same number of
+//! The ascent keeps rests in rows of a group, and a layer's targets and amounts in rows of the same number of
 //! lanes. There is one check a lane, so all checks of a layer are processed at once. Laws say that the rows and
 //! lanes are the checks and members ([`laws::start`], [`laws::layer`], [`laws::serve`]). None of it shows in a
-//! clause of [`Settler`].
+//! clause of [`DualAscent`].
 //!
 //! ```text
-//! let mut settler = Settler::new(alloc, &matrix)?;
-//! if settler.certify(&soft, &word, 96) {
-//!     settler.held(&soft, &word).write(&mut file)?;
+//! let mut ascent = DualAscent::new(alloc, &matrix)?;
+//! if ascent.certify(&soft, &word, 96) {
+//!     ascent.held(&soft, &word).write(&mut file)?;
 //! }
 //! ```
 #![tactic(auto)]
 
 mod calling;
 mod course;
+mod dual_ascent;
 mod find;
 mod held;
 mod kernels;
@@ -45,9 +46,8 @@ mod one_layer;
 mod passes;
 mod queue;
 mod serving;
-mod settler;
 mod start;
-mod waiting;
+mod work_list;
 
+pub use dual_ascent::DualAscent;
 pub use limits::SETTLING_SCALE;
-pub use settler::Settler;

@@ -1,16 +1,16 @@
 //! The numbers of the settling rule, all in one place.
 
-/// The factor of soft values: rests, reserves and amounts count in sixteenths of one. With soft values up to 511 and at
+/// The factor of soft values: rests, margins and amounts count in sixteenths of one. With soft values up to 511 and at
 /// most 24 moves of 2^20 a rest's magnitude stays below 2^25, well within 32 bits.
 pub const SETTLING_SCALE: u16 = 16;
 
-/// The first reserve.
-pub const FIRST_RESERVE: u32 = 256;
+/// The first margin.
+pub const FIRST_MARGIN: u32 = 256;
 
-/// The number of passes with the first reserve.
+/// The number of passes with the first margin.
 pub const FULL_PASSES: u32 = 2;
 
-/// Before each later pass the reserve falls by this part of the share by which the lacking bits became fewer.
+/// Before each later pass the margin falls by this part of the share by which the lacking bits became fewer.
 pub const FALL_PART: usize = 320;
 
 /// The least fall.
@@ -19,7 +19,7 @@ pub const LEAST_FALL: usize = 12;
 /// The largest fall.
 pub const MAX_FALL: usize = 64;
 
-/// Few bits lack if at most one in this number does.
+/// The work list is used once at most one bit in this number lacks.
 pub const BITS_A_FEW: usize = 200;
 
 /// The first pass before which settling can be given up.

@@ -1,4 +1,4 @@
-//! One layer over a settler's lists.
+//! One layer over a ascent's lists.
 ghost use Rattle.std.specs.Prelude.{◌≡◌, ℕ, ◌≤◌, ◌<◌, ◌+◌, ◌*◌, length};
 ghost use Rattle.s2_minsum.specs.Decoding.{HasRoom};
 ghost use Rattle.s2_settle.specs.Layer.{held, AreLong, layer as after_layer};
@@ -7,11 +7,11 @@ use crate::layer::run;
 use s2_matrix::Matrix;
 use s2_minsum::{Layers, last_row};
 
-/// Each check of layer r takes its move back and moves anew.
+/// Recomputes the moves of all checks of layer r.
 pub(crate) fn run_layer(
     matrix: &Matrix,
     layers: &Layers<'_>,
-    reserve: u32,
+    margin: u32,
     rests: &mut [u32],
     targets: &mut [u32],
     amounts: &mut [u32],
@@ -22,7 +22,7 @@ pub(crate) fn run_layer(
     requires long { AreLong matrix.now (held rests.old targets.old amounts.old) }
     requires room { HasRoom matrix.now (length scratch.old) }
     requires layer { r < matrix.now.shape.q }
-    ensures { held rests.new targets.new amounts.new ≡ after_layer matrix.now reserve (held rests.old targets.old amounts.old) r }
+    ensures { held rests.new targets.new amounts.new ≡ after_layer matrix.now margin (held rests.old targets.old amounts.old) r }
 {
     let shape = matrix.shape();
     let n = shape.group();
@@ -33,7 +33,7 @@ pub(crate) fn run_layer(
         entries,
         n,
         last,
-        reserve,
+        margin,
         rests,
         &mut targets[at..at + n],
         &mut amounts[at..at + n],

@@ -11,27 +11,21 @@ ghost use Rattle.s2_settle.specs.Shows.{IsShown, ShowsEnd};
 use crate::course::{Course, is_hopeless, is_time};
 use crate::held::Held;
 use crate::queue::run_queue;
-use crate::waiting::Waiting;
+use crate::work_list::WorkList;
 use s2_matrix::Matrix;
 use s2_minsum::Layers;
 
 /// Runs all layers, in order.
-fn run_pass(
-    matrix: &Matrix,
-    layers: &Layers<'_>,
-    reserve: u32,
-    held: &mut Held,
-    scratch: &mut [u32],
-)
+fn run_pass(matrix: &Matrix, layers: &Layers<'_>, margin: u32, held: &mut Held, scratch: &mut [u32])
     requires layers { layers.now ≡ matrix.now }
     requires long { AreLong matrix.now held.old }
     requires room { HasRoom matrix.now (length scratch.old) }
-    ensures is { held.new ≡ after_pass matrix.now reserve held.old }
+    ensures is { held.new ≡ after_pass matrix.now margin held.old }
     ensures long { AreLong matrix.now held.new }
 {
     let q = matrix.shape().q();
     for r in 0..q {
-        held.layer(matrix, layers, reserve, scratch, r);
+        held.layer(matrix, layers, margin, scratch, r);
     }
 }
 
@@ -42,22 +36,22 @@ fn begin(
     course: Course,
     now: usize,
     held: &mut Held,
-    waiting: &mut Waiting,
+    work_list: &mut WorkList,
 ) -> usize
     requires layers { layers.now ≡ matrix.now }
     requires fit { AreFit matrix.now }
     requires long { AreLong matrix.now held.old }
-    requires waiting { waiting.old.room ≡ (code_of matrix.now).checks }
+    requires work_list { work_list.old.room ≡ (code_of matrix.now).checks }
     requires now { now ≡ lacking held.old.rests }
     ensures is { (s : State) → IsShown matrix.now held.old s → IsShown matrix.now held.new (begun (code_of matrix.now) course s) }
     ensures lacking { result ≡ lacking held.new.rests }
     ensures long { AreLong matrix.now held.new }
-    ensures waiting { waiting.new.room ≡ (code_of matrix.now).checks }
+    ensures work_list { work_list.new.room ≡ (code_of matrix.now).checks }
 {
     if !is_time(matrix.bits(), course.tried, now) {
         return now;
     }
-    run_queue(matrix, layers, held, waiting);
+    run_queue(matrix, layers, held, work_list);
     held.lacking()
 }
 
@@ -68,16 +62,16 @@ pub(crate) fn run_passes(
     passes: u32,
     held: &mut Held,
     scratch: &mut [u32],
-    waiting: &mut Waiting,
+    work_list: &mut WorkList,
 ) -> bool
     requires layers { layers.now ≡ matrix.now }
     requires fit { AreFit matrix.now }
     requires long { AreLong matrix.now held.old }
     requires room { HasRoom matrix.now (length scratch.old) }
-    requires waiting { waiting.old.room ≡ (code_of matrix.now).checks }
+    requires work_list { work_list.old.room ≡ (code_of matrix.now).checks }
     ensures is { (s : State) → IsShown matrix.now held.old s → ShowsEnd matrix.now (passes_from (code_of matrix.now) matrix.now.shape.q passes 0 (at_first (code_of matrix.now)) s) result held.new }
     ensures long { AreLong matrix.now held.new }
-    ensures waiting { waiting.new.room ≡ (code_of matrix.now).checks }
+    ensures work_list { work_list.new.room ≡ (code_of matrix.now).checks }
 {
     let bits = matrix.bits();
     let mut course = Course::at_first(bits);
@@ -89,11 +83,11 @@ pub(crate) fn run_passes(
         if is_hopeless(bits, pass, course.before, now) {
             return false;
         }
-        if begin(matrix, layers, course, now, held, waiting) == 0 {
+        if begin(matrix, layers, course, now, held, work_list) == 0 {
             return true;
         }
         course = course.after(bits, pass, now);
-        run_pass(matrix, layers, course.reserve, held, scratch);
+        run_pass(matrix, layers, course.margin, held, scratch);
     }
     held.lacking() == 0
 }

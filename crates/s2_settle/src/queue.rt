@@ -8,24 +8,24 @@ ghost use Rattle.s2_settle.specs.Shows.{IsShown};
 
 use crate::held::Held;
 use crate::limits::MAX_SERVED;
-use crate::waiting::Waiting;
+use crate::work_list::WorkList;
 use s2_matrix::Matrix;
 use s2_minsum::Layers;
 
 /// Serves the checks that wait, one after another, at most [`MAX_SERVED`] of them.
-fn serve_waiting(matrix: &Matrix, layers: &Layers<'_>, held: &mut Held, waiting: &mut Waiting)
+fn serve_listed(matrix: &Matrix, layers: &Layers<'_>, held: &mut Held, work_list: &mut WorkList)
     requires layers { layers.now ≡ matrix.now }
     requires fit { AreFit matrix.now }
     requires long { AreLong matrix.now held.old }
-    requires room { waiting.old.room ≡ (code_of matrix.now).checks }
-    ensures is { (s : State) → IsShown matrix.now held.old s → IsShown matrix.now held.new (queue (code_of matrix.now) max_served s waiting.old.checks) }
+    requires room { work_list.old.room ≡ (code_of matrix.now).checks }
+    ensures is { (s : State) → IsShown matrix.now held.old s → IsShown matrix.now held.new (queue (code_of matrix.now) max_served s work_list.old.checks) }
     ensures long { AreLong matrix.now held.new }
-    ensures room { waiting.new.room ≡ (code_of matrix.now).checks }
+    ensures room { work_list.new.room ≡ (code_of matrix.now).checks }
 {
     'serving: for step in 0..MAX_SERVED {
-        match waiting.next() {
+        match work_list.next() {
             None => return,
-            Some(check) => held.serve(matrix, layers, check, waiting),
+            Some(check) => held.serve(matrix, layers, check, work_list),
         }
     }
 }
@@ -35,17 +35,17 @@ pub(crate) fn run_queue(
     matrix: &Matrix,
     layers: &Layers<'_>,
     held: &mut Held,
-    waiting: &mut Waiting,
+    work_list: &mut WorkList,
 )
     requires layers { layers.now ≡ matrix.now }
     requires fit { AreFit matrix.now }
     requires long { AreLong matrix.now held.old }
-    requires room { waiting.old.room ≡ (code_of matrix.now).checks }
+    requires room { work_list.old.room ≡ (code_of matrix.now).checks }
     ensures is { (s : State) → IsShown matrix.now held.old s → IsShown matrix.now held.new (queued (code_of matrix.now) s) }
     ensures long { AreLong matrix.now held.new }
-    ensures room { waiting.new.room ≡ (code_of matrix.now).checks }
+    ensures room { work_list.new.room ≡ (code_of matrix.now).checks }
 {
-    waiting.clear();
-    held.call_lacking(matrix, waiting);
-    serve_waiting(matrix, layers, held, waiting);
+    work_list.clear();
+    held.call_lacking(matrix, work_list);
+    serve_listed(matrix, layers, held, work_list);
 }

@@ -1,4 +1,4 @@
-//! One check that is served: it takes its move back and moves anew, with no reserve.
+//! One check that is served: it takes its move back and moves anew, with no margin.
 ghost use Rattle.std.specs.Prelude.{◌≡◌, ℕ, ◌≤◌, ◌<◌, ◌+◌, ◌*◌, ◌==◌, if◌then◌else◌, length};
 ghost use Rattle.s2_mode.specs.Limits.{max_bits};
 ghost use Rattle.s2_mode.specs.Shape.{code_bits};
@@ -14,7 +14,7 @@ ghost use Rattle.s2_settle.specs.Serving.{IsShifted, IsServed};
 
 use crate::calling::call_if_lacking;
 use crate::moves::target_of;
-use crate::waiting::Waiting;
+use crate::work_list::WorkList;
 use s2_check::MAX_MOVED;
 use s2_matrix::Matrix;
 use s2_minsum::{Circulant, Layers, last_row};
@@ -139,13 +139,13 @@ fn shift(
     before: Moved,
     now: Moved,
     rests: &mut [u32],
-    waiting: &mut Waiting,
+    work_list: &mut WorkList,
 )
     requires check { check < (code_of matrix.now).checks }
     requires long { length rests.old ≡ code_bits matrix.now.shape }
-    requires room { waiting.old.room ≡ (code_of matrix.now).checks }
-    ensures is { IsShifted matrix.now check before now rests.old rests.new waiting.old.checks waiting.new.checks }
-    ensures room { waiting.new.room ≡ waiting.old.room }
+    requires room { work_list.old.room ≡ (code_of matrix.now).checks }
+    ensures is { IsShifted matrix.now check before now rests.old rests.new work_list.old.checks work_list.new.checks }
+    ensures room { work_list.new.room ≡ work_list.old.room }
 {
     let shape = matrix.shape();
     for member in matrix.members_at(check) {
@@ -154,12 +154,12 @@ fn shift(
             let place = place_of(shape, *member as usize);
             let rest = rests[place].wrapping_add(change);
             rests[place] = rest;
-            call_if_lacking(matrix, rest, *member as usize, waiting);
+            call_if_lacking(matrix, rest, *member as usize, work_list);
         }
     }
 }
 
-/// A check takes its move back and moves anew, with no reserve. It calls the checks of its members whose rests changed
+/// A check takes its move back and moves anew, with no margin. It calls the checks of its members whose rests changed
 /// and that then lack.
 pub(crate) fn serve(
     matrix: &Matrix,
@@ -168,14 +168,14 @@ pub(crate) fn serve(
     rests: &mut [u32],
     targets: &mut [u32],
     amounts: &mut [u32],
-    waiting: &mut Waiting,
+    work_list: &mut WorkList,
 )
     requires layers { layers.now ≡ matrix.now }
     requires check { check < (code_of matrix.now).checks }
     requires long { AreLong matrix.now (held rests.old targets.old amounts.old) }
-    requires room { waiting.old.room ≡ (code_of matrix.now).checks }
-    ensures is { IsServed matrix.now check (held rests.old targets.old amounts.old) (held rests.new targets.new amounts.new) waiting.old.checks waiting.new.checks }
-    ensures room { waiting.new.room ≡ waiting.old.room }
+    requires room { work_list.old.room ≡ (code_of matrix.now).checks }
+    ensures is { IsServed matrix.now check (held rests.old targets.old amounts.old) (held rests.new targets.new amounts.new) work_list.old.checks work_list.new.checks }
+    ensures room { work_list.new.room ≡ work_list.old.room }
 {
     let shape = matrix.shape();
     let n = shape.group();
@@ -202,7 +202,7 @@ pub(crate) fn serve(
         by_member(matrix, layers, r, lane, before),
         by_member(matrix, layers, r, lane, now),
         rests,
-        waiting,
+        work_list,
     );
 }
 

@@ -1,10 +1,10 @@
 -- A made-up decider of the tests (own). The Q of the first symbol after a frame's header gives the frame's contents:
 -- below 0 nothing, below 2 the first part of a packet, below 10 the rest of it, else a message whose header is refused.
-use Rattle.std.specs.Prelude.{ℕ, ℤ, ◌-◌, ◌^◌, Bool, pos, int_lt, if◌then◌else◌, List, [], Option, Some, None}
+use Rattle.std.specs.Prelude.{ℕ, ℤ, ◌-◌, ◌^◌, Bool, pos, neg_ℤ, int_lt, if◌then◌else◌, List, [], Option, Some, None}
 use Rattle.s2_mode.specs.Limits.{header_symbols}
 use Rattle.s2_mode.specs.Symbols.{symbol_at}
 use Rattle.s2_mode.specs.declared.symbols.Symbol.{Symbol}
-use Rattle.s2_receive.specs.Parts.{delivered_of}
+use Rattle.s2_receive.specs.Decider.{delivered_of}
 use Rattle.s2_receive.specs.Receiving.{Decision}
 use Rattle.s2_receive.specs.declared.figures.Figures.{Figures}
 use Rattle.s2_bbframe.specs.declared.header.Header.{Header}
@@ -46,6 +46,8 @@ figures_for q =
       changed = record { sum = 1204; of = 16200 };
       known = record { sum = 8100; of = 90 };
       payload = record { sum = 700000; of = 5400 };
+      known_correlation = record { power = 88200000; along = pos 87654321; across = neg_ℤ (pos 1234567) };
+      payload_correlation = record { power = 5292000000; along = neg_ℤ (pos (2 ^ 63)); across = pos (2 ^ 63 - 1) };
     })
     (record {
       header = 2;
@@ -53,6 +55,8 @@ figures_for q =
       changed = record { sum = 37; of = 16200 };
       known = record { sum = 900; of = 90 };
       payload = record { sum = 54321; of = 5400 };
+      known_correlation = record { power = 800; along = neg_ℤ (pos 70); across = pos 6 };
+      payload_correlation = record { power = 50; along = pos 4; across = pos 0 };
     })
     (record {
       header = 0;
@@ -60,6 +64,8 @@ figures_for q =
       changed = record { sum = 0; of = 16200 };
       known = record { sum = 2 ^ 64 - 1; of = 90 };
       payload = record { sum = 0; of = 5400 };
+      known_correlation = record { power = 2 ^ 64 - 1; along = pos 0; across = pos 0 };
+      payload_correlation = record { power = 0; along = pos 0; across = pos 0 };
     })
 
 -- the energy of its header

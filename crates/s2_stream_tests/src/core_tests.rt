@@ -4,8 +4,8 @@ use super::toy::{
     DUMMY, FRAME, Toy, feed, feed_rooms, frame, heard_by, losing, lost, put_dummy, put_frame,
     put_header, put_symbols, totals, toy,
 };
-use s2_mode::{ByOne, MAX_SYMBOLS};
-use s2_receive::{Fault, Step, Totals};
+use s2_mode::ByOne;
+use s2_receive::{Fault, MAX_SYMBOLS, Step, Totals};
 use std::alloc::{AllocError, Global};
 use std::process::Abort;
 use std::test::Fail;
@@ -117,7 +117,7 @@ impl Want<'_> {
     fn event(&self, number: usize) -> Event {
         let step = self.step(number);
         let given = match step {
-            Step::Frame(report) => 4 * (report.at.min(MAX_SYMBOLS) + FRAME) as usize,
+            Step::Frame(report) => 4 * (report.at.min(1 << 40) + FRAME) as usize,
             Step::Cut { .. } | Step::End => self.size,
         };
         let packets = if number == 1 && self.totals.packets == 1 {

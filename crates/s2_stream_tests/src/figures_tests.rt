@@ -38,9 +38,9 @@ fn two_refused_steps() -> [Step; 5] {
 }
 
 const TWO_REFUSED: &str =
-    "frame 1 at 0 broken lost header 11 changed 1204 rounds 50 known 8100 payload 700000\nframe 2 at 5490 most-likely lost header 0 changed 0 rounds 0 known 18446744073709551615 payload 0\nframe 3 at 10980 most-likely fixed 0 header 2 changed 37 rounds 5 known 900 payload 54321\nframe 4 at 16470 most-likely lost header 0 changed 0 rounds 0 known 18446744073709551615 payload 0\nend frames 4 delivered 1 packets 0 bad 0 changed 1241 of 64800 known 18446744073709551615 of 360 payload 754321 of 21600\n";
+    "frame 1 at 0 broken lost header 11 changed 1204 rounds 50 known 8100 power 88200000 along 87654321 across -1234567 payload 700000 power 5292000000 along -9223372036854775808 across 9223372036854775807\nframe 2 at 5490 most-likely lost header 0 changed 0 rounds 0 known 18446744073709551615 power 18446744073709551615 along 0 across 0 payload 0 power 0 along 0 across 0\nframe 3 at 10980 most-likely fixed 0 header 2 changed 37 rounds 5 known 900 power 800 along -70 across 6 payload 54321 power 50 along 4 across 0\nframe 4 at 16470 most-likely lost header 0 changed 0 rounds 0 known 18446744073709551615 power 18446744073709551615 along 0 across 0 payload 0 power 0 along 0 across 0\nend frames 4 delivered 1 packets 0 bad 0 changed 1241 of 64800 known 18446744073709551615 of 360 power 18446744073709551615 payload 754321 of 21600 power 5292000050\n";
 
-/// Two are refused. The known distances and the energies stop at their most.
+/// Two are refused. The known distances, their power and the energies stop at their most.
 fn two_refused_totals() -> Totals {
     let known = Tally {
         sum: u64::MAX,
@@ -62,6 +62,8 @@ fn two_refused_totals() -> Totals {
             changed,
             known,
             payload,
+            known_power: u64::MAX,
+            payload_power: 5_292_000_050,
         }),
         ..totals(4, 1, 0)
     }

@@ -2,7 +2,7 @@
 //! results of a code. The first symbol after a frame's header gives its content; its field has 100 bytes of zeros.
 //! As in `streams`, calls with a large contract are made only here in the tests.
 ghost use Rattle.std.specs.Prelude.{◌≡◌, ◌/◌, ◌<◌, ◌≤◌, IfOk, IfSome, length};
-ghost use Rattle.s2_mode.specs.Limits.{max_symbols};
+ghost use Rattle.s2_receive.specs.Limits.{max_symbols};
 ghost use Rattle.s2_receive.specs.Receiving.{begun};
 ghost use Rattle.s2_stream_tests.specs.Toy.{content_of, energy_for, figures_for, header_for, outcome_for, place_for, verdict_for};
 
@@ -11,11 +11,11 @@ use super::streams::{ALL, Fed, Heard, Reader, Source, Steps, Writer, reader_of, 
 use s2_bbframe::{Header, HeaderFault};
 use s2_bits::Bits;
 use s2_check::Verdict;
-use s2_mode::{Counted, MAX_SYMBOLS, Mode, Symbol, WriteFault};
-use s2_plframe::Lock;
+use s2_mode::{Counted, Mode, Symbol, WriteFault};
+use s2_plframe::HeaderTolerance;
 use s2_receive::{
-    Decide, Decided, Fault, Figures, Frame, Outcome, Receiver, Report, Step, Tally, Totals,
-    receive_bytes,
+    Correlation, Decide, Decided, Fault, Figures, Frame, MAX_SYMBOLS, Outcome, Receiver, Report,
+    Step, Tally, Totals, receive_bytes,
 };
 use std::alloc::{AllocError, Global};
 use std::test::Fail;
@@ -43,6 +43,16 @@ pub(crate) const LOST: Figures = Figures {
         sum: 700_000,
         of: 5400,
     },
+    known_correlation: Correlation {
+        power: 88_200_000,
+        along: 87_654_321,
+        across: -1_234_567,
+    },
+    payload_correlation: Correlation {
+        power: 5_292_000_000,
+        along: i64::MIN,
+        across: i64::MAX,
+    },
 };
 
 pub(crate) const FOUND: Figures = Figures {
@@ -53,6 +63,16 @@ pub(crate) const FOUND: Figures = Figures {
     payload: Tally {
         sum: 54_321,
         of: 5400,
+    },
+    known_correlation: Correlation {
+        power: 800,
+        along: -70,
+        across: 6,
+    },
+    payload_correlation: Correlation {
+        power: 50,
+        along: 4,
+        across: 0,
     },
 };
 
@@ -65,6 +85,16 @@ pub(crate) const REFUSED: Figures = Figures {
         of: 90,
     },
     payload: Tally { sum: 0, of: 5400 },
+    known_correlation: Correlation {
+        power: u64::MAX,
+        along: 0,
+        across: 0,
+    },
+    payload_correlation: Correlation {
+        power: 0,
+        along: 0,
+        across: 0,
+    },
 };
 
 /// The figures by a frame's content.
@@ -223,7 +253,7 @@ fn toy_with(alloc: Global, limit: u64, figured: bool) -> Result<Toy, Fail>
         content: 0,
         figured,
     };
-    Ok(Receiver::new(alloc, mode, Lock::usual(), decider, limit)?)
+    Ok(Receiver::new(alloc, mode, HeaderTolerance::usual(), decider, limit)?)
 }
 
 /// A number of symbols at which nothing begins.

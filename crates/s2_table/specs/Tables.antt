@@ -1,4 +1,4 @@
--- What `table` prints of rows, and the note of rows that are others than the standard's (own).
+-- What `table` prints about rows, and the note on rows that are not the standard's (own).
 use Rattle.std.specs.Prelude.{◌≡◌, ℕ, ◌++◌, Bool, true, false, List, Option, Some, None, IfSome, Result, Ok, Err, codes, decimal}
 use Rattle.std.specs.Io.KnownBytes.{Appends}
 use Rattle.s2_mode.specs.Mode.{Mode}
@@ -41,16 +41,16 @@ pub record SaysStandard (mode : Mode) (rows : Rows) (exit : Exit) (text : List �
 abbrev pub note_line : Mode → List ℕ
 note_line m = codes "s2: note: these rows are not the standard's for " ++ (mode_words m ++ codes "\n")
 
--- of the standard's rows nothing is noted
+-- for the standard's rows there is no note
 abbrev pub Notes : Mode → Bool → Option (List ℕ) → Option (List ℕ) → Type 0
 Notes mode true old new = new ≡ old
 Notes mode false old new = Appends old new (note_line mode)
 
--- of others it is noted that they are that
+-- for other rows, the note says that they are not the standard's
 abbrev pub IsNoted : Mode → Rows → Option (List ℕ) → Option (List ℕ) → Type 0
 IsNoted mode rows old new = (answer : Bool) × HasSum rows (standard_sum mode) answer × Notes mode answer old new
 
--- The note on the rows of a file. There is none if notes are left out, if the rows are refused, or if they are the
+-- The note on the rows of a file. There is none if notes are suppressed, if the rows are refused, or if they are the
 -- standard's. It can be lost only if its writer failed
 abbrev pub NotesRows : Bool → Mode → ℕ → ℕ → Option (List ℕ) → Option (List ℕ) → Result Rows Fault → Type 0
 NotesRows true mode before after old new said = (after ≡ before) × (new ≡ old)

@@ -1,4 +1,4 @@
--- The note of rows that are refused (own).
+-- The note on refused rows (own).
 use Rattle.std.specs.Prelude.{◌≡◌, ℕ, Bool, if◌then◌else◌, Option, List, [], ◌++◌, codes, decimal, Result, Ok, Err}
 use Rattle.s2_mode.specs.Mode.{Mode, shape_in}
 use Rattle.s2_mode.specs.Shape.{Shape, check_count}
@@ -13,13 +13,13 @@ use Rattle.s2_table.specs.Tables.{AreRowsIn, SaysStandard}
 
 -- the number of rows, and the limit of their addresses
 unfoldable pub wanted_end : ℕ → ℕ → List ℕ
-wanted_end rows checks = (codes " wants " ++ decimal rows) ++ (codes " rows of addresses below " ++ decimal checks) ++ codes "\n"
+wanted_end rows checks = (codes " needs " ++ decimal rows) ++ (codes " rows of addresses below " ++ decimal checks) ++ codes "\n"
 
--- the note with the rows that a mode wants
+-- the note with the rows that a mode needs
 abbrev pub wanted_note : Mode → Shape → List ℕ
 wanted_note m shape = codes "s2: note: " ++ (mode_words m ++ wanted_end shape.groups (check_count shape))
 
--- the note of a fault: for a fault of rows, the rows that the mode wants
+-- the note of a fault: for a fault of rows, the rows that the mode needs
 abbrev pub fault_note : Mode → Fault → List ℕ
 fault_note m (faults.Rows text) = wanted_note m (shape_in m)
 fault_note m f = []

@@ -9,7 +9,7 @@ ghost use Rattle.s2_table.specs.Tables.{AreRowsIn, SaysStandard, answer_line, an
 
 use crate::first::first_other_row;
 use crate::standard::is_standard;
-use crate::wanted::conclude_noted;
+use crate::wanted::finish_noted;
 use s2_console::{Console, Exit, Fault, Line, Printed};
 use s2_inputs::read_matrix;
 use s2_matrix::Matrix;
@@ -96,7 +96,7 @@ fn print_table<R: CountedRead, O: CountedWrite>(
 
 /// `table`: whether the rows of a file are the standard's for the code of a mode, whatever the order within each row.
 /// If not, the first line that differs is printed, if the digest of a single row shows it.
-/// If the rows are refused, a note says which ones the mode wants, unless notes are left out.
+/// If the rows are refused, a note says which rows the mode needs, unless notes are suppressed.
 pub fn table_command<R: CountedRead, O: CountedWrite, E: CountedWrite>(
     alloc: Global,
     mode: &Mode,
@@ -112,5 +112,5 @@ pub fn table_command<R: CountedRead, O: CountedWrite, E: CountedWrite>(
         (R.count rows.old) (R.count rows.new) console.old console.new result }
 {
     let ended = print_table(alloc, mode, rows, &mut console.output);
-    conclude_noted(quiet, mode, ended, console)
+    finish_noted(quiet, mode, ended, console)
 }

@@ -66,7 +66,7 @@ fn note_rows<E: CountedWrite>(errors: &mut E, mode: &Mode, matrix: &Matrix)
 }
 
 /// The matrix of the rows of a mode's row file, which is read to its end. If they are not the standard's, that is
-/// noted, unless notes are left out. If the file is refused, the fault says why, and nothing is noted.
+/// noted, unless notes are suppressed. If the file is refused, the fault says why, and nothing is noted.
 pub fn read_noted<R: CountedRead, E: CountedWrite>(
     alloc: Global,
     mode: &Mode,

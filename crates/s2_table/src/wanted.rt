@@ -1,4 +1,4 @@
-//! The note after rows were refused: which ones the mode wants.
+//! The note after rows were refused: which rows the mode needs.
 ghost use Rattle.std.specs.Prelude.{◌≡◌, ◌≢◌, ◌≤◌, ◌+◌, [], if◌then◌else◌, Err, IsOk, OnOk};
 ghost use Rattle.std.specs.Io.KnownBytes.{Appends};
 ghost use Rattle.s2_mode.specs.Counts.{CanCount, CountsFault};
@@ -17,13 +17,13 @@ fn wanted_end(rows: u64, checks: u64) -> Line
     ensures { result ≡ wanted_end rows checks }
 {
     let mut line = Line::new();
-    line.push_number(" wants ", rows);
+    line.push_number(" needs ", rows);
     line.push_number(" rows of addresses below ", checks);
     line.push("\n");
     line
 }
 
-/// Writes which rows a mode wants.
+/// Writes which rows a mode needs.
 fn write_wanted<W: CountedWrite>(mode: &Mode, out: &mut W) -> Result<(), WriteFault>
     requires { CanCount (W.count out.old) }
     ensures bytes { OnOk result (Appends (W.contents out.old) (W.contents out.new) (wanted_note mode.now (shape_in mode.now))) }
@@ -34,7 +34,7 @@ fn write_wanted<W: CountedWrite>(mode: &Mode, out: &mut W) -> Result<(), WriteFa
     write_note(out, "s2: note: ", mode, ending.as_bytes())
 }
 
-/// Writes the note of a fault, unless notes are left out. One that cannot be written is lost.
+/// Writes the note of a fault, unless notes are suppressed. One that cannot be written is lost.
 fn note_fault<W: CountedWrite>(quiet: bool, mode: &Mode, fault: &Fault<'_>, out: &mut W)
     requires { CanCount (W.count out.old) }
     ensures bytes { W.count out.new ≡ W.count out.old → Appends (W.contents out.old) (W.contents out.new) (if quiet then [] else fault_note mode.now fault.now) }
@@ -49,7 +49,7 @@ fn note_fault<W: CountedWrite>(quiet: bool, mode: &Mode, fault: &Fault<'_>, out:
     }
 }
 
-/// Reports a fault, and before it the note on refused rows, unless notes are left out.
+/// Reports a fault, and before it the note on refused rows, unless notes are suppressed.
 pub fn report_noted<O: CountedWrite, E: CountedWrite>(
     quiet: bool,
     mode: &Mode,
@@ -64,11 +64,11 @@ pub fn report_noted<O: CountedWrite, E: CountedWrite>(
         (Err fault.entry) console.old console.new }
 {
     note_fault(quiet, mode, &fault, &mut console.errors);
-    console.complain(fault)
+    console.report_fault(fault)
 }
 
 /// The exit of a command that ended so. A fault is reported after its note.
-pub fn conclude_noted<O: CountedWrite, E: CountedWrite>(
+pub fn finish_noted<O: CountedWrite, E: CountedWrite>(
     quiet: bool,
     mode: &Mode,
     ended: Result<Exit, Fault<'_>>,

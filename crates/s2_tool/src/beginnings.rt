@@ -2,12 +2,14 @@
 ghost use Rattle.std.specs.Prelude.{◌≤◌, IfOk, length};
 ghost use Rattle.s2_mode.specs.Counts.{CanCount};
 
-use crate::opening::{errors_of, open_input};
+use crate::opening::errors_of;
+use crate::shown::has_control;
 use s2_bbframe::{PACKET_BYTES, SYNC};
-use s2_files::{Disk, Role, is_standard};
+use s2_files::{Disk, Opener, Role, is_standard};
 use s2_mode::{CountedWrite, read_full, write_full};
 use s2_progress::Terminal;
 use s2_resync::{Syncs, first_syncs};
+use s2_scan::push_name;
 use std::alloc::{AllocError, Global};
 use std::fs;
 
@@ -21,7 +23,7 @@ fn write_note<W: CountedWrite>(errors: &mut W, note: &[u8])
     let _ = write_full(errors, note);
 }
 
-/// Whether a file can be read once more by its name: a regular file can.
+/// Whether a file can be read again by its name: a regular file can.
 fn is_again<R: Disk>(rt: &R, name: &str) -> bool {
     match fs::metadata(rt, name) {
         Ok(metadata) => metadata.is_file() && !is_standard(Role::Input, name),
@@ -29,7 +31,7 @@ fn is_again<R: Disk>(rt: &R, name: &str) -> bool {
     }
 }
 
-/// The first bytes of a file, at most so many.
+/// The first bytes of a file, at most this many.
 fn first_bytes<R: Disk + AllocGlobal>(
     rt: &R,
     name: &str,
@@ -38,7 +40,7 @@ fn first_bytes<R: Disk + AllocGlobal>(
     ensures { IfOk result (λ bytes. length bytes.items ≤ most) }
 {
     let mut bytes = vec![in rt.alloc(); 0u8; most]?;
-    let count = match open_input(rt, name) {
+    let count = match Opener::new(rt).read(name) {
         Ok(mut file) => read_full(&mut file, &mut bytes).unwrap_or(0),
         Err(_) => 0,
     };
@@ -59,44 +61,39 @@ fn is_refused(bytes: &[u8]) -> bool {
     lacks_sync(bytes, 0) || lacks_sync(bytes, PACKET_BYTES)
 }
 
-/// Whether a character of a name needs no quotes in a shell.
-fn is_plain(character: char) -> bool {
-    character.is_ascii_alphanumeric() || "%+,-./:=@_".contains(character)
+/// A name as a word of a shell. Control characters are not shown: in place of a name with some there is FILE.
+fn push_word(text: &mut Vec<u8>, name: &str) -> Result<(), AllocError> {
+    push_name(text, if has_control(name) { "FILE" } else { name })
 }
 
-/// A name as a word of a shell, between single quotes if it needs them.
-fn quoted(alloc: Global, name: &str) -> Result<String, AllocError> {
-    if name.chars().all(is_plain) {
-        return format!(in alloc; "{name}");
+/// The command that makes packets of a file with these sync bytes, without the file's name.
+fn remedy(alloc: Global, syncs: Syncs) -> Result<String, AllocError> {
+    if syncs.distance != PACKET_BYTES {
+        return format!(in alloc; "tools/strip");
     }
-    let mut word = format!(in alloc; "'")?;
-    for character in name.chars() {
-        if character == '\'' {
-            word.push_str("'\\''")?;
-        } else {
-            word.push(character)?;
-        }
-    }
-    word.push('\'')?;
-    Ok(word)
+    let first = syncs.place.saturating_add(1);
+    format!(in alloc; "tail -c +{first}")
 }
 
 /// The note on the first sync bytes of a file of this name.
-fn note_of(alloc: Global, syncs: Syncs, name: &str) -> Result<String, AllocError> {
+fn note_of(alloc: Global, syncs: Syncs, name: &str) -> Result<Vec<u8>, AllocError> {
     let (place, distance) = (syncs.place, syncs.distance);
+    let remedy = remedy(alloc, syncs)?;
     let found = format!(in alloc;
-        "s2: note: five sync bytes at distance {distance} begin at byte {place}: try"
+        "s2: note: five sync bytes at distance {distance} begin at byte {place}: try {remedy} "
     )?;
-    let word = quoted(alloc, name)?;
-    if distance == PACKET_BYTES {
-        let first = place.saturating_add(1);
-        return format!(in alloc; "{found} tail -c +{first} {word}\n");
-    }
-    format!(in alloc; "{found} tools/strip {word}\n")
+    let mut note = Vec::new(alloc);
+    note.extend_from_slice(found.as_bytes())?;
+    push_word(&mut note, name)?;
+    note.push(b'\n')?;
+    Ok(note)
 }
 
-/// The note on a packet file: where packets begin in it, if its first or second packet is refused.
-fn beginning_note<R: Disk + AllocGlobal>(rt: &R, name: &str) -> Result<Option<String>, AllocError> {
+/// The note on a packet file whose first or second packet is refused: the position at which packets begin in it.
+fn beginning_note<R: Disk + AllocGlobal>(
+    rt: &R,
+    name: &str,
+) -> Result<Option<Vec<u8>>, AllocError> {
     let bytes = first_bytes(rt, name, SEARCHED)?;
     if !is_refused(&bytes) {
         return Ok(None);
@@ -107,14 +104,14 @@ fn beginning_note<R: Disk + AllocGlobal>(rt: &R, name: &str) -> Result<Option<St
     }
 }
 
-/// Notes where packets begin in a packet file whose first or second packet is refused. The file is read once more. There is
-/// no note on one that cannot be read again, nor without memory for it.
+/// Notes the position at which packets begin in a packet file whose first or second packet is refused. The file is read
+/// again. There is no note on one that cannot be read again, nor without memory for it.
 pub(crate) fn note_beginning<R: Disk + AllocGlobal>(terminal: &Terminal<'_, R>, name: &str) {
     let rt = terminal.host();
     if !is_again(rt, name) {
         return;
     }
     if let Ok(Some(note)) = beginning_note(rt, name) {
-        write_note(&mut errors_of(terminal), note.as_bytes());
+        write_note(&mut errors_of(terminal), &note);
     }
 }

@@ -1,10 +1,13 @@
-//! The files that a request names, and what the host says of those that cannot be used. A command says only that it cannot
-//! open or read one, so the host is asked for the cause: before the command, and once more after a fault.
+//! The files that a request names, and the system's errors for those that cannot be used. A command reports only that
+//! it cannot open, read or write one. So the cause is noted before that: of a failed call at once, and of a file that
+//! cannot be opened by opening it again.
 use crate::opening::errors_of;
+use crate::shown::shown;
 use s2_files::{Disk, Role, is_standard};
 use s2_mode::write_full;
 use s2_progress::Terminal;
-use s2_words::{RecordWords, Request};
+use s2_words::{RecordArguments, Request};
+use std::alloc::{AllocError, Global};
 use std::fs::OpenOptions;
 use std::io::Read;
 use std::{fs, io};
@@ -17,7 +20,7 @@ struct Names<'a> {
     written: [Option<&'a str>; 5],
 }
 
-/// The files of a command without a link, of which one is written at most.
+/// The files of a command without a link. At most one of them is written.
 fn plain<'a>(
     texts: [Option<&'a str>; 2],
     data: [Option<&'a str>; 3],
@@ -31,7 +34,12 @@ fn plain<'a>(
 }
 
 /// The files of a command on a link: its row file, its input, its output and its records.
-fn linked<'a>(rows: &'a str, from: &'a str, to: &'a str, records: RecordWords<'a>) -> Names<'a> {
+fn linked<'a>(
+    rows: &'a str,
+    from: &'a str,
+    to: &'a str,
+    records: RecordArguments<'a>,
+) -> Names<'a> {
     let [certificates, values, codewords, bbframes] = records.names();
     Names {
         texts: [Some(rows), None],
@@ -49,7 +57,7 @@ fn one<'a>(name: &'a str) -> [Option<&'a str>; 3] {
 fn names_of<'a>(request: &Request<'a>) -> Names<'a> {
     let (no_text, no_data) = ([None; 2], [None; 3]);
     match request {
-        Request::Own | Request::Modes(_) | Request::Rows(_) => plain(no_text, no_data, None),
+        Request::Demo | Request::Modes(_) | Request::Rows(_) => plain(no_text, no_data, None),
         Request::Table(words) => plain([Some(words.rows), None], no_data, None),
         Request::Judge(words) => {
             plain(
@@ -99,7 +107,8 @@ fn has_name(names: &[Option<&str>], name: &str) -> bool {
     false
 }
 
-/// The error of opening a file anew, if there is one. An output that is not there is made, as before, unless it is read too.
+/// The error of opening a file anew, if there is one. An output that is not there is made, as before, unless it is read
+/// too.
 fn opening_error<R: Disk>(rt: &R, names: Names<'_>, name: &str) -> Option<io::Error> {
     let is_read = has_name(&names.texts, name) || has_name(&names.data, name);
     if is_read {
@@ -115,63 +124,51 @@ fn opening_error<R: Disk>(rt: &R, names: Names<'_>, name: &str) -> Option<io::Er
     options.open(rt, name).err()
 }
 
+/// The line of a note on a file.
+fn note_line(alloc: Global, name: &str, words: &str) -> Result<String, AllocError> {
+    let name = shown(alloc, name)?;
+    format!(in alloc; "s2: note: {name}: {words}\n")
+}
+
 /// Notes this of a file, if there is memory.
-fn note<R: Disk + AllocGlobal>(rt: &R, terminal: &Terminal<'_, R>, name: &str, words: &str) {
-    if let Ok(line) = format!(in rt.alloc(); "s2: note: {name}: {words}\n") {
+fn note<R: Disk + AllocGlobal>(terminal: &Terminal<'_, R>, name: &str, words: &str) {
+    if let Ok(line) = note_line(terminal.host().alloc(), name, words) {
         let _ = write_full(&mut errors_of(terminal), line.as_bytes());
     }
 }
 
-/// Notes why a file cannot be opened, if the host still says so.
+/// Notes an error of a file, without its number.
+fn note_error<R: Disk + AllocGlobal>(terminal: &Terminal<'_, R>, name: &str, error: io::Error) {
+    let Ok(told) = format!(in terminal.host().alloc(); "{error}") else {
+        return;
+    };
+    match told.split_once(" (os error ") {
+        Some((cause, _)) => note(terminal, name, cause),
+        None => note(terminal, name, told.as_str()),
+    }
+}
+
+/// Notes why a call on a file failed. If nobody reads a pipe any more, that is no fault of the pipe.
+pub(crate) fn note_failure<R: Disk + AllocGlobal>(
+    terminal: &Terminal<'_, R>,
+    name: &str,
+    error: io::Error,
+) {
+    if error.kind() != io::ErrorKind::BrokenPipe {
+        note_error(terminal, name, error);
+    }
+}
+
+/// Notes why a file cannot be opened, if the system still reports an error.
 pub(crate) fn note_cause<R: Disk + AllocGlobal>(
     rt: &R,
     terminal: &Terminal<'_, R>,
     request: &Request<'_>,
     name: &str,
 ) {
-    let Some(error) = opening_error(rt, names_of(request), name) else {
-        return;
-    };
-    let Ok(told) = format!(in rt.alloc(); "{error}") else {
-        return;
-    };
-    match told.split_once(" (os error ") {
-        Some((cause, _)) => note(rt, terminal, name, cause),
-        None => note(rt, terminal, name, told.as_str()),
+    if let Some(error) = opening_error(rt, names_of(request), name) {
+        note_error(terminal, name, error);
     }
-}
-
-/// Whether this is a folder. A standard stream is not asked for.
-fn is_folder<R: Disk>(rt: &R, name: &str) -> bool {
-    match fs::metadata(rt, name) {
-        Ok(metadata) => metadata.is_dir() && !is_standard(Role::Input, name),
-        Err(_) => false,
-    }
-}
-
-/// Notes those of these files that are folders, which can be opened and not read.
-fn note_folders_in<R: Disk + AllocGlobal>(
-    rt: &R,
-    terminal: &Terminal<'_, R>,
-    names: &[Option<&str>],
-) {
-    for name in names {
-        match name {
-            Some(name) if is_folder(rt, name) => note(rt, terminal, name, "Is a directory"),
-            _ => {}
-        }
-    }
-}
-
-/// Notes the folders among the files that a request reads.
-pub(crate) fn note_folders<R: Disk + AllocGlobal>(
-    rt: &R,
-    terminal: &Terminal<'_, R>,
-    request: &Request<'_>,
-) {
-    let names = names_of(request);
-    note_folders_in(rt, terminal, &names.texts);
-    note_folders_in(rt, terminal, &names.data);
 }
 
 /// Whether a file begins with a byte order mark, in UTF-8.
@@ -183,7 +180,7 @@ fn has_mark<R: Disk>(rt: &R, name: &str) -> bool {
     file.read_exact(&mut start).is_ok() && start == [0xEF, 0xBB, 0xBF]
 }
 
-/// Whether this is a regular file, which can be read once more.
+/// Whether this is a regular file, which can be read again.
 fn is_kept<R: Disk>(rt: &R, name: &str) -> bool {
     match fs::metadata(rt, name) {
         Ok(metadata) => metadata.is_file() && !is_standard(Role::Input, name),
@@ -201,7 +198,6 @@ pub(crate) fn note_marks<R: Disk + AllocGlobal>(
         match name {
             Some(name) if is_kept(rt, name) && has_mark(rt, name) => {
                 note(
-                    rt,
                     terminal,
                     name,
                     "begins with a byte order mark: tail -c +4 removes it",

@@ -4,8 +4,9 @@ ghost use Rattle.s2_mode.specs.Counts.{CanCount};
 ghost use Rattle.s2_console.specs.Screens.{CanNote};
 
 use crate::beginnings::note_beginning;
-use crate::opening::{open_link, show_on};
-use crate::records::{conclude_records, open_records};
+use crate::losses::{exit_after, note_left_out};
+use crate::opening::{Reading, open_link, show_on};
+use crate::records::{finish_command, open_records};
 use crate::serve::mode_of;
 use s2_commands::{DemodOptions, RunOptions, demod_command, mod_command, run_command};
 use s2_console::{Console, Exit, Fault};
@@ -13,21 +14,24 @@ use s2_files::{Disk, Opener};
 use s2_link::{LinkSetup, RollOff};
 use s2_mode::{CountedWrite, FaultText, Mode};
 use s2_progress::{Pace, Show, Terminal};
+use s2_resync::LeftOut;
 use s2_scramble::ScramblingNumber;
-use s2_words::{DemodWords, LinkWords, ModWords, Progress, RecordWords, RunWords, Seeds};
+use s2_words::{
+    DemodArguments, LinkArguments, ModArguments, Progress, RecordArguments, RunArguments, Seeds,
+};
 use std::time::Clock;
 
 /// A request that works on a link: its words, and its options in the types of the command.
 #[derive(Clone, Copy)]
 pub(crate) enum LinkRequest<'w, 'a> {
-    Mod(&'w ModWords<'a>),
-    Demod(&'w DemodWords<'a>, &'w DemodOptions),
-    Run(&'w RunWords<'a>, &'w RunOptions),
+    Mod(&'w ModArguments<'a>),
+    Demod(&'w DemodArguments<'a>, &'w DemodOptions),
+    Run(&'w RunArguments<'a>, &'w RunOptions),
 }
 
 impl<'w, 'a> LinkRequest<'w, 'a> {
     /// The options of its link.
-    fn link(self) -> LinkWords {
+    fn link(self) -> LinkArguments {
         match self {
             LinkRequest::Mod(words) => words.link,
             LinkRequest::Demod(words, _) => words.link,
@@ -45,7 +49,7 @@ impl<'w, 'a> LinkRequest<'w, 'a> {
     }
 
     /// The names of its files of records.
-    fn records(self) -> RecordWords<'a> {
+    fn records(self) -> RecordArguments<'a> {
         match self {
             LinkRequest::Mod(words) => words.records,
             LinkRequest::Demod(words, _) => words.records,
@@ -61,7 +65,24 @@ impl<'w, 'a> LinkRequest<'w, 'a> {
         }
     }
 
-    /// The name of its packet file, if it reads one and notes are not left out.
+    /// Whether, after a wrong sync byte, it continues at the next place at which packets begin.
+    fn resyncs(self) -> bool {
+        match self {
+            LinkRequest::Mod(words) => words.resync,
+            LinkRequest::Run(words, _) => words.resync,
+            LinkRequest::Demod(_, _) => false,
+        }
+    }
+
+    /// How its input is read.
+    fn reading(self) -> Reading {
+        Reading {
+            buffered: self.is_buffered(),
+            resync: self.resyncs(),
+        }
+    }
+
+    /// The name of its packet file, if it reads one and notes are not suppressed.
     fn noted_packets(self) -> Option<&'a str> {
         match self {
             LinkRequest::Mod(words) if !words.quiet => Some(words.packets),
@@ -82,7 +103,7 @@ impl<'w, 'a> LinkRequest<'w, 'a> {
         }
     }
 
-    /// Whether it is noted at once that no frame comes.
+    /// Whether a gap is noted at once.
     fn notes_gaps(self) -> bool {
         match self {
             LinkRequest::Demod(words, _) => !words.notes.quiet,
@@ -100,7 +121,7 @@ impl<'w, 'a> LinkRequest<'w, 'a> {
     }
 }
 
-/// Shows how far a request is, and notes gaps, each if it is wanted.
+/// Shows the progress of a request, and notes gaps, each if it is requested.
 fn show_of<'t, 'r, R: Disk + Clock>(
     terminal: &'t Terminal<'r, R>,
     pace: Pace,
@@ -113,7 +134,7 @@ fn show_of<'t, 'r, R: Disk + Clock>(
     show
 }
 
-/// How often symbols are received: once, or once for each seed of a range.
+/// The number of receptions: one, or one per seed of a range.
 fn runs_of(seeds: Option<Seeds>) -> u64 {
     match seeds {
         Some(seeds) => seeds.last.saturating_sub(seeds.first).saturating_add(1),
@@ -122,7 +143,7 @@ fn runs_of(seeds: Option<Seeds>) -> u64 {
 }
 
 /// The setup of a link's options.
-pub(crate) fn setup_of(words: LinkWords) -> Result<LinkSetup, Fault<'static>> {
+pub(crate) fn setup_of(words: LinkArguments) -> Result<LinkSetup, Fault<'static>> {
     Ok(LinkSetup {
         mode: mode_of(words.modcod, words.short, words.pilots)?,
         number: ScramblingNumber::new(words.number).ok_or(Fault::refused(FaultText::of(
@@ -134,7 +155,8 @@ pub(crate) fn setup_of(words: LinkWords) -> Result<LinkSetup, Fault<'static>> {
     })
 }
 
-/// After a fault notes where packets begin in a packet file of this name, if its first or second packet is refused.
+/// After a fault: notes the position at which packets begin in the packet file of this name, if its first or second
+/// packet is refused.
 fn note_packets<R: Disk + AllocGlobal>(
     terminal: &Terminal<'_, R>,
     packets: Option<&str>,
@@ -146,6 +168,20 @@ fn note_packets<R: Disk + AllocGlobal>(
     if let Some(name) = packets {
         note_beginning(terminal, name);
     }
+}
+
+/// The exit of a command of which bytes of a packet file were left out. Notes on the file of this name are written.
+fn conclude_packets<R: Disk + AllocGlobal>(
+    terminal: &Terminal<'_, R>,
+    packets: Option<&str>,
+    left_out: LeftOut,
+    exit: Exit,
+) -> Exit {
+    note_packets(terminal, packets, exit);
+    if packets.is_some() {
+        note_left_out(terminal, left_out);
+    }
+    exit_after(left_out, exit)
 }
 
 /// Opens the files of a request on a link, and runs its command on them. `notes` takes the notes before a report.
@@ -164,10 +200,10 @@ pub(crate) fn with_link<'a, R: Disk + Clock + AllocGlobal, O: CountedWrite, E: C
     let pace = request.pace(&setup.mode);
     let show = show_of(terminal, pace, request);
     let unseen = Show::new(terminal, pace, false);
-    let (names, buffered) = (request.names(), request.is_buffered());
+    let (names, reading) = (request.names(), request.reading());
     let mut opener = Opener::new(rt);
-    let mut files = open_link(&mut opener, &show, &unseen, names, buffered)?;
-    let mut records = open_records(&mut opener, alloc, setup.mode, request.records())?;
+    let mut files = open_link(&mut opener, terminal, &show, &unseen, names, reading)?;
+    let mut records = open_records(&mut opener, terminal, setup.mode, request.records())?;
     let (open, sinks) = (&mut files, &mut records);
     let exit = match request {
         LinkRequest::Mod(words) => mod_command(
@@ -187,6 +223,10 @@ pub(crate) fn with_link<'a, R: Disk + Clock + AllocGlobal, O: CountedWrite, E: C
         ),
     };
     show.finish();
-    note_packets(terminal, request.noted_packets(), exit);
-    conclude_records(exit, files.to.is_begun(), records)
+    let left_out = files.from.left_out();
+    let exit = conclude_packets(terminal, request.noted_packets(), left_out, exit);
+    match finish_command(exit, files.to.is_begun(), records) {
+        Ok(exit) => Ok(exit),
+        Err(_) => Err(Fault::Write),
+    }
 }

@@ -4,15 +4,18 @@
 mod beginnings;
 mod causes;
 mod link_request;
+mod losses;
+mod noting;
 mod opening;
 mod options;
 mod records;
 mod serve;
+mod shown;
 mod thinned;
 
 use crate::causes::takes_output;
 use crate::opening::{errors_of, screen_beside};
-use crate::serve::{every_of, explain, request_of, run_request, words_given};
+use crate::serve::{every_of, print_usage, request_of, run_request, words_given};
 use s2_progress::Terminal;
 use std::process::ExitCode;
 
@@ -26,7 +29,7 @@ fn main(rt: HostRuntime) -> ExitCode {
             let mut notes = errors_of(&terminal);
             run_request(&rt, &terminal, &request, &mut screen, &mut notes)
         }
-        Err(unread) => explain(&rt, &terminal, &unread),
+        Err(unread) => print_usage(&rt, &terminal, &unread),
     };
     exit.code()
 }

@@ -1,4 +1,4 @@
-//! What the words of the command line ask for, in the types of the commands. This is plain code.
+//! The options of the command line in the types of the commands. This is plain code.
 //!
 //! The parser has tested every number: its ranges are those of these types (below). So no refusal here can be met.
 use crate::link_request::setup_of;
@@ -9,8 +9,8 @@ use s2_mode::{FaultText, Mode};
 use s2_soft::Divisor;
 use s2_tuning::{Number, Tuning, Wanted, divisor_by, judging_by, tuning_by};
 use s2_words::{
-    AuditWords, ChannelWords, DemodWords, JudgeWords, NumberWords, RunWords, StrengthWords,
-    TuningWords, limits,
+    AuditArguments, ChannelArguments, DemodArguments, JudgeArguments, NumberArguments,
+    RunArguments, StrengthArguments, TuningArguments, limits,
 };
 
 const _: () = prove!(limits::MAX_ADDRESSES as usize == s2_rows::MAX_ADDRESSES);
@@ -36,10 +36,10 @@ const _: () = prove!(limits::LEAST_ESN0 == s2_channel::LEAST_ESN0);
 const _: () = prove!(limits::MAX_ESN0 == s2_channel::MAX_ESN0);
 
 /// The channel of two options.
-pub(crate) fn channel_of(words: ChannelWords) -> Result<Channel, Fault<'static>> {
+pub(crate) fn channel_of(words: ChannelArguments) -> Result<Channel, Fault<'static>> {
     let strength = match words.strength {
-        StrengthWords::Level(level) => Strength::Level(level),
-        StrengthWords::EsN0(number) => Strength::EsN0(EsN0::new(number).ok_or(Fault::refused(
+        StrengthArguments::Level(level) => Strength::Level(level),
+        StrengthArguments::EsN0(number) => Strength::EsN0(EsN0::new(number).ok_or(Fault::refused(
             FaultText::of("no such Es/N0"),
         ))?),
     };
@@ -49,7 +49,7 @@ pub(crate) fn channel_of(words: ChannelWords) -> Result<Channel, Fault<'static>>
     })
 }
 
-fn number_of(words: NumberWords) -> Number {
+fn number_of(words: NumberArguments) -> Number {
     Number {
         is_given: words.is_given,
         value: words.value,
@@ -57,14 +57,17 @@ fn number_of(words: NumberWords) -> Number {
 }
 
 /// The divisor of soft values of a report on a mode.
-pub(crate) fn divisor_of(mode: &Mode, words: &AuditWords<'_>) -> Result<Divisor, Fault<'static>> {
+pub(crate) fn divisor_of(
+    mode: &Mode,
+    words: &AuditArguments<'_>,
+) -> Result<Divisor, Fault<'static>> {
     divisor_by(mode, words.tuned, number_of(words.divisor)).ok_or(Fault::refused(FaultText::of(
         "no such divisor",
     )))
 }
 
 /// The tuning of a receiver of a mode.
-fn tuning_of(mode: &Mode, words: TuningWords) -> Result<Tuning, Fault<'static>> {
+fn tuning_of(mode: &Mode, words: TuningArguments) -> Result<Tuning, Fault<'static>> {
     let wanted = Wanted {
         rounds: number_of(words.rounds),
         passes: number_of(words.passes),
@@ -79,14 +82,14 @@ fn tuning_of(mode: &Mode, words: TuningWords) -> Result<Tuning, Fault<'static>> 
 }
 
 /// The tuning of `judge`.
-pub(crate) fn judging_of(words: &JudgeWords<'_>) -> Result<Tuning, Fault<'static>> {
+pub(crate) fn judging_of(words: &JudgeArguments<'_>) -> Result<Tuning, Fault<'static>> {
     judging_by(words.passes, words.factor, words.uncertified).ok_or(Fault::refused(FaultText::of(
         "no such tuning",
     )))
 }
 
 /// The options of `demod`.
-pub(crate) fn demod_options(words: &DemodWords<'_>) -> Result<DemodOptions, Fault<'static>> {
+pub(crate) fn demod_options(words: &DemodArguments<'_>) -> Result<DemodOptions, Fault<'static>> {
     let setup = setup_of(words.link)?;
     Ok(DemodOptions {
         tuning: tuning_of(&setup.mode, words.tuning)?,
@@ -95,7 +98,7 @@ pub(crate) fn demod_options(words: &DemodWords<'_>) -> Result<DemodOptions, Faul
 }
 
 /// The options of `run`.
-pub(crate) fn run_options(words: &RunWords<'_>) -> Result<RunOptions, Fault<'static>> {
+pub(crate) fn run_options(words: &RunArguments<'_>) -> Result<RunOptions, Fault<'static>> {
     let setup = setup_of(words.link)?;
     Ok(RunOptions {
         dummy: words.dummy,

@@ -2,13 +2,13 @@
 ghost use Rattle.std.specs.Prelude.{◌≡◌, ◌≢◌, ◌+◌, ◌<◌, ◌≤◌, IfOk, OnErr, OnOk, length};
 ghost use Rattle.s2_receive.specs.Sinks.{wanted_count};
 
-use crate::opening::Written;
+use crate::opening::{Written, write_by};
 use s2_console::{Exit, Fault};
 use s2_files::{Disk, Opener, Output, Truncating};
 use s2_mode::{Mode, WriteFault};
+use s2_progress::Terminal;
 use s2_records::{Bbframes, Certificates, Codewords, Values};
-use s2_words::RecordWords;
-use std::alloc::Global;
+use s2_words::RecordArguments;
 
 /// The sinks of records, each if its file is given. Frames go to them in this order.
 pub(crate) type Records<W> = (
@@ -20,103 +20,107 @@ pub(crate) type Records<W> = (
 );
 
 /// An opened file of records. It is truncated by its first write.
-pub(crate) type RecordFile<R> = Truncating<Written<R>>;
+pub(crate) type RecordFile<'t, 'r, 'a, R> = Truncating<Written<'t, 'r, 'a, R>>;
 
 /// Opens a file of certificates, if a name is given.
-fn open_certificates<'a, R: Disk>(
+fn open_certificates<'t, 'r, 'a, R: Disk + AllocGlobal>(
     opener: &mut Opener<'_, R>,
-    alloc: Global,
+    terminal: &'t Terminal<'r, R>,
     mode: Mode,
     name: Option<&'a str>,
-) -> Result<Option<Certificates<RecordFile<R>>>, Fault<'a>>
+) -> Result<Option<Certificates<RecordFile<'t, 'r, 'a, R>>>, Fault<'a>>
     requires room { length opener.old < 8 }
     ensures room { OnOk result (length opener.new ≤ length opener.old + 1) }
-    ensures fresh { IfOk result (λ made. wanted_count (λ file. file.to.failed) made ≡ 0) }
+    ensures fresh { IfOk result (λ made. wanted_count (λ file. file.to.inner.failed) made ≡ 0) }
 {
     let Some(name) = name else {
         return Ok(None);
     };
-    match Certificates::new(alloc, mode, Truncating::new(opener.write(name)?)) {
+    let file = Truncating::new(write_by(opener, terminal, name)?);
+    match Certificates::new(terminal.host().alloc(), mode, file) {
         Ok(sink) => Ok(Some(sink)),
         Err(_) => Err(Fault::NoMemory),
     }
 }
 
 /// Opens a file of soft values, if a name is given.
-fn open_values<'a, R: Disk>(
+fn open_values<'t, 'r, 'a, R: Disk + AllocGlobal>(
     opener: &mut Opener<'_, R>,
-    alloc: Global,
+    terminal: &'t Terminal<'r, R>,
     mode: Mode,
     name: Option<&'a str>,
-) -> Result<Option<Values<RecordFile<R>>>, Fault<'a>>
+) -> Result<Option<Values<RecordFile<'t, 'r, 'a, R>>>, Fault<'a>>
     requires room { length opener.old < 8 }
     ensures room { OnOk result (length opener.new ≤ length opener.old + 1) }
-    ensures fresh { IfOk result (λ made. wanted_count (λ file. file.to.failed) made ≡ 0) }
+    ensures fresh { IfOk result (λ made. wanted_count (λ file. file.to.inner.failed) made ≡ 0) }
 {
     let Some(name) = name else {
         return Ok(None);
     };
-    match Values::new(alloc, mode, Truncating::new(opener.write(name)?)) {
+    let file = Truncating::new(write_by(opener, terminal, name)?);
+    match Values::new(terminal.host().alloc(), mode, file) {
         Ok(sink) => Ok(Some(sink)),
         Err(_) => Err(Fault::NoMemory),
     }
 }
 
 /// Opens a file of decided words, if a name is given.
-fn open_codewords<'a, R: Disk>(
+fn open_codewords<'t, 'r, 'a, R: Disk + AllocGlobal>(
     opener: &mut Opener<'_, R>,
-    alloc: Global,
+    terminal: &'t Terminal<'r, R>,
     mode: Mode,
     name: Option<&'a str>,
-) -> Result<Option<Codewords<RecordFile<R>>>, Fault<'a>>
+) -> Result<Option<Codewords<RecordFile<'t, 'r, 'a, R>>>, Fault<'a>>
     requires room { length opener.old < 8 }
     ensures room { OnOk result (length opener.new ≤ length opener.old + 1) }
-    ensures fresh { IfOk result (λ made. wanted_count (λ file. file.to.failed) made ≡ 0) }
+    ensures fresh { IfOk result (λ made. wanted_count (λ file. file.to.inner.failed) made ≡ 0) }
 {
     let Some(name) = name else {
         return Ok(None);
     };
-    match Codewords::new(alloc, mode, Truncating::new(opener.write(name)?)) {
+    let file = Truncating::new(write_by(opener, terminal, name)?);
+    match Codewords::new(terminal.host().alloc(), mode, file) {
         Ok(sink) => Ok(Some(sink)),
         Err(_) => Err(Fault::NoMemory),
     }
 }
 
 /// Opens a file of BBFRAMEs, if a name is given.
-fn open_bbframes<'a, R: Disk>(
+fn open_bbframes<'t, 'r, 'a, R: Disk + AllocGlobal>(
     opener: &mut Opener<'_, R>,
-    alloc: Global,
+    terminal: &'t Terminal<'r, R>,
     mode: Mode,
     name: Option<&'a str>,
-) -> Result<Option<Bbframes<RecordFile<R>>>, Fault<'a>>
+) -> Result<Option<Bbframes<RecordFile<'t, 'r, 'a, R>>>, Fault<'a>>
     requires room { length opener.old < 8 }
     ensures room { OnOk result (length opener.new ≤ length opener.old + 1) }
-    ensures fresh { IfOk result (λ made. wanted_count (λ sink. sink.to.to.failed) made ≡ 0) }
+    ensures fresh { IfOk result (λ made. wanted_count (λ sink. sink.to.to.inner.failed) made ≡ 0) }
 {
     let Some(name) = name else {
         return Ok(None);
     };
-    match Bbframes::new(alloc, mode, Truncating::new(opener.write(name)?)) {
+    let file = Truncating::new(write_by(opener, terminal, name)?);
+    match Bbframes::new(terminal.host().alloc(), mode, file) {
         Ok(sink) => Ok(Some(sink)),
         Err(_) => Err(Fault::NoMemory),
     }
 }
 
 /// Opens the files of records, those that are given, after the other files.
-pub(crate) fn open_records<'a, R: Disk>(
+pub(crate) fn open_records<'t, 'r, 'a, R: Disk + AllocGlobal>(
     opener: &mut Opener<'_, R>,
-    alloc: Global,
+    terminal: &'t Terminal<'r, R>,
     mode: Mode,
-    words: RecordWords<'a>,
-) -> Result<Records<RecordFile<R>>, Fault<'a>>
+    words: RecordArguments<'a>,
+) -> Result<Records<RecordFile<'t, 'r, 'a, R>>, Fault<'a>>
     requires room { length opener.old ≤ 4 }
-    ensures fresh { IfOk result (λ made. wanted_count (λ file. file.to.failed) made.0 + (wanted_count (λ file. file.to.failed) made.1.0
-        + (wanted_count (λ file. file.to.failed) made.1.1.0 + wanted_count (λ sink. sink.to.to.failed) made.1.1.1)) ≡ 0) }
+    ensures fresh { IfOk result (λ made. wanted_count (λ file. file.to.inner.failed) made.0 + (wanted_count (λ file. file.to.inner.failed) made.1.0
+        + (wanted_count (λ file. file.to.inner.failed) made.1.1.0 + wanted_count (λ sink. sink.to.to.inner.failed) made.1.1.1)) ≡ 0) }
 {
-    let certificates = open_certificates(opener, alloc, mode, words.certificates)?;
-    let values = open_values(opener, alloc, mode, words.values)?;
-    let codewords = open_codewords(opener, alloc, mode, words.codewords)?;
-    let bbframes = open_bbframes(opener, alloc, mode, words.bbframes)?;
+    let certificates = open_certificates(opener, terminal, mode, words.certificates)?;
+    let values = open_values(opener, terminal, mode, words.values)?;
+    let codewords = open_codewords(opener, terminal, mode, words.codewords)?;
+    let bbframes = open_bbframes(opener, terminal, mode, words.bbframes)?;
     Ok((certificates, (values, (codewords, bbframes))))
 }
 
@@ -145,11 +149,11 @@ fn finish_records<W: Output + Drop>(records: Records<Truncating<W>>) -> Result<(
 
 /// The end of a command with records. If its output was begun, each file of records to which nothing was written is
 /// truncated.
-pub(crate) fn conclude_records<W: Output + Drop>(
+pub(crate) fn finish_command<W: Output + Drop>(
     exit: Exit,
     begun: bool,
     records: Records<Truncating<W>>,
-) -> Result<Exit, Fault<'static>>
+) -> Result<Exit, WriteFault>
     requires { wanted_count (λ t. W.count t.to) records.0 + (wanted_count (λ t. W.count t.to) records.1.0
         + (wanted_count (λ t. W.count t.to) records.1.1.0 + wanted_count (λ b. W.count b.to.to) records.1.1.1)) ≤ 1 }
     ensures { OnErr result (exit ≢ Exit.Fault) }
@@ -158,7 +162,7 @@ pub(crate) fn conclude_records<W: Output + Drop>(
         return Ok(exit);
     }
     match finish_records(records) {
-        Err(_) if exit != Exit::Fault => Err(Fault::Write),
+        Err(fault) if exit != Exit::Fault => Err(fault),
         _ => Ok(exit),
     }
 }

@@ -1,15 +1,16 @@
-//! Serves the request of the command line. This is plain code: the contract of each command is at the command.
+//! Runs the request of the command line. This is plain code: each command has its own contract.
 ghost use Rattle.std.specs.Prelude.{OnErr};
 ghost use Rattle.s2_mode.specs.Counts.{CanCount};
 ghost use Rattle.s2_console.specs.Screens.{CanNote};
 
-use crate::causes::{note_cause, note_folders, note_marks};
+use crate::causes::{note_cause, note_marks};
 use crate::link_request::{LinkRequest, setup_of, with_link};
 use crate::opening::{
     open_audit, open_input, open_inputs, open_join, open_judge, open_noise, open_scan,
-    screen_beside, show_on,
+    screen_beside, show_on, standard_input,
 };
 use crate::options::{channel_of, demod_options, divisor_of, judging_of, run_options};
+use crate::shown::{has_control, shown};
 use s2_audit::audit_command;
 use s2_commands::{noise_command, rows_command};
 use s2_console::{Console, Exit, Fault};
@@ -17,14 +18,15 @@ use s2_evidence::{check_command, check_each_command};
 use s2_files::Disk;
 use s2_join::join_command;
 use s2_judging::{judge_command, judge_each_command, self_command};
-use s2_mode::{CountedWrite, Counting, FaultText, Mode, Shape};
+use s2_mode::{CountedWrite, FaultText, Mode, Shape};
 use s2_names::modes_command;
 use s2_progress::{Pace, Terminal};
 use s2_scan::scan_command;
 use s2_table::table_command;
 use s2_words::{
-    AuditWords, CheckWords, CodeWords, DemodWords, JoinWords, JudgeWords, ModesWords, NoiseWords,
-    Request, RowsWords, RunWords, ScanWords, ShapeWords, TableWords, Unread, not_text, read_words,
+    AuditArguments, CheckArguments, CodeArguments, DemodArguments, JoinArguments, JudgeArguments,
+    ModesArguments, NoiseArguments, Request, RowsArguments, RunArguments, ScanArguments,
+    ShapeArguments, TableArguments, Unread, not_text, parse_arguments,
 };
 use std::alloc::{AllocError, Global};
 use std::env::FillError;
@@ -37,13 +39,13 @@ use std::{env, io};
 pub(crate) enum Words {
     /// They are text.
     Text(Vec<String>),
-    /// This one is the first that is not text. It has a replacement character for each part that is none.
+    /// This is the first one that is not valid UTF-8. Each invalid part is a replacement character.
     NotText(String),
-    /// There is no memory for them.
+    /// There is not enough memory for them.
     NoMemory,
 }
 
-/// The most bytes of an argument, with its NUL: Linux allows 32 pages of 4096 bytes.
+/// The maximum length of an argument in bytes, with its NUL: Linux allows 32 pages of 4096 bytes.
 const ARGUMENT_ROOM: usize = 131_072;
 
 /// The first argument that is not text. It is empty if there is none.
@@ -79,15 +81,15 @@ pub(crate) fn words_given<R: Env + AllocGlobal>(rt: &R) -> Words {
 /// The request of the arguments. Without memory for these it is a fault, as it is while they are read.
 pub(crate) fn request_of<'a>(alloc: Global, words: &'a Words) -> Result<Request<'a>, Unread> {
     match words {
-        Words::Text(words) => read_words(alloc, words),
+        Words::Text(words) => parse_arguments(alloc, words),
         Words::NotText(word) => Err(not_text(alloc, word.as_str())?),
         Words::NoMemory => Err(Unread::NoMemory),
     }
 }
 
-/// Reports why there is no request: prints help on standard output, or a usage fault on standard error, or reports that
+/// Reports why there is no request: prints help on standard output, or a usage error on standard error, or reports that
 /// memory ran out.
-pub(crate) fn explain<R: Disk + Print + Eprint>(
+pub(crate) fn print_usage<R: Disk + AllocGlobal + Print + Eprint>(
     rt: &R,
     terminal: &Terminal<'_, R>,
     unread: &Unread,
@@ -109,10 +111,10 @@ pub(crate) fn explain<R: Disk + Print + Eprint>(
 fn lacks_memory<O: CountedWrite, E: CountedWrite>(console: &mut Console<O, E>) -> Exit
     requires { CanNote console.old }
 {
-    console.complain(Fault::NoMemory)
+    console.report_fault(Fault::NoMemory)
 }
 
-/// Of how many frames one has its line in the report of a request, 0 if each has it.
+/// N if every N-th frame has a line in the report of a request, or 0 if each frame has one.
 pub(crate) fn every_of(request: &Request<'_>) -> u32 {
     match request {
         Request::Demod(words) => words.every,
@@ -121,8 +123,30 @@ pub(crate) fn every_of(request: &Request<'_>) -> u32 {
     }
 }
 
+/// Reports a fault. Control characters of a file's name are escaped.
+fn report<O: CountedWrite, E: CountedWrite>(
+    alloc: Global,
+    fault: Fault<'_>,
+    console: &mut Console<O, E>,
+) -> Exit
+    requires { CanCount console.old.errors_failed }
+{
+    match fault {
+        Fault::Open(name) if has_control(name) => match shown(alloc, name) {
+            Ok(name) => console.report_fault(Fault::Open(name.as_str())),
+            Err(_) => console.report_fault(Fault::NoMemory),
+        },
+        Fault::UsedTwice(name) if has_control(name) => match shown(alloc, name) {
+            Ok(name) => console.report_fault(Fault::UsedTwice(name.as_str())),
+            Err(_) => console.report_fault(Fault::NoMemory),
+        },
+        fault => console.report_fault(fault),
+    }
+}
+
 /// The exit of a command. A fault that came before it is reported.
-fn conclude<O: CountedWrite, E: CountedWrite>(
+fn finish<O: CountedWrite, E: CountedWrite>(
+    alloc: Global,
     ended: Result<Exit, Fault<'_>>,
     console: &mut Console<O, E>,
 ) -> Exit
@@ -130,12 +154,12 @@ fn conclude<O: CountedWrite, E: CountedWrite>(
 {
     match ended {
         Ok(exit) => exit,
-        Err(fault) => console.complain(fault),
+        Err(fault) => report(alloc, fault, console),
     }
 }
 
-/// Runs the command of a request on its files. A fault before that is reported. Notes give the cause of a fault, if the
-/// host knows it. `notes` takes the notes before a report.
+/// Runs the command of a request on its files, and reports a fault before that. Notes have the cause of a fault, if the
+/// system knows it. `notes` takes the notes before a report.
 pub(crate) fn run_request<R: Disk + Clock + AllocGlobal, O: CountedWrite, E: CountedWrite>(
     rt: &R,
     terminal: &Terminal<'_, R>,
@@ -146,10 +170,9 @@ pub(crate) fn run_request<R: Disk + Clock + AllocGlobal, O: CountedWrite, E: Cou
     requires console { CanNote console.old }
     requires notes { CanCount (E.count notes.old) }
 {
-    note_folders(rt, terminal, request);
     let ended = serve_request(rt, terminal, request, console, notes);
     note_fault(rt, terminal, request, &ended);
-    let exit = conclude(ended, console);
+    let exit = finish(rt.alloc(), ended, console);
     if exit == Exit::Fault {
         note_marks(rt, terminal, request);
     }
@@ -181,33 +204,46 @@ fn serve_request<'a, R: Disk + Clock + AllocGlobal, O: CountedWrite, E: CountedW
     ensures { OnErr result (CanCount console.new.errors_failed) }
 {
     match request {
-        Request::Own => Ok(self_command(rt.alloc(), &mut Counting::new(rt.input()), console)),
+        Request::Demo => serve_own(rt, terminal, console),
         Request::Modes(words) => serve_modes(rt, words, console),
         Request::Rows(words) => serve_rows(rt, words, console),
-        Request::Table(words) => serve_table(rt, words, console),
-        Request::Judge(words) => serve_judge(rt, words, console),
-        Request::Check(words) => serve_check(rt, words, console),
-        Request::Noise(words) => serve_noise(rt, terminal, words, console),
+        Request::Table(words) => serve_table(rt, terminal, words, console),
+        Request::Judge(words) => serve_judge(rt, terminal, words, console),
+        Request::Check(words) => serve_check(rt, terminal, words, console),
+        Request::Noise(words) => serve_noise(terminal, words, console),
         Request::Scan(words) => serve_scan(rt, terminal, words, console),
-        Request::Join(words) => serve_join(rt, words, console),
-        Request::Audit(words) => serve_audit(rt, words, console),
+        Request::Join(words) => serve_join(rt, terminal, words, console),
+        Request::Audit(words) => serve_audit(rt, terminal, words, console),
         Request::Mod(words) => with_link(rt, terminal, LinkRequest::Mod(words), console, notes),
         Request::Demod(words) => serve_demod(rt, terminal, words, console, notes),
         Request::Run(words) => serve_run(rt, terminal, words, console, notes),
     }
 }
 
+/// The program without arguments.
+fn serve_own<R: Disk + AllocGlobal, O: CountedWrite, E: CountedWrite>(
+    rt: &R,
+    terminal: &Terminal<'_, R>,
+    console: &mut Console<O, E>,
+) -> Result<Exit, Fault<'static>>
+    requires { CanNote console.old }
+    ensures { OnErr result (CanCount console.new.errors_failed) }
+{
+    let mut input = standard_input(terminal);
+    Ok(self_command(rt.alloc(), &mut input, console))
+}
+
 /// The shape of three options.
-fn shape_of(words: ShapeWords) -> Result<Shape, Fault<'static>> {
+fn shape_of(words: ShapeArguments) -> Result<Shape, Fault<'static>> {
     let [group, groups, q] = [words.group, words.groups, words.q].map(usize::from);
     Shape::new(group, groups, q).ok_or(Fault::refused(FaultText::of("no such shape")))
 }
 
-/// The shape of the code that `judge` is asked for.
-fn shape_by(code: CodeWords) -> Result<Shape, Fault<'static>> {
+/// The shape of the code of `judge`.
+fn shape_by(code: CodeArguments) -> Result<Shape, Fault<'static>> {
     match code {
-        CodeWords::Shape(words) => shape_of(words),
-        CodeWords::Mode { modcod, short } => Ok(mode_of(modcod, short, false)?.shape()),
+        CodeArguments::Shape(words) => shape_of(words),
+        CodeArguments::Mode { modcod, short } => Ok(mode_of(modcod, short, false)?.shape()),
     }
 }
 
@@ -220,7 +256,7 @@ pub(crate) fn mode_of(modcod: u8, short: bool, pilots: bool) -> Result<Mode, Fau
 fn serve_demod<'a, R: Disk + Clock + AllocGlobal, O: CountedWrite, E: CountedWrite>(
     rt: &R,
     terminal: &Terminal<'_, R>,
-    words: &DemodWords<'a>,
+    words: &DemodArguments<'a>,
     console: &mut Console<O, E>,
     notes: &mut E,
 ) -> Result<Exit, Fault<'a>>
@@ -237,7 +273,7 @@ fn serve_demod<'a, R: Disk + Clock + AllocGlobal, O: CountedWrite, E: CountedWri
 fn serve_run<'a, R: Disk + Clock + AllocGlobal, O: CountedWrite, E: CountedWrite>(
     rt: &R,
     terminal: &Terminal<'_, R>,
-    words: &RunWords<'a>,
+    words: &RunArguments<'a>,
     console: &mut Console<O, E>,
     notes: &mut E,
 ) -> Result<Exit, Fault<'a>>
@@ -253,7 +289,7 @@ fn serve_run<'a, R: Disk + Clock + AllocGlobal, O: CountedWrite, E: CountedWrite
 /// `modes`.
 fn serve_modes<R: Disk + AllocGlobal, O: CountedWrite, E: CountedWrite>(
     rt: &R,
-    words: &ModesWords,
+    words: &ModesArguments,
     console: &mut Console<O, E>,
 ) -> Result<Exit, Fault<'static>>
     requires { CanNote console.old }
@@ -269,7 +305,7 @@ fn serve_modes<R: Disk + AllocGlobal, O: CountedWrite, E: CountedWrite>(
 /// `rows`.
 fn serve_rows<R: Disk + AllocGlobal, O: CountedWrite, E: CountedWrite>(
     rt: &R,
-    words: &RowsWords,
+    words: &RowsArguments,
     console: &mut Console<O, E>,
 ) -> Result<Exit, Fault<'static>>
     requires { CanNote console.old }
@@ -283,21 +319,23 @@ fn serve_rows<R: Disk + AllocGlobal, O: CountedWrite, E: CountedWrite>(
 /// `table`.
 fn serve_table<'a, R: Disk + AllocGlobal, O: CountedWrite, E: CountedWrite>(
     rt: &R,
-    words: &TableWords<'a>,
+    terminal: &Terminal<'_, R>,
+    words: &TableArguments<'a>,
     console: &mut Console<O, E>,
 ) -> Result<Exit, Fault<'a>>
     requires { CanNote console.old }
     ensures { OnErr result (CanCount console.new.errors_failed) }
 {
     let mode = mode_of(words.modcod, words.short, false)?;
-    let mut rows = open_input(rt, words.rows)?;
+    let mut rows = open_input(terminal, words.rows)?;
     Ok(table_command(rt.alloc(), &mode, words.quiet, &mut rows, console))
 }
 
 /// `judge`. The certificate's file is opened before the others.
 fn serve_judge<'a, R: Disk + AllocGlobal, O: CountedWrite, E: CountedWrite>(
     rt: &R,
-    words: &JudgeWords<'a>,
+    terminal: &Terminal<'_, R>,
+    words: &JudgeArguments<'a>,
     console: &mut Console<O, E>,
 ) -> Result<Exit, Fault<'a>>
     requires { CanNote console.old }
@@ -305,7 +343,7 @@ fn serve_judge<'a, R: Disk + AllocGlobal, O: CountedWrite, E: CountedWrite>(
 {
     let shape = shape_by(words.code)?;
     let tuning = judging_of(words)?;
-    let mut files = open_judge(rt, words)?;
+    let mut files = open_judge(terminal, words)?;
     if words.each {
         return Ok(judge_each_command(
             rt.alloc(),
@@ -331,13 +369,14 @@ fn serve_judge<'a, R: Disk + AllocGlobal, O: CountedWrite, E: CountedWrite>(
 /// `check`.
 fn serve_check<'a, R: Disk + AllocGlobal, O: CountedWrite, E: CountedWrite>(
     rt: &R,
-    words: &CheckWords<'a>,
+    terminal: &Terminal<'_, R>,
+    words: &CheckArguments<'a>,
     console: &mut Console<O, E>,
 ) -> Result<Exit, Fault<'a>>
     requires { CanNote console.old }
     ensures { OnErr result (CanCount console.new.errors_failed) }
 {
-    let (mut rows, mut certificate) = open_inputs(rt, words.rows, words.certificate)?;
+    let (mut rows, mut certificate) = open_inputs(terminal, words.rows, words.certificate)?;
     if words.each {
         return Ok(check_each_command(rt.alloc(), &mut rows, &mut certificate, console));
     }
@@ -347,9 +386,8 @@ fn serve_check<'a, R: Disk + AllocGlobal, O: CountedWrite, E: CountedWrite>(
 /// `noise`. The rest of the buffer is written before the command has ended well; after a failed write nothing
 /// more is.
 fn serve_noise<'a, R: Disk + Clock + AllocGlobal, O: CountedWrite, E: CountedWrite>(
-    rt: &R,
     terminal: &Terminal<'_, R>,
-    words: &NoiseWords<'a>,
+    words: &NoiseArguments<'a>,
     console: &mut Console<O, E>,
 ) -> Result<Exit, Fault<'a>>
     requires { CanNote console.old }
@@ -357,7 +395,7 @@ fn serve_noise<'a, R: Disk + Clock + AllocGlobal, O: CountedWrite, E: CountedWri
 {
     let channel = channel_of(words.channel)?;
     let show = show_on(terminal, Pace::AddingNoise, words.progress);
-    let (mut from, mut to) = open_noise(rt, &show, words.from, words.to)?;
+    let (mut from, mut to) = open_noise(terminal, &show, words.from, words.to)?;
     let exit = noise_command(channel, &mut from, &mut to, console);
     show.finish();
     match to.into_inner().into_inner().finish() {
@@ -370,14 +408,14 @@ fn serve_noise<'a, R: Disk + Clock + AllocGlobal, O: CountedWrite, E: CountedWri
 fn serve_scan<'a, R: Disk + Clock + AllocGlobal, O: CountedWrite, E: CountedWrite>(
     rt: &R,
     terminal: &Terminal<'_, R>,
-    words: &ScanWords<'a>,
+    words: &ScanArguments<'a>,
     console: &mut Console<O, E>,
 ) -> Result<Exit, Fault<'a>>
     requires { CanNote console.old }
     ensures { OnErr result (CanCount console.new.errors_failed) }
 {
     let show = show_on(terminal, Pace::Scanning, words.progress);
-    let mut symbols = open_scan(rt, &show, words)?;
+    let mut symbols = open_scan(terminal, &show, words)?;
     let exit = scan_command(rt.alloc(), words.symbols, &mut symbols, console);
     show.finish();
     Ok(exit)
@@ -386,21 +424,23 @@ fn serve_scan<'a, R: Disk + Clock + AllocGlobal, O: CountedWrite, E: CountedWrit
 /// `join`.
 fn serve_join<'a, R: Disk + AllocGlobal, O: CountedWrite, E: CountedWrite>(
     rt: &R,
-    words: &JoinWords<'a>,
+    terminal: &Terminal<'_, R>,
+    words: &JoinArguments<'a>,
     console: &mut Console<O, E>,
 ) -> Result<Exit, Fault<'a>>
     requires { CanNote console.old }
     ensures { OnErr result (CanCount console.new.errors_failed) }
 {
     let mode = mode_of(words.modcod, words.short, false)?;
-    let (mut bbframes, mut packets) = open_join(rt, words)?;
+    let (mut bbframes, mut packets) = open_join(terminal, words)?;
     Ok(join_command(rt.alloc(), mode, &mut bbframes, &mut packets, console))
 }
 
 /// `audit`.
 fn serve_audit<'a, R: Disk + AllocGlobal, O: CountedWrite, E: CountedWrite>(
     rt: &R,
-    words: &AuditWords<'a>,
+    terminal: &Terminal<'_, R>,
+    words: &AuditArguments<'a>,
     console: &mut Console<O, E>,
 ) -> Result<Exit, Fault<'a>>
     requires { CanNote console.old }
@@ -408,7 +448,7 @@ fn serve_audit<'a, R: Disk + AllocGlobal, O: CountedWrite, E: CountedWrite>(
 {
     let setup = setup_of(words.link)?;
     let divisor = divisor_of(&setup.mode, words)?;
-    let (mut rows, mut symbols, mut report, mut certificates) = open_audit(rt, words)?;
+    let (mut rows, mut symbols, mut report, mut certificates) = open_audit(terminal, words)?;
     Ok(audit_command(
         rt.alloc(),
         setup,

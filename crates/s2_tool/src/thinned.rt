@@ -1,11 +1,11 @@
-//! `--every N`: a report with some of its lines only, and sums in place of the others. This is plain code.
+//! `--every N`: a report with only some of its lines, and totals instead of the others. This is plain code.
 ghost use Rattle.std.specs.Prelude.{◌≡◌, None};
 ghost use Rattle.s2_mode.specs.Counts.{CanCount, CountsFault};
 
 use s2_console::Line;
 use s2_mode::{Counted, CountedWrite, WriteFault, write_full};
 
-/// The frames whose lines came so far, those that were delivered, and those of them that were certified.
+/// The number of frames so far, of those delivered, and of those of them that are certified.
 #[derive(Clone, Copy)]
 struct FrameSums {
     frames: u64,
@@ -22,7 +22,7 @@ impl FrameSums {
         }
     }
 
-    /// The sums with the frame of one more line.
+    /// The totals with the frame of one more line.
     fn with_line(self, line: &str) -> FrameSums {
         let delivered = line.contains(" fixed ");
         let certified = line.contains(" sole ") || line.contains(" most-likely ");
@@ -35,12 +35,12 @@ impl FrameSums {
         }
     }
 
-    /// Whether a number of frames has come once more.
+    /// Whether the number of frames is a multiple of N.
     fn are_due(self, every: u32) -> bool {
         every != 0 && self.frames % u64::from(every) == 0
     }
 
-    /// The line of the sums.
+    /// The line of totals.
     fn line(self) -> Line {
         let mut line = Line::new();
         line.push_number("sum frames ", self.frames);
@@ -51,10 +51,11 @@ impl FrameSums {
     }
 }
 
-/// A writer of a report that passes on the lines of every N-th frame and of frames that are not delivered, and all lines of
-/// other kinds. After each N frames comes a line of their sums. The first line says N. If N is 0, it passes on everything.
+/// A writer of a report that passes on the lines of every N-th frame and of frames that are not delivered, and all
+/// lines of other kinds. After every N frames it adds a line of totals. The first line has N. If N is 0, it passes on
+/// everything.
 ///
-/// To contracts it has the failed calls of the writer that it holds, and its bytes are not known.
+/// In contracts, it has the failed calls of the inner writer; its bytes are not known.
 #[derive(Drop)]
 pub(crate) struct Thinned<W> {
     inner: W,
@@ -64,7 +65,7 @@ pub(crate) struct Thinned<W> {
 }
 
 impl<W> Thinned<W> {
-    /// No line has come so far.
+    /// No line so far.
     pub(crate) fn new(inner: W, every: u32) -> Thinned<W>
         ensures { result.inner ≡ inner }
     {
@@ -93,7 +94,7 @@ impl<W: CountedWrite> Thinned<W> {
         write_full(&mut self.inner, line.as_bytes())
     }
 
-    /// Passes on the line of a frame, or not, and writes the sums if they are due.
+    /// Passes on the line of a frame or drops it, and writes the totals if they are due.
     fn take_frame(&mut self, line: &str) -> Result<(), WriteFault>
         requires { CanCount (W.count self.old.inner) }
         ensures { CountsFault (W.count self.old.inner) (W.count self.new.inner) result }
@@ -110,7 +111,7 @@ impl<W: CountedWrite> Thinned<W> {
         Ok(())
     }
 
-    /// Passes on a line, or not.
+    /// Passes on a line, or drops it.
     fn take(&mut self, line: &[u8]) -> Result<(), WriteFault>
         requires { CanCount (W.count self.old.inner) }
         ensures { CountsFault (W.count self.old.inner) (W.count self.new.inner) result }
@@ -139,7 +140,7 @@ impl<W: Counted> Counted for Thinned<W> {
 impl<W: CountedWrite> CountedWrite for Thinned<W> {
     ghost contents = { λ w. None };
 
-    /// Takes a line. The writers of lines give a whole one with one call.
+    /// Takes a line. Each call has a whole line.
     fn write(&mut self, buf: &[u8]) -> Result<usize, WriteFault> {
         if self.every == 0 {
             return self.inner.write(buf);

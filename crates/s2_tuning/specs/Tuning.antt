@@ -3,7 +3,7 @@ use Rattle.std.specs.Prelude.{◌≡◌, IsTrue, Bool, false, ℕ, ◌<◌, ◌�
 use Rattle.s2_soft.specs.Divisors.{IsDivisor, default_divisor}
 use Rattle.s2_minsum.specs.Factors.{IsFactor, default_factor}
 use Rattle.s2_plframe.specs.Constants.{header_threshold}
-use Rattle.s2_plframe.specs.Search.{IsLock}
+use Rattle.s2_plframe.specs.Search.{IsHeaderTolerance}
 use Rattle.s2_link.specs.declared.fault.SetupFault.{SetupFault}
 use Rattle.s2_link.specs.declared.fault.SetupFault.TheVariants as faults
 use Rattle.s2_tuning.specs.Limits.{max_rounds, max_passes}
@@ -35,7 +35,7 @@ pub record IsTuning (tuning : Tuning) : Type 0 where
   pub passes : tuning.passes ≤ max_passes
   pub divisor : IsDivisor tuning.divisor
   pub factor : IsFactor tuning.factor
-  pub max_header_errors : IsLock tuning.max_header_errors
+  pub max_header_errors : IsHeaderTolerance tuning.max_header_errors
   pub uncertified : IsTrue tuning.uncertified → tuning.passes ≡ 0
 
 -- when rounds and passes are refused: the first of two

@@ -3,12 +3,12 @@ ghost use Rattle.std.specs.Prelude.{◌≡◌, ◌≤◌, IfOk, IfErr, true};
 ghost use Rattle.s2_tuning.specs.Limits.{max_rounds, max_passes};
 ghost use Rattle.s2_soft.specs.Divisors.{IsDivisor};
 ghost use Rattle.s2_minsum.specs.Factors.{IsFactor};
-ghost use Rattle.s2_plframe.specs.Search.{IsLock};
+ghost use Rattle.s2_plframe.specs.Search.{IsHeaderTolerance};
 ghost use Rattle.s2_tuning.specs.Tuning.{tuning_of, IsTuning, RefusesTuning};
 
 use s2_link::SetupFault;
 use s2_minsum::Factor;
-use s2_plframe::Lock;
+use s2_plframe::HeaderTolerance;
 use s2_soft::Divisor;
 use std::marker::Model;
 
@@ -32,7 +32,7 @@ pub struct Tuning {
     passes: u32,
     divisor: Divisor,
     factor: Factor,
-    max_header_errors: Lock,
+    max_header_errors: HeaderTolerance,
     uncertified: bool,
     figures: bool,
 }
@@ -93,7 +93,7 @@ impl Tuning {
             passes,
             divisor: Divisor::usual(),
             factor: Factor::usual(),
-            max_header_errors: Lock::usual(),
+            max_header_errors: HeaderTolerance::usual(),
             uncertified: false,
             figures: false,
         })
@@ -130,7 +130,7 @@ impl Tuning {
     }
 
     /// The same, but with this limit of wrong header bits.
-    pub fn with_max_header_errors(self, max_header_errors: Lock) -> Tuning
+    pub fn with_max_header_errors(self, max_header_errors: HeaderTolerance) -> Tuning
         ensures { result ≡ record self { max_header_errors = max_header_errors } }
     {
         Tuning {
@@ -212,9 +212,9 @@ impl Tuning {
     }
 
     /// How many bits of a header may be wrong right after a frame.
-    pub fn max_header_errors(self) -> Lock
+    pub fn max_header_errors(self) -> HeaderTolerance
         ensures is { result ≡ self.max_header_errors }
-        ensures known { IsLock result }
+        ensures known { IsHeaderTolerance result }
     {
         // the promise on the number is a part of this promise
         let _number = self.max_header_errors.get();

@@ -7,7 +7,7 @@ use crate::best::{Best, best_of};
 use crate::tuning::{DEFAULT_ROUNDS, Tuning};
 use s2_minsum::Factor;
 use s2_mode::Mode;
-use s2_plframe::Lock;
+use s2_plframe::HeaderTolerance;
 use s2_soft::Divisor;
 
 /// A number that is given, or its default.
@@ -97,7 +97,7 @@ fn tuning_with(best: Best, wanted: Wanted) -> Option<Tuning>
 {
     let divisor = Divisor::new(number_by(wanted.tuned, wanted.divisor, best.divisor))?;
     let factor = Factor::new(number_by(wanted.tuned, wanted.factor, best.factor))?;
-    let max_header_errors = Lock::new(number_by(
+    let max_header_errors = HeaderTolerance::new(number_by(
         wanted.tuned,
         wanted.max_header_errors,
         BEST_MAX_HEADER_ERRORS,

@@ -3,11 +3,11 @@ use Rattle.std.specs.Prelude.{◌≡◌, ◌≢◌, ℕ, ◌<◌, ◌≤◌, ◌
 use Rattle.std.specs.Str.Parse.{IsNumeral, digits_value, without_leading_plus}
 use Rattle.s2_words.specs.declared.request.Seeds.{Seeds}
 
--- a seed: a number of 64 bits in decimal digits, with or without a plus before it
+-- a seed: an unsigned 64-bit number in decimal digits, with or without a plus before it
 abbrev pub IsSeedText : ℕ → List ℕ → Type 0
 IsSeedText seed text = IsNumeral 10 (without_leading_plus text) × (digits_value 10 (without_leading_plus text) ≡ seed) × (seed < 2 ^ 64)
 
--- a range of seeds: the first and the last of them with two points between, the first not above the last
+-- a range of seeds: the first and the last with two dots between them, the first at most the last
 pub record IsSeedsText (seeds : Seeds) (text : List ℕ) : Type 0 where
   pub first : List ℕ
   pub last : List ℕ
@@ -16,6 +16,6 @@ pub record IsSeedsText (seeds : Seeds) (text : List ℕ) : Type 0 where
   pub last_is : IsSeedText seeds.last last
   pub ordered : seeds.first ≤ seeds.last
 
--- no byte is a point
+-- no byte is a dot
 abbrev pub HasNoPoint : List ℕ → Type 0
 HasNoPoint text = (i : ℕ) → i < length text → get_or text i 0 ≢ 46

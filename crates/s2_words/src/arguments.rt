@@ -1,4 +1,4 @@
-//! The arguments of all commands: options and files, with their forms, ranges, defaults and help.
+//! The arguments of all commands: options and files, with their kinds, ranges, defaults and help texts.
 use crate::limits::{
     LEAST_FACTOR, LEAST_LOCK, MAX_ADDRESSES, MAX_FACTOR, MAX_LOCK, MAX_NUMBER, MAX_PASSES,
     MAX_ROUNDS,
@@ -21,16 +21,16 @@ pub(crate) const DEFAULT_FACTOR_TEXT: &str = "12";
 /// The decimal digits of the default lock.
 pub(crate) const DEFAULT_LOCK_TEXT: &str = "12";
 
-/// The exit is 0 if every frame is certified. This is the default.
+/// The exit status is 0 if every frame is certified. This is the default.
 pub(crate) const CERTAINTY_TEXT: &str = "certainty";
 
-/// The exit is 0 if every frame is delivered, and nothing is skipped.
+/// The exit status is 0 if every frame is delivered, and no symbols are skipped.
 pub(crate) const DELIVERY_TEXT: &str = "delivery";
 
-/// What may decide the exit of a reception.
+/// The values of `--exit-by`.
 pub(crate) const EXIT_BY_TEXTS: [&str; 2] = [CERTAINTY_TEXT, DELIVERY_TEXT];
 
-/// The value of an option. What the parser takes as any text is tested when it is read.
+/// The value of an option. If the parser accepts any text, the value is checked when it is read.
 #[derive(Clone, Copy)]
 pub(crate) struct Value {
     /// Its name in the help.
@@ -41,14 +41,14 @@ pub(crate) struct Value {
     pub is_required: bool,
 }
 
-/// The form of an argument on the command line.
+/// The kind of an argument.
 #[derive(Clone, Copy)]
-pub(crate) enum Form {
+pub(crate) enum ArgumentKind {
     /// `--name`.
     Flag,
     /// `--name VALUE`.
     Valued(Value),
-    /// A file, by its place.
+    /// A file, identified by its position.
     File,
 }
 
@@ -56,11 +56,11 @@ pub(crate) enum Form {
 #[derive(Clone, Copy)]
 pub(crate) struct Argument {
     pub name: &'static str,
-    pub form: Form,
+    pub form: ArgumentKind,
     pub help: &'static str,
 }
 
-/// The name of a file, which may be left out.
+/// The name of a file, which is optional.
 const FILE: Value = Value {
     name: "FILE",
     allowed: ValueParser::String,
@@ -68,45 +68,45 @@ const FILE: Value = Value {
     is_required: false,
 };
 
-/// Any number of 64 bits.
+/// Any unsigned 64-bit number.
 const ANY: ValueParser<'static> = ValueParser::Unsigned(0, u64::MAX);
 
 pub(crate) const GROUP: Argument = Argument {
     name: "group",
-    form: Form::Valued(Value {
+    form: ArgumentKind::Valued(Value {
         name: "G",
         allowed: ValueParser::Signed(1, MAX_GROUP as i64),
         is_required: true,
         ..FILE
     }),
-    help: "Bits of a group, 1 to 360",
+    help: "Bits per group, 1 to 360",
 };
 
 pub(crate) const GROUPS: Argument = Argument {
     name: "groups",
-    form: Form::Valued(Value {
+    form: ArgumentKind::Valued(Value {
         name: "N",
         allowed: ValueParser::Signed(1, MAX_BITS as i64 - 1),
         is_required: true,
         ..FILE
     }),
-    help: "Groups of information bits, 1 to 64799",
+    help: "Number of groups of information bits, 1 to 64799",
 };
 
 pub(crate) const Q: Argument = Argument {
     name: "q",
-    form: Form::Valued(Value {
+    form: ArgumentKind::Valued(Value {
         name: "Q",
         allowed: ValueParser::Signed(1, MAX_BITS as i64 - 1),
         is_required: true,
         ..FILE
     }),
-    help: "Checks by which a group's next bit moves on, 1 to 64799",
+    help: "Step in check index between consecutive bits of a group (the standard's q), 1 to 64799",
 };
 
-/// The numbers of a shape, for a command that takes a mode in their place.
+/// The numbers of a shape, for a command that also accepts a mode.
 pub(crate) const GROUP_OR_MODE: Argument = Argument {
-    form: Form::Valued(Value {
+    form: ArgumentKind::Valued(Value {
         name: "G",
         allowed: ValueParser::Signed(1, MAX_GROUP as i64),
         ..FILE
@@ -115,7 +115,7 @@ pub(crate) const GROUP_OR_MODE: Argument = Argument {
 };
 
 pub(crate) const GROUPS_OR_MODE: Argument = Argument {
-    form: Form::Valued(Value {
+    form: ArgumentKind::Valued(Value {
         name: "N",
         allowed: ValueParser::Signed(1, MAX_BITS as i64 - 1),
         ..FILE
@@ -124,7 +124,7 @@ pub(crate) const GROUPS_OR_MODE: Argument = Argument {
 };
 
 pub(crate) const Q_OR_MODE: Argument = Argument {
-    form: Form::Valued(Value {
+    form: ArgumentKind::Valued(Value {
         name: "Q",
         allowed: ValueParser::Signed(1, MAX_BITS as i64 - 1),
         ..FILE
@@ -134,46 +134,46 @@ pub(crate) const Q_OR_MODE: Argument = Argument {
 
 pub(crate) const WEIGHT: Argument = Argument {
     name: "weight",
-    form: Form::Valued(Value {
+    form: ArgumentKind::Valued(Value {
         name: "W",
         allowed: ValueParser::Signed(1, MAX_ADDRESSES as i64),
         is_required: true,
         ..FILE
     }),
-    help: "Addresses of each row, 1 to 24",
+    help: "Addresses per row, 1 to 24",
 };
 
 pub(crate) const MODCOD: Argument = Argument {
     name: "modcod",
-    form: Form::Valued(Value {
+    form: ArgumentKind::Valued(Value {
         name: "M",
         is_required: true,
         ..FILE
     }),
-    help: "MODCOD, 1 to 17, or the mode's name, in small letters or in capitals, as qpsk3/4 or 8PSK2/3: `s2 modes` lists them",
+    help: "MODCOD, 1 to 17, or the name of the mode in lower or upper case, for example qpsk3/4 or 8PSK2/3: `s2 modes` lists them",
 };
 
-/// The same option, for a command that can do without it.
+/// The same option, for a command that does not require it.
 pub(crate) const MODCOD_OR_NONE: Argument = Argument {
-    form: Form::Valued(Value { name: "M", ..FILE }),
+    form: ArgumentKind::Valued(Value { name: "M", ..FILE }),
     ..MODCOD
 };
 
 pub(crate) const SHORT: Argument = Argument {
     name: "short",
-    form: Form::Flag,
-    help: "Frames of 16200 bits, and not of 64800",
+    form: ArgumentKind::Flag,
+    help: "Short frames: 16200 bits instead of 64800",
 };
 
 pub(crate) const PILOTS: Argument = Argument {
     name: "pilots",
-    form: Form::Flag,
+    form: ArgumentKind::Flag,
     help: "Frames with pilot blocks; takes no value",
 };
 
 pub(crate) const NUMBER: Argument = Argument {
     name: "number",
-    form: Form::Valued(Value {
+    form: ArgumentKind::Valued(Value {
         name: "N",
         allowed: ValueParser::Signed(0, MAX_NUMBER as i64),
         default: Some("0"),
@@ -184,146 +184,152 @@ pub(crate) const NUMBER: Argument = Argument {
 
 pub(crate) const ROLL_OFF: Argument = Argument {
     name: "ro",
-    form: Form::Valued(Value {
+    form: ArgumentKind::Valued(Value {
         name: "R",
         default: Some("0"),
         ..FILE
     }),
-    help: "Roll-off that headers tell: 0 for 0.35, 1 for 0.25, 2 for 0.20",
+    help: "Roll-off written into the headers: 0 for 0.35, 1 for 0.25, 2 for 0.20",
 };
 
 /// The same option, for a command that only receives.
 pub(crate) const ROLL_OFF_READ: Argument = Argument {
-    help: "Roll-off of the sender, 0 to 2, without effect: headers of any roll-off are received",
+    help: "Roll-off of the sender, 0 to 2; no effect: headers with any roll-off are accepted",
     ..ROLL_OFF
 };
 
 pub(crate) const DUMMY: Argument = Argument {
     name: "dummy",
-    form: Form::Valued(Value {
+    form: ArgumentKind::Valued(Value {
         name: "D",
         allowed: ValueParser::Signed(0, u16::MAX as i64),
         default: Some("0"),
         ..FILE
     }),
-    help: "A dummy frame behind every D-th frame, 0 to 65535: 0 for none",
+    help: "Insert a dummy frame after every D frames, 0 to 65535: 0 for none",
+};
+
+pub(crate) const RESYNC: Argument = Argument {
+    name: "resync",
+    form: ArgumentKind::Flag,
+    help: "After a wrong sync byte, continue at the next place with five sync bytes at distance 188; count the bytes left out",
 };
 
 pub(crate) const ROUNDS: Argument = Argument {
     name: "rounds",
-    form: Form::Valued(Value {
+    form: ArgumentKind::Valued(Value {
         name: "K",
         allowed: ValueParser::Signed(1, MAX_ROUNDS as i64),
         default: Some(DEFAULT_ROUNDS_TEXT),
         ..FILE
     }),
-    help: "Rounds of min-sum at most for each frame, 1 to 200",
+    help: "Maximum number of min-sum rounds (iterations) per frame, 1 to 200",
 };
 
 pub(crate) const PASSES: Argument = Argument {
     name: "passes",
-    form: Form::Valued(Value {
+    form: ArgumentKind::Valued(Value {
         name: "P",
         allowed: ValueParser::Signed(0, MAX_PASSES as i64),
         default: Some("0"),
         ..FILE
     }),
-    help: "Passes at most that look for a certificate of what has none yet, 0 to 1000",
+    help: "Maximum number of passes of the search for a certificate, 0 to 1000",
 };
 
 pub(crate) const DIVISOR: Argument = Argument {
     name: "divisor",
-    form: Form::Valued(Value {
+    form: ArgumentKind::Valued(Value {
         name: "D",
         allowed: ValueParser::Names(&DIVISOR_TEXTS),
         default: Some(DEFAULT_DIVISOR_TEXT),
         ..FILE
     }),
-    help: "What soft values are divided by: 16384 at low code rates, more for stronger symbols",
+    help: "Divisor of the soft values (LLR scaling): 16384 for low code rates, larger for larger amplitudes",
 };
 
 /// The same option, for a report that was made with it.
 pub(crate) const DIVISOR_OF_REPORT: Argument = Argument {
-    help: "What soft values were divided by: the divisor of the reception",
+    help: "Divisor of the soft values: the one that the report was made with",
     ..DIVISOR
 };
 
 pub(crate) const FACTOR: Argument = Argument {
     name: "factor",
-    form: Form::Valued(Value {
+    form: ArgumentKind::Valued(Value {
         name: "F",
         allowed: ValueParser::Signed(LEAST_FACTOR as i64, MAX_FACTOR as i64),
         default: Some(DEFAULT_FACTOR_TEXT),
         ..FILE
     }),
-    help: "Sixteenths of a size that messages of min-sum have, 8 to 16: more at low code rates",
+    help: "Min-sum normalization factor in sixteenths, 8 to 16: larger for low code rates",
 };
 
 pub(crate) const LOCK: Argument = Argument {
     name: "lock",
-    form: Form::Valued(Value {
+    form: ArgumentKind::Valued(Value {
         name: "H",
         allowed: ValueParser::Signed(LEAST_LOCK as i64, MAX_LOCK as i64),
         default: Some(DEFAULT_LOCK_TEXT),
         ..FILE
     }),
-    help: "Bits of a header that may be wrong right behind a frame, 12 to 40; elsewhere 12 may",
+    help: "Maximum number of wrong header bits directly after a frame, 12 to 40; elsewhere it is always 12",
 };
 
 pub(crate) const UNCERTIFIED: Argument = Argument {
     name: "uncertified",
-    form: Form::Flag,
-    help: "No certificate is looked for of what min-sum finds, which is `parity` then; not with --passes",
+    form: ArgumentKind::Flag,
+    help: "Do not search for certificates after min-sum: such frames are reported as `parity`; excludes --passes",
 };
 
 pub(crate) const TUNED: Argument = Argument {
     name: "tuned",
-    form: Form::Flag,
-    help: "The factor, divisor and rounds that are best for the mode, --lock 30 and --passes 96; words that stand beside it win",
+    form: ArgumentKind::Flag,
+    help: "Use the best factor, divisor and rounds for the mode, --lock 30 and --passes 96; options given explicitly override it",
 };
 
 /// The same option, for a report that was made with it.
 pub(crate) const TUNED_REPORT: Argument = Argument {
-    help: "The divisor that --tuned sets for the mode, if the report was made with --tuned; --divisor wins",
+    help: "Use the divisor that --tuned sets for the mode, if the report was made with --tuned; --divisor overrides it",
     ..TUNED
 };
 
 pub(crate) const SEED: Argument = Argument {
     name: "seed",
-    form: Form::Valued(Value {
+    form: ArgumentKind::Valued(Value {
         name: "S",
         allowed: ANY,
         is_required: true,
         ..FILE
     }),
-    help: "Seed of the generator, any number of 64 bits",
+    help: "Seed of the random generator, an unsigned 64-bit number",
 };
 
 pub(crate) const LEVEL: Argument = Argument {
     name: "level",
-    form: Form::Valued(Value {
+    form: ArgumentKind::Valued(Value {
         name: "L",
         allowed: ValueParser::Signed(0, u16::MAX as i64),
         ..FILE
     }),
-    help: "Level of the noise, 0 to 65535: a standard deviation of 0.816 L in each component, where a QPSK point has 700",
+    help: "Noise level, 0 to 65535: a standard deviation of 0.816 L in I and in Q; a QPSK point has 700 in each",
 };
 
 pub(crate) const ESN0: Argument = Argument {
     name: "esn0",
-    form: Form::Valued(Value { name: "DB", ..FILE }),
-    help: "Es/N0 in dB, -10 to 40 with two decimals at most: Gaussian noise, for symbols of the amplitude that `mod` sends",
+    form: ArgumentKind::Valued(Value { name: "DB", ..FILE }),
+    help: "Es/N0 in dB, -10 to 40 with at most two decimals: Gaussian noise, relative to the amplitude that `mod` sends",
 };
 
 pub(crate) const RATE: Argument = Argument {
     name: "rate",
-    form: Form::Valued(Value { name: "R", ..FILE }),
-    help: "Symbols a second, 1 to 1000000000, also as 27.5M, 27.5e6 or 27500k: adds the bits a second of the transport stream",
+    form: ArgumentKind::Valued(Value { name: "R", ..FILE }),
+    help: "Symbol rate in symbols per second, 1 to 1000000000, also as 27.5M, 27.5e6 or 27500k: adds the net bit rate to each line",
 };
 
-/// The same option, for a command that can have many seeds in its place.
+/// The same option, for a command that also accepts a range of seeds.
 pub(crate) const SEED_OR_SEEDS: Argument = Argument {
-    form: Form::Valued(Value {
+    form: ArgumentKind::Valued(Value {
         name: "S",
         allowed: ANY,
         ..FILE
@@ -333,138 +339,138 @@ pub(crate) const SEED_OR_SEEDS: Argument = Argument {
 
 pub(crate) const SEEDS: Argument = Argument {
     name: "seeds",
-    form: Form::Valued(Value {
+    form: ArgumentKind::Valued(Value {
         name: "A..B",
         ..FILE
     }),
-    help: "In the place of --seed: one run for each seed from A to B, both among them, and a last line of sums",
+    help: "Instead of --seed: one run per seed from A to B inclusive, then a line of totals",
 };
 
 pub(crate) const FIGURES: Argument = Argument {
     name: "figures",
-    form: Form::Flag,
-    help: "Figures of the link at the end of each frame's line, and their sums at the end of the last line",
+    form: ArgumentKind::Flag,
+    help: "Add link metrics to the line of each frame, and their totals to the last line",
 };
 
 pub(crate) const EVERY: Argument = Argument {
     name: "every",
-    form: Form::Valued(Value {
+    form: ArgumentKind::Valued(Value {
         name: "N",
         allowed: ValueParser::Signed(1, u32::MAX as i64),
         ..FILE
     }),
-    help: "A line only for every N-th frame and for those that are not delivered, and a line of sums after each N: no report for `audit`",
+    help: "Print a line only for every N-th frame and for each lost frame, and a line of totals after every N frames: `audit` cannot use this report",
 };
 
 pub(crate) const EXIT_BY: Argument = Argument {
     name: "exit-by",
-    form: Form::Valued(Value {
+    form: ArgumentKind::Valued(Value {
         name: "BY",
         allowed: ValueParser::Names(&EXIT_BY_TEXTS),
         default: Some(CERTAINTY_TEXT),
         ..FILE
     }),
-    help: "Exit 0 if every frame is certified; by delivery, if every frame is delivered, none is cut and no symbols were passed over",
+    help: "certainty: exit with 0 if every frame is certified; delivery: if every frame is delivered, none is cut and no symbols were skipped",
 };
 
 pub(crate) const STRICT: Argument = Argument {
     name: "strict",
-    form: Form::Flag,
-    help: "Exit 2 also where symbols were passed over, a packet was bad or torn, or no frame was found in 90 symbols or more",
+    form: ArgumentKind::Flag,
+    help: "Also exit with 2 if symbols were skipped, a packet was bad or incomplete, or no frame was found in 90 symbols or more",
 };
 
 pub(crate) const QUIET: Argument = Argument {
     name: "quiet",
-    form: Form::Flag,
+    form: ArgumentKind::Flag,
     help: "No notes on standard error",
 };
 
 /// The same option, for a command that shows progress.
 pub(crate) const QUIET_AND_STILL: Argument = Argument {
-    help: "No notes on standard error, and no progress but by --progress",
+    help: "No notes on standard error, and no progress without --progress",
     ..QUIET
 };
 
 pub(crate) const PROGRESS: Argument = Argument {
     name: "progress",
-    form: Form::Flag,
-    help: "Progress on standard error, also where that is no terminal: a line that is rewritten once a second",
+    form: ArgumentKind::Flag,
+    help: "Show progress on standard error even if it is not a terminal: a line that is rewritten once a second",
 };
 
 pub(crate) const FIRST: Argument = Argument {
     name: "first",
-    form: Form::Valued(Value {
+    form: ArgumentKind::Valued(Value {
         name: "N",
         allowed: ValueParser::Signed(1, u32::MAX as i64),
         ..FILE
     }),
-    help: "Symbols that are looked at, 1 to 4294967295; without it all",
+    help: "Examine only the first N symbols, 1 to 4294967295; by default all",
 };
 
 pub(crate) const HARD: Argument = Argument {
     name: "hard",
-    form: Form::Flag,
-    help: "Decided bits, 0 and 1, in the place of soft values: 0 is the value 1, and 1 is -1",
+    form: ArgumentKind::Flag,
+    help: "Read hard bits instead of soft values: 0 becomes the value 1, and 1 becomes -1",
 };
 
 pub(crate) const EACH_FRAME: Argument = Argument {
     name: "each",
-    form: Form::Flag,
-    help: "Values of any number of frames, one after the other: a line of the report for each, and all certificates in one file",
+    form: ArgumentKind::Flag,
+    help: "Read the values of any number of frames, one after another: a line of the report per frame, and all certificates in one file",
 };
 
 pub(crate) const EACH_CERTIFICATE: Argument = Argument {
     name: "each",
-    form: Form::Flag,
-    help: "Certificates of any number of frames, one after the other: a line of the report for each",
+    form: ArgumentKind::Flag,
+    help: "Read any number of certificates, one after another: a line of the report per certificate",
 };
 
 pub(crate) const CERTIFICATE: Argument = Argument {
     name: "cert",
-    form: Form::Valued(FILE),
-    help: "File for the certificate of a word that is sole or most likely: none is made without it",
+    form: ArgumentKind::Valued(FILE),
+    help: "Write the certificate of a `sole` or `most-likely` word to this file",
 };
 
 pub(crate) const CERTIFICATES: Argument = Argument {
     name: "certificates",
-    form: Form::Valued(FILE),
-    help: "File for the certificates of all frames that are sole or most likely, as `check --each` reads them",
+    form: ArgumentKind::Valued(FILE),
+    help: "Write the certificates of all `sole` and `most-likely` frames to this file, for `check --each`",
 };
 
 pub(crate) const VALUES: Argument = Argument {
     name: "values",
-    form: Form::Valued(FILE),
-    help: "File for the soft values of each frame, a line each, as `judge` reads one",
+    form: ArgumentKind::Valued(FILE),
+    help: "Write the soft values to this file, a line per frame, for `judge --each`",
 };
 
 pub(crate) const CODEWORDS: Argument = Argument {
     name: "codewords",
-    form: Form::Valued(FILE),
-    help: "File for the decided bits of each frame, eight to a byte, the first one highest",
+    form: ArgumentKind::Valued(FILE),
+    help: "Write the decided bits of each frame to this file, eight bits per byte, the first in the highest bit",
 };
 
 pub(crate) const BBFRAMES: Argument = Argument {
     name: "bbframes",
-    form: Form::Valued(FILE),
-    help: "File for the BBFRAMEs, as `join` reads them: zeros for a frame that is lost, and before one that follows a gap",
+    form: ArgumentKind::Valued(FILE),
+    help: "Write the BBFRAMEs to this file, for `join`: zeros instead of a lost frame, and zeros before a frame that follows a gap",
 };
 
 pub(crate) const SENT_CODEWORDS: Argument = Argument {
-    help: "File for the codeword of each frame, eight bits to a byte, the first one highest, as `demod --codewords` writes it",
+    help: "Write the codeword of each frame to this file, in the format of `demod --codewords`",
     ..CODEWORDS
 };
 
 pub(crate) const SENT_BBFRAMES: Argument = Argument {
-    help: "File for the BBFRAME of each frame, not scrambled, as `join` reads it and `demod --bbframes` writes it",
+    help: "Write the BBFRAME of each frame before scrambling to this file, in the format of `demod --bbframes`, for `join`",
     ..BBFRAMES
 };
 
-/// An argument that is the name of a file.
+/// The argument for the name of a file.
 macro_rules! file {
     ($name:literal, $help:literal) => {
         Argument {
             name: $name,
-            form: Form::File,
+            form: ArgumentKind::File,
             help: $help,
         }
     };
@@ -472,49 +478,46 @@ macro_rules! file {
 
 pub(crate) const ROWS: Argument = file!("ROWS", "Row file");
 
-pub(crate) const PACKETS: Argument = file!("PACKETS", "Transport stream, packets of 188 bytes");
+pub(crate) const PACKETS: Argument = file!("PACKETS", "Transport stream with packets of 188 bytes");
 
 pub(crate) const SOFT_VALUES: Argument = file!(
     "SOFT",
-    "Value file, one value for each bit of a codeword, or with --each of any number of codewords"
+    "Value file: a value for each bit of a codeword, or with --each of any number of codewords"
 );
 
 pub(crate) const CERTIFICATE_READ: Argument = file!("CERT", "Certificate file");
 
 pub(crate) const SYMBOLS_MADE: Argument = file!(
     "SYMBOLS",
-    "File for the symbols, four bytes each: I and Q, signed, high byte first"
+    "Output file for symbols of four bytes: I and Q, signed 16 bits each, high byte first"
 );
 
-pub(crate) const CLEAN_SYMBOLS: Argument = file!("IN", "File of symbols");
+pub(crate) const CLEAN_SYMBOLS: Argument = file!("IN", "Symbol file");
 
-pub(crate) const NOISY_SYMBOLS: Argument = file!("OUT", "File for the symbols with noise");
+pub(crate) const NOISY_SYMBOLS: Argument = file!("OUT", "Output file for the symbols with noise");
 
 pub(crate) const SYMBOLS: Argument = file!(
     "SYMBOLS",
-    "File of symbols, four bytes each: I and Q, signed, high byte first"
+    "Symbol file, four bytes per symbol: I and Q, signed 16 bits each, high byte first"
 );
 
-pub(crate) const PACKETS_MADE: Argument = file!("PACKETS", "File for the packets");
+pub(crate) const PACKETS_MADE: Argument = file!("PACKETS", "Output file for the packets");
 
-pub(crate) const PACKETS_RECEIVED: Argument = file!(
-    "OUT",
-    "File for the packets that are received"
-);
+pub(crate) const PACKETS_RECEIVED: Argument = file!("OUT", "Output file for the received packets");
 
 pub(crate) const RECORDING: Argument = file!(
     "SYMBOLS",
-    "Recording, four bytes a symbol: I and Q, signed, in either byte order"
+    "Recording, four bytes per symbol: I and Q, signed 16 bits each, in either byte order"
 );
 
 pub(crate) const BBFRAMES_READ: Argument = file!(
     "BBFRAMES",
-    "File of BBFRAMEs, Kbch / 8 bytes each with the header, not scrambled"
+    "File of BBFRAMEs, Kbch / 8 bytes each: header and data field before scrambling"
 );
 
 pub(crate) const REPORT: Argument = file!("REPORT", "Report of `demod`");
 
 pub(crate) const CERTIFICATES_READ: Argument = file!(
     "CERTIFICATES",
-    "Certificates that `demod --certificates` wrote"
+    "Certificates written by `demod --certificates`"
 );

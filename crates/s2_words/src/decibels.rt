@@ -1,9 +1,9 @@
-//! Es/N0 as a text of the command line.
+//! Reads an Es/N0 from the command line.
 ghost use Rattle.std.specs.Prelude.{◌≤ℤ◌, pos, IfSome};
 
 use crate::limits::{LEAST_ESN0, MAX_ESN0};
 
-/// The number of a text of decimal digits and nothing else.
+/// The number of a text that has decimal digits only.
 fn digits(text: &str) -> Option<u16> {
     if text.bytes().all(|byte| byte.is_ascii_digit()) {
         text.parse::<u16>().ok()
@@ -12,7 +12,7 @@ fn digits(text: &str) -> Option<u16> {
     }
 }
 
-/// Hundredths of a number without a sign, with one or two digits after a point or none.
+/// A number without a sign, with at most two decimals, in hundredths.
 fn hundredths(text: &str) -> Option<i32>
     ensures { IfSome result (λ h. pos 0 ≤ℤ h) }
 {
@@ -25,7 +25,7 @@ fn hundredths(text: &str) -> Option<i32>
     Some(100 * i32::from(digits(whole)?) + least)
 }
 
-/// An Es/N0 in dB, with a sign or without, in hundredths.
+/// An Es/N0 in dB, with or without a sign, in hundredths.
 pub(crate) fn read_esn0(text: &str) -> Option<i32> {
     let number = match text.strip_prefix("-") {
         Some(size) => -hundredths(size)?,

@@ -1,35 +1,35 @@
-//! The help of the program and of its commands: the texts below the options.
-use crate::table::Name;
+//! The help texts of the program and of its commands, printed below their options.
+use crate::table::CommandName;
 
-/// What the program says of itself.
+/// The first line of the program's help.
 pub(crate) const ABOUT: &str =
-    "A DVB-S2 modem with maximum-likelihood certificates. Without a command it judges the 20 soft values of standard input under a toy code";
+    "A DVB-S2 modem with maximum-likelihood certificates. Without a command it decides on 20 soft values of a toy code, read from standard input";
 
 /// The text below the program's own options.
 pub(crate) const MORE: &str = "\
 Files:
-  -    standard input where it is read, standard output where it is written: a report then stands on standard error
+  -    standard input for a file that is read, standard output for one that is written: the report then goes to standard error
 
-Exits:
-  0  all went well
-  1  a usage fault, or a fault that standard error tells
-  2  the answer is no, or something was lost: each command's help tells what";
+Exit status:
+  0  success
+  1  a usage error, or an error reported on standard error
+  2  the answer is no, or data was lost: see the command's help";
 
 /// The text below the options of `modes`.
 const MODES_MORE: &str = "\
 Each line:
-  modcod M NAME         the number and the name, either of which --modcod takes
+  modcod M NAME         number and name of the mode; --modcod takes either
   normal, short         frames of 64800 bits, or of 16200 (--short)
-  kbch K                bits of a message of the outer code, the header's 80 among them
+  kbch K                message bits of the outer code, including the 80 bits of the header
   k K                   information bits of the inner code
-  symbols S P           of a frame, without pilot blocks and with them (--pilots)
-  bits S P              of the transport stream for each symbol, to the nearest millionth
-  esn0 E                dB at which reception begins in theory (EN 302 307-1, table 13); short frames take 0.2 to 0.3 dB more
-  ts S P                with --rate: bits a second of the transport stream, rounded down
+  symbols S P           symbols per frame, without and with pilot blocks (--pilots)
+  bits S P              net bits of the transport stream per symbol, likewise, to the nearest millionth
+  esn0 E                ideal Es/N0 in dB for quasi error free reception (EN 302 307-1, table 13); short frames need 0.2 to 0.3 dB more
+  ts S P                with --rate: net bits per second of the transport stream, rounded down
 
-Exits:
-  0  all modes are listed, or the one of --modcod
-  1  a usage fault, or a fault that standard error tells
+Exit status:
+  0  the modes are listed, or the mode of --modcod
+  1  a usage error, or an error reported on standard error
 
 Example:
   s2 modes --rate 27.5M
@@ -38,25 +38,25 @@ Example:
 /// The text below the options of `rows`.
 const ROWS_MORE: &str = "\
 Each line:
-  W addresses below G * Q, none twice. These rows are not the standard's: both ends of a link need the same.
-  G * (N + Q) is at most 64800, and W at most G * Q.
+  W different addresses below G * Q. These rows are not the standard's: both ends of a link need the same rows.
+  G * (N + Q) is at most 64800, and W is at most G * Q.
 
-Exits:
-  0  the rows are printed
-  1  a usage fault, or a fault that standard error tells
+Exit status:
+  0  the rows were printed
+  1  a usage error, or an error reported on standard error
 
 Example:
   s2 rows --group 360 --groups 90 --q 90 --weight 8 --seed 1 > rows";
 
 /// The text below the options of `table`.
 const TABLE_MORE: &str = "\
-The answer:
-  standard       the rows are those of the standard for this code, whatever the order within each row
-  other: line N  they are not, and row N, from 1, is the first that differs; the standard's frames come out `broken` under them
+The result:
+  standard       the rows are the standard's for this code; the order within a row does not matter
+  other: line N  they are not: row N, counted from 1, is the first that differs; frames coded with the standard's table will be `broken`
 
-Exits:
+Exit status:
   0  standard
-  1  a usage fault, or a fault that standard error tells
+  1  a usage error, or an error reported on standard error
   2  other
 
 Example:
@@ -64,19 +64,19 @@ Example:
 
 /// The text below the options of `judge`.
 const JUDGE_MORE: &str = "\
-The report, with --each a line for each frame:
-  sole cost C              the decided bits cost C, every other codeword costs more
-  most-likely cost C       the decided bits cost C, no codeword costs less
-  parity cost C            all parity checks hold, no certificate was found: try --passes 96
-  broken cost C check J    check J, from 0 on, is the first that does not hold: this is no codeword
+The report, with --each a line per frame. The cost of a word is the sum of the soft values at its ones:
+  sole cost C              proved: the decided bits are a codeword of cost C, and every other codeword costs more
+  most-likely cost C       proved: the decided bits are a codeword of cost C, and no codeword costs less
+  parity cost C            all parity checks hold, but no certificate was found: try --passes 96
+  broken cost C check J    not a codeword: check J, counted from 0, is the first that fails
 
-Exits:
-  0  sole or most-likely: nothing is to be done
-  1  a usage fault, or a fault that standard error tells
-  2  parity or broken; with --each one of them is
+Exit status:
+  0  sole or most-likely
+  1  a usage error, or an error reported on standard error
+  2  parity or broken; with --each, at least one frame is parity or broken
 
 Notes, on standard error:
-  these look like hard decisions: use --hard    no value is other than 0 and 1
+  these look like hard decisions: use --hard    all values are 0 or 1
 
 Example:
   s2 judge --group 4 --groups 2 --q 3 --cert certificate rows soft
@@ -85,17 +85,17 @@ Example:
 
 /// The text below the options of `check`.
 const CHECK_MORE: &str = "\
-The report, a line for each certificate:
-  sole cost C           accepted: the word costs C, every other codeword costs more
-  yes cost C            accepted: the word costs C, no codeword costs less
-  no shape              the certificate is of other rows: give those that it was made by
-  no check J            the word is no codeword: check J, from 0 on, does not hold
-  no bound              the certificate proves less than the word's cost: make it anew
+The report, a line per certificate:
+  sole cost C           accepted: the word costs C, and every other codeword costs more
+  yes cost C            accepted: the word costs C, and no codeword costs less
+  no shape              the certificate belongs to other rows: pass the ones it was made with
+  no check J            the word is not a codeword: check J, counted from 0, fails
+  no bound              the bound that the certificate proves is below the word's cost: it proves nothing
 
-Exits:
+Exit status:
   0  sole or yes: the certificate is accepted
-  1  a usage fault, or a fault that standard error tells
-  2  no: it is not accepted; with --each one of them is not
+  1  a usage error, or an error reported on standard error
+  2  no: it is not accepted; with --each, at least one is not accepted
 
 Example:
   s2 check rows certificate
@@ -104,20 +104,22 @@ Example:
 /// The text below the options of `mod`.
 const MOD_MORE: &str = "\
 The report, at the end:
-  packets P frames F    P packets were taken, and F frames written, dummy frames not counted
+  packets P frames F    P packets were read, and F frames were written, not counting dummy frames
 
-Exits:
-  0  all packets are sent
-  1  a usage fault, or a fault that standard error tells: the frames before a packet that is refused stand in SYMBOLS
+Exit status:
+  0  all packets were sent
+  1  a usage error, or an error reported on standard error: if a packet is refused, SYMBOLS has the frames before it
+  2  with --resync: bytes were left out
 
 Notes, on standard error:
-  these rows are not the standard's for MODE           no other modem receives this, but one that has the same rows
-  MODE wants N rows of addresses below M               the row file that is refused is to have these
-  packet I begins at byte B                            the packet that is refused, and what to strip of packets of 192 or 204 bytes
-  five sync bytes at distance D begin at byte B        where the packets of a file begin whose first or second is refused, and what to try
+  these rows are not the standard's for MODE           only a modem with the same rows can receive this
+  MODE needs N rows of addresses below M               what the refused row file should contain
+  packet I begins at byte B                            the refused packet, and what to strip if the packets have 192 or 204 bytes
+  five sync bytes at distance D begin at byte B        where the packets begin if the first or second is refused, and what to try
+  N bytes left out in M places                         with --resync: a wrong sync byte and the bytes after it, up to the next five sync bytes
 
 Files:
-  --codewords and --bbframes write records of the frames, and none of a dummy frame. Each takes `-` too.
+  --codewords and --bbframes write records of the frames, but not of dummy frames. Each also takes `-`.
   A frame's records are written before its symbols. A file keeps its contents until the rows are accepted.
 
 Example:
@@ -125,9 +127,9 @@ Example:
 
 /// The text below the options of `noise`.
 const NOISE_MORE: &str = "\
-Exits:
-  0  all symbols are written, and nothing is printed
-  1  a usage fault, or a fault that standard error tells: the symbols before a read that failed stand in OUT
+Exit status:
+  0  all symbols were written; nothing is printed
+  1  a usage error, or an error reported on standard error: if a read failed, OUT has the symbols before it
 
 Example:
   s2 noise --seed 1 --esn0 6.5 symbols noisy
@@ -138,63 +140,66 @@ macro_rules! report {
     ($last:literal, $notes:literal, $accepted:literal, $example:literal) => {
         concat!(
             "\
-The report, a line for each frame as it comes, and one for the end:
+The report, a line per frame as it is decided, and a line at the end:
   frame I at SYMBOL VERDICT fixed COUNT       delivered; the outer code corrected COUNT bits
-  frame I at SYMBOL VERDICT lost              not delivered: noise is too strong (try --rounds 200), or --number or ROWS are not the sender's
-  cut at SYMBOL symbols COUNT                 the symbols end within a frame, of which COUNT are there
-  end frames F delivered D packets P bad B    of F frames D were delivered, P packets written, B had a wrong CRC-8
+  frame I at SYMBOL VERDICT lost              not delivered: too much noise (try --rounds 200), or another --number or other ROWS than the sender's
+  cut at SYMBOL symbols COUNT                 the symbols end inside a frame: only COUNT of its symbols are there
+  end frames F delivered D packets P bad B    D of F frames were delivered, P packets were written, B packets had a wrong CRC-8
 ",
             $last,
-            "  Frames count from 1, symbols from 0; dummy frames have no line.
+            "  Frames are counted from 1, symbols from 0. Dummy frames have no line.
 
-With --every N, of the frames' lines only every N-th and those of lost frames, and also:
+With --every N, only every N-th frame and each lost frame have a line, and there are these:
   every N                                     the first line
-  sum frames F delivered D certified C        after each N frames: of F frames so far D were delivered, C of them sole or most-likely
+  sum frames F delivered D certified C        after every N frames: of F frames so far D were delivered, C of them sole or most-likely
 
 With --figures, at the end of a frame's line:
-  header H     symbols of the header that were decided wrongly, of 90
-  changed B    positions in which the decided word differs from the hard decision
-  rounds K     rounds of min-sum that were run
-  known E      squared distance to what was sent, summed over header and pilots
-  payload P    the same over the payload, to the points of the decided word
+  header H     wrong symbols in the header, of 90
+  changed B    bits in which the decided word differs from the hard decisions
+  rounds K     rounds of min-sum
+  known E      squared error of the known symbols: the sum over header and pilots
+  payload E    squared error of the payload, to the points of the decided word
+  power W      after each of these two: energy of the received symbols
+  along A      each of them times the conjugate of the sent symbol: the sum of the real parts
+  across C     the sum of the imaginary parts
 
 With --figures, at the end of the last line:
-  changed B of T known E of N payload P of M    sums, over T bits, N symbols of headers and pilots, and M of payloads
+  changed B of T known E of N power W payload E of N power W    totals: over T bits, and N symbols of headers and pilots, or of payloads
 
 Verdicts:
-  sole         no other codeword is as likely: nothing is to be done
-  most-likely  no codeword is more likely: nothing is to be done
-  parity       all parity checks hold, no certificate was found: with `fixed` the packets are whole; try --passes 96
-  broken       some parity check does not hold: with `fixed` the packets are whole all the same; try --rounds 200
+  sole         proved: every other codeword is less likely
+  most-likely  proved: no codeword is more likely
+  parity       all parity checks hold, but no certificate was found (try --passes 96); with `fixed` the packets are good
+  broken       a parity check fails (try --rounds 200); with `fixed` the packets are good all the same
 
-Exits:
+Exit status:
   0  every frame is delivered, and sole or most-likely
-     with --exit-by delivery: every frame is delivered, none is cut, and no symbols were passed over
-  1  a usage fault, or a fault that standard error tells
+     with --exit-by delivery: every frame is delivered, none is cut, and no symbols were skipped
+  1  a usage error, or an error reported on standard error
   2  a frame is lost, cut, parity or broken
-     with --exit-by delivery: a frame is lost or cut, or symbols were passed over
-     with --strict also: symbols were passed over, no frame was found, or a packet was torn or bad
+     with --exit-by delivery: a frame is lost or cut, or symbols were skipped
+     with --strict also: symbols were skipped, no frame was found, or a packet was incomplete or bad
 
 Notes, on standard error:
-  these rows are not the standard's for MODE           only what was sent by the same rows is received by them
-  MODE wants N rows of addresses below M               the row file that is refused is to have these
-  no frame since symbol E                              `demod` says so at once, if none came for a frame's length
-  frames again from symbol S                           and when the next one comes
-  N symbols passed over in M places, the first at S    they belong to no frame: symbols were inserted, or headers were lost
-  no frame of MODE in N symbols: try s2 scan           another mode, byte order, form of samples or rotation
-  N packets torn                                       begun, and lost with a frame that is missing or not delivered
-  of N lost frames M had a BCH word whose header is refused    received well, and no BBFRAMEs of a transport stream
-  the headers' amplitude, noise included, is A, not 990: use --gain G of tools/convert    no frame is delivered, and it is off by 1.5 dB or more
-  headers are right but no frame is decoded: another scrambling number or other rows? try s2 scan    the headers have the usual amplitude
-  L of F frames lost: try --tuned                      the settings of --tuned deliver frames with more noise
+  these rows are not the standard's for MODE           only signals sent with the same rows can be received
+  MODE needs N rows of addresses below M               what the refused row file should contain
+  no frame since symbol E                              printed by `demod` at once, if there is none for a frame's length
+  frames again from symbol S                           printed when the next frame is found
+  N symbols skipped in M places, the first at S        they are part of no frame: symbols were inserted, or headers were lost
+  no frame of MODE in N symbols: try s2 scan           the recording may have another mode, byte order, sample format or rotation
+  N packets incomplete                                 they began, but a frame with the rest is missing or was not delivered
+  of N lost frames M had a BCH word whose header is refused    decoded, but not a transport stream (a generic stream? another format?)
+  the headers' amplitude, noise included, is A, not 990: use --gain G of tools/convert    no frame is delivered, and the amplitude is off by 1.5 dB or more
+  headers are right but no frame is decoded: another scrambling number or other rows? try s2 scan    the amplitude is as expected
+  L of F frames lost: try --tuned                      the settings of --tuned deliver frames at a lower Es/N0
 ",
             $notes,
             "
 Files:
-  --certificates, --values, --codewords and --bbframes write records of the frames. Each takes `-` too.
-  A frame's records are written before its line. A file keeps its contents until the rows are accepted",
+  --certificates, --values, --codewords and --bbframes write records of the frames. Each also takes `-`.
+  A frame's records are written before its line. A file keeps its contents until the rows",
             $accepted,
-            ".
+            " are accepted.
 
 Example:
 ",
@@ -213,39 +218,46 @@ const DEMOD_MORE: &str = report!(
 
 /// The text below the options of `run`.
 const RUN_MORE: &str = report!(
-    "  seeds N frames F delivered D packets P bad B    with --seeds, behind the lines of all N runs: the sums of their last lines
+    "  seeds N frames F delivered D packets P bad B    with --seeds, after all N runs: the totals of their last lines
 ",
-    "  packet I begins at byte B                            the packet that is refused, and what to strip of packets of 192 or 204 bytes
-  five sync bytes at distance D begin at byte B        where the packets of a file begin whose first or second is refused, and what to try
+    "  packet I begins at byte B                            the refused packet, and what to strip if the packets have 192 or 204 bytes
+  five sync bytes at distance D begin at byte B        where the packets begin if the first or second is refused, and what to try
+  N bytes left out in M places                         with --resync: a wrong sync byte and the bytes after it, up to the next five; the exit is 2
 ",
-    ", and the packets",
+    " and the packets",
     "  s2 run --modcod qpsk1/2 --pilots --seed 1 --level 100 rows packets.ts received.ts
   s2 run --modcod qpsk1/2 --seeds 1..100 --esn0 1.2 rows packets.ts received.ts"
 );
 
 /// The text below the options of `scan`.
 const SCAN_MORE: &str = "\
-The report, a line for each mode, the likeliest first:
-  MODE LENGTH PILOTS         the mode, as qpsk3/4; normal or short; pilots or no-pilots
-  seen N first S             headers that were found, and the symbol of the first, from 0 on
-  every D                    the usual distance from one to the next
-  turn K conjugate yes|no    the symbols were multiplied by the K-th power of i, and then conjugated, or not
+The report, a line per mode, the most probable first:
+  MODE LENGTH PILOTS         the mode, for example qpsk3/4; normal or short; pilots or no-pilots
+  seen N first S             number of headers found, and the symbol of the first, counted from 0
+  every D                    the most frequent distance between two headers, in symbols
+  turn K conjugate yes|no    rotation: the symbols were multiplied by i to the power of K, then conjugated if yes
   bytes big|little           the byte order
-  amplitude A                of the N headers, without their noise; `mod` sends 990
+  amplitude A                of the N headers, without noise; `mod` sends 990
 
 The line before the last:
-  number N                          the scrambling number, by the pilots of the likeliest frames that have some
-  number not looked for: no pilots  the command of the last line takes 0: try others with --number
+  number N                          the scrambling number, found from the pilots of the most probable mode that has pilots
+  number not looked for: no pilots  the command of the last line assumes 0: try others with --number
 
 The last line:
-  tools/convert .. | ./s2 demod ..    receives the first mode of the list that `demod` takes; rows is the mode's row file
-  ./s2 demod ..                       the same, where nothing is to be converted: an amplitude of 833 to 1177 needs no gain
-  s2 demod receives none of these     16APSK, 32APSK or dummy frames alone
-  nothing found                       no header came twice at its frame's distance: try a longer recording
+  tools/convert .. | ./s2 demod ..    a command that receives the first mode in the list that `demod` supports; rows is that mode's row file
+  ./s2 demod ..                       the same without conversion; amplitudes of 833 to 1177 need no gain
+  s2 demod receives none of these     only 16APSK, 32APSK or dummy frames were found
+  nothing found                       no header is repeated one frame later: try a longer recording
 
-Exits:
-  0  some header came twice at its frame's distance
-  1  a usage fault, or a fault that standard error tells
+After nothing found, a line for each byte order:
+  symbols N                  number of symbols examined: all, or the first 4194304
+  rms R                      the root of their mean power; `mod` sends 990
+  clipped C                  number of symbols with a component of -32768, -32767 or 32767: the receiver's input may be too strong
+  bytes big|little           the byte order
+
+Exit status:
+  0  a header is repeated one frame later
+  1  a usage error, or an error reported on standard error
   2  nothing found
 
 Example:
@@ -255,13 +267,13 @@ Example:
 /// The text below the options of `join`.
 const JOIN_MORE: &str = "\
 The report, at the end:
-  cut at BYTE bytes COUNT                     the file ends within a frame, of which COUNT bytes are there
-  end frames F delivered D packets P bad B    of F frames D have a good header, P packets were written, B had a wrong CRC-8
-  Bytes count from 0. A frame of zeros stands for frames that were not received: no packet is joined across it.
+  cut at BYTE bytes COUNT                     the file ends inside a frame: only COUNT of its bytes are there
+  end frames F delivered D packets P bad B    D of F frames have a valid header, P packets were written, B packets had a wrong CRC-8
+  Bytes are counted from 0. A frame of zeros means that frames were not received: no packet is joined across it.
 
-Exits:
-  0  every frame has a good header, and no packet is bad
-  1  a usage fault, or a fault that standard error tells: the packets of the frames before it stand in PACKETS
+Exit status:
+  0  every frame has a valid header, and no packet is bad
+  1  a usage error, or an error reported on standard error: PACKETS has the packets of the frames before it
   2  a header is refused, a packet is bad, or the last frame is cut
 
 Example:
@@ -269,23 +281,23 @@ Example:
 
 /// The text below the options of `audit`.
 const AUDIT_MORE: &str = "\
-The report, a line for each frame that REPORT calls sole or most-likely, and one for the end:
-  frame I at SYMBOL sole cost C           proved: the decided bits cost C, every other codeword costs more
-  frame I at SYMBOL most-likely cost C    proved: the decided bits cost C, no codeword costs less
-  frame I at SYMBOL REASON                not proved: the last line
-  certificates left over                  after the last frame
-  audit frames F sole A most-likely B     REPORT has F frames, and all that it calls sole (A) or most-likely (B) are proved
+The report, a line for each frame that REPORT calls sole or most-likely, and a line at the end:
+  frame I at SYMBOL sole cost C           proved: the decided bits cost C, and every other codeword costs more
+  frame I at SYMBOL most-likely cost C    proved: the decided bits cost C, and no codeword costs less
+  frame I at SYMBOL REASON                not proved; the audit ends here
+  certificates left over                  CERTIFICATES has more after that of the last frame
+  audit frames F sole A most-likely B     REPORT has F frames; all frames that it calls sole (A) or most-likely (B) are proved
 
 Reasons:
-  no certificate    CERTIFICATES ends before this frame's
+  no certificate    CERTIFICATES ends before the certificate of this frame
   no symbols        SYMBOLS ends before the end of this frame
-  other values      the certificate is of other soft values than this frame's: of another recording, or of another --divisor or --tuned
-  not accepted      the certificate proves nothing under these rows
-  not sole          the certificate proves that the bits are most likely, and no more
+  other values      the certificate is for other soft values: of another recording, or with another --divisor or --tuned
+  not accepted      the certificate proves nothing with these rows
+  not sole          the certificate proves only that the bits are most likely
 
-Exits:
-  0  all are proved, and no certificate is left over
-  1  a usage fault, or a fault that standard error tells
+Exit status:
+  0  all frames called sole or most-likely are proved, and no certificate is left over
+  1  a usage error, or an error reported on standard error
   2  a frame is not proved, or certificates are left over
 
 Example:
@@ -293,19 +305,19 @@ Example:
   s2 audit --modcod qpsk1/2 --tuned rows noisy report certificates";
 
 /// The text below the options of a command.
-pub(crate) fn more_of(command: Name) -> &'static str {
+pub(crate) fn more_of(command: CommandName) -> &'static str {
     match command {
-        Name::Modes => MODES_MORE,
-        Name::Rows => ROWS_MORE,
-        Name::Table => TABLE_MORE,
-        Name::Judge => JUDGE_MORE,
-        Name::Check => CHECK_MORE,
-        Name::Mod => MOD_MORE,
-        Name::Noise => NOISE_MORE,
-        Name::Demod => DEMOD_MORE,
-        Name::Run => RUN_MORE,
-        Name::Scan => SCAN_MORE,
-        Name::Join => JOIN_MORE,
-        Name::Audit => AUDIT_MORE,
+        CommandName::Modes => MODES_MORE,
+        CommandName::Rows => ROWS_MORE,
+        CommandName::Table => TABLE_MORE,
+        CommandName::Judge => JUDGE_MORE,
+        CommandName::Check => CHECK_MORE,
+        CommandName::Mod => MOD_MORE,
+        CommandName::Noise => NOISE_MORE,
+        CommandName::Demod => DEMOD_MORE,
+        CommandName::Run => RUN_MORE,
+        CommandName::Scan => SCAN_MORE,
+        CommandName::Join => JOIN_MORE,
+        CommandName::Audit => AUDIT_MORE,
     }
 }

@@ -1,13 +1,13 @@
 //! The command line of the program: arguments in, a [`Request`] out.
 //!
-//! One table has each command's options, their ranges and their help. [`read_words`] parses the arguments with
-//! clap, using this table. It returns the request, with every option in its place, or why there is none: help or the
-//! version was asked for, or memory ran out, or there is a usage fault, which is one line. [`not_text`] makes the
-//! fault of an argument that is not UTF-8.
+//! One table has each command's options, their ranges and their help. [`parse_arguments`] parses the arguments with clap,
+//! using this table. It returns the request with all options. Or it returns why there is none: help or the version is
+//! requested, or memory ran out, or there is a usage error, reported by one line. [`not_text`] makes the line for an
+//! argument that is not UTF-8.
 //!
 //! ```text
-//! match read_words(alloc, &words)? {
-//!     Request::Check(CheckWords { rows, certificate }) => ..
+//! match parse_arguments(alloc, &words)? {
+//!     Request::Check(CheckArguments { rows, certificate }) => ..
 //! }
 //! ```
 #![tactic(auto)]
@@ -26,12 +26,13 @@ mod seed_range;
 mod table;
 mod unread;
 
-pub use reading::read_words;
+pub use reading::parse_arguments;
 pub use refusal::not_text;
 pub use request::{
-    AuditWords, ChannelWords, CheckWords, CodeWords, DemodWords, ExitBy, JoinWords, JudgeWords,
-    LinkWords, ModWords, ModesWords, NoiseWords, NoteWords, NumberWords, Progress, RecordWords,
-    Request, RowsWords, RunWords, ScanWords, Seeds, ShapeWords, StrengthWords, TableWords,
-    TuningWords,
+    AuditArguments, ChannelArguments, CheckArguments, CodeArguments, DemodArguments, ExitBy,
+    JoinArguments, JudgeArguments, LinkArguments, ModArguments, ModesArguments, NoiseArguments,
+    NoteArguments, NumberArguments, Progress, RecordArguments, Request, RowsArguments,
+    RunArguments, ScanArguments, Seeds, ShapeArguments, StrengthArguments, TableArguments,
+    TuningArguments,
 };
 pub use unread::Unread;

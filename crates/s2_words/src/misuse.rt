@@ -1,18 +1,18 @@
-//! What clap says of words that are no request, in its parts: its kind of error, and what its text names.
+//! Takes clap's errors apart: the kind of error, and what its text names.
 use clap::error::ErrorKind;
 
-/// A mistake in the words. Arguments are named as in the help, as `--modcod <M>` or `<ROWS>`.
+/// A mistake on the command line. Arguments have their names in the help, for example `--modcod <M>` or `<ROWS>`.
 #[derive(Clone, Copy)]
 pub(crate) enum Misuse<'t> {
-    /// This word is no option, and no file is taken there.
+    /// This word is not an option, and no file is expected there.
     Unknown(&'t str),
     /// No command has this name.
     NoCommand(&'t str),
-    /// These arguments are missing, a line each.
+    /// These arguments are missing, one per line.
     Missing(&'t str),
     /// This option is given twice.
     Twice(&'t str),
-    /// This option excludes the others, a line each.
+    /// This option excludes the others, one per line.
     Excluded(&'t str, &'t str),
     /// This option takes no value.
     TakesNone(&'t str),
@@ -22,14 +22,14 @@ pub(crate) enum Misuse<'t> {
     Refused { option: &'t str, value: &'t str },
 }
 
-/// The text between two others.
+/// The text between two texts.
 fn between<'t>(text: &'t str, before: &str, behind: &str) -> Option<&'t str> {
     let (_, rest) = text.split_once(before)?;
     let (found, _) = rest.split_once(behind)?;
     Some(found)
 }
 
-/// An option that is given twice, or beside one that it excludes.
+/// An option that is given twice, or together with one that it excludes.
 fn conflict_of(told: &str) -> Option<Misuse<'_>> {
     let option = between(told, "the argument '", "' cannot be used ")?;
     if told.contains("' cannot be used multiple times") {
@@ -43,7 +43,7 @@ fn conflict_of(told: &str) -> Option<Misuse<'_>> {
     Some(Misuse::Excluded(option, others))
 }
 
-/// A value that is missing or refused. A value may have any characters, and what follows it has none of a value.
+/// A value that is missing or refused. A value may have any characters, but the text after it has none of them.
 fn value_of(told: &str) -> Option<Misuse<'_>> {
     if told.starts_with("error: a value is required") {
         return Some(Misuse::LacksValue(between(told, " for '", "' but none")?));

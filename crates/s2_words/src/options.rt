@@ -1,4 +1,4 @@
-//! The meaning of a few options, whatever else is on the line.
+//! The meaning of a few options, independent of the other arguments.
 ghost use Rattle.std.specs.Prelude.{◌≡◌, ◌↔◌, IsSome, IfSome};
 ghost use Rattle.s2_words.specs.Options.{IsModcodText, IsNumbered, NamesMode, progress_by};
 
@@ -6,7 +6,7 @@ use crate::request::Progress;
 use s2_mode::MAX_MODCOD;
 use s2_names::modcod_of;
 
-/// The MODCOD of a number, which may have a plus and zeros in front.
+/// The MODCOD of a number, with or without a plus and leading zeros.
 fn numbered(text: &str) -> Option<u8>
     ensures found { IsSome result ↔ NamesMode IsNumbered text.now }
     ensures value { IfSome result (λ modcod. IsNumbered modcod text.now) }
@@ -28,7 +28,7 @@ pub(crate) fn read_modcod(text: &str) -> Option<u8>
     }
 }
 
-/// Whether progress is shown, by whether it is requested, and whether the command is to be quiet.
+/// Whether progress is shown: this depends on `--progress` and `--quiet`.
 pub(crate) fn progress_by(requested: bool, quiet: bool) -> Progress
     ensures { result ≡ progress_by requested quiet }
 {

@@ -1,11 +1,13 @@
-//! The parser that the table describes.
-use crate::arguments::{Argument, Form, Value};
+//! The parser of the command line, built from the table.
+use crate::arguments::{Argument, ArgumentKind, Value};
 use crate::help::{ABOUT, MORE, more_of};
-use crate::table::{Choice, Entry, Name, Rule, arguments_of, choices_of, commands, rule_of};
+use crate::table::{
+    Choice, CommandHelp, CommandName, Rule, arguments_of, choices_of, commands, rule_of,
+};
 use clap::{Arg, ArgAction, ArgGroup, Command};
 use std::alloc::{AllocError, Global};
 
-/// An option with a value. What begins with a minus and is a number is its value too, so that a fault is one of the value.
+/// An option with a value. A negative number is also taken as its value, so that an error is about the value.
 fn valued<'a>(arg: Arg<'a>, value: Value) -> Arg<'a> {
     let arg = arg
         .value_name(value.name)
@@ -21,9 +23,9 @@ fn valued<'a>(arg: Arg<'a>, value: Value) -> Arg<'a> {
 fn arg_of<'a>(alloc: Global, argument: Argument) -> Arg<'a> {
     let arg = Arg::new(alloc, argument.name).help(argument.help);
     match argument.form {
-        Form::Flag => arg.long(argument.name).action(ArgAction::SetTrue),
-        Form::Valued(value) => valued(arg.long(argument.name), value),
-        Form::File => arg.required(true),
+        ArgumentKind::Flag => arg.long(argument.name).action(ArgAction::SetTrue),
+        ArgumentKind::Valued(value) => valued(arg.long(argument.name), value),
+        ArgumentKind::File => arg.required(true),
     }
 }
 
@@ -38,7 +40,7 @@ fn by_rule<'a>(arg: Arg<'a>, rule: Option<Rule>) -> Result<Arg<'a>, AllocError> 
 }
 
 /// The arguments of a command.
-fn args_of<'a>(alloc: Global, command: Name) -> Result<Vec<Arg<'a>>, AllocError> {
+fn args_of<'a>(alloc: Global, command: CommandName) -> Result<Vec<Arg<'a>>, AllocError> {
     let mut args = Vec::new(alloc);
     for argument in arguments_of(command) {
         let rule = rule_of(command, argument.name);
@@ -53,7 +55,7 @@ fn group_of<'a>(alloc: Global, choice: Choice) -> Result<ArgGroup<'a>, AllocErro
 }
 
 /// The choices of a command.
-fn groups_of<'a>(alloc: Global, command: Name) -> Result<Vec<ArgGroup<'a>>, AllocError> {
+fn groups_of<'a>(alloc: Global, command: CommandName) -> Result<Vec<ArgGroup<'a>>, AllocError> {
     let mut groups = Vec::new(alloc);
     for choice in choices_of(command) {
         groups.push(group_of(alloc, *choice)?)?;
@@ -61,8 +63,8 @@ fn groups_of<'a>(alloc: Global, command: Name) -> Result<Vec<ArgGroup<'a>>, Allo
     Ok(groups)
 }
 
-/// A command. Its parts are made first: a vector is dropped in one step, and a command in some twenty.
-fn command_of<'a>(alloc: Global, entry: Entry) -> Result<Command<'a>, AllocError> {
+/// A command. Its parts are made first: a vector is dropped in one step, and a command in about twenty.
+fn command_of<'a>(alloc: Global, entry: CommandHelp) -> Result<Command<'a>, AllocError> {
     let args = args_of(alloc, entry.command)?;
     let groups = groups_of(alloc, entry.command)?;
     Command::new(alloc, entry.name)

@@ -6,10 +6,11 @@ use crate::options::{progress_by, read_modcod};
 use crate::parser::program;
 use crate::refusal::{not_understood, unread_of};
 use crate::request::{
-    AuditWords, ChannelWords, CheckWords, CodeWords, DemodWords, ExitBy, JoinWords, JudgeWords,
-    LinkWords, ModWords, ModesWords, NoiseWords, NoteWords, NumberWords, Progress, RecordWords,
-    Request, RowsWords, RunWords, ScanWords, Seeds, ShapeWords, StrengthWords, TableWords,
-    TuningWords,
+    AuditArguments, ChannelArguments, CheckArguments, CodeArguments, DemodArguments, ExitBy,
+    JoinArguments, JudgeArguments, LinkArguments, ModArguments, ModesArguments, NoiseArguments,
+    NoteArguments, NumberArguments, Progress, RecordArguments, Request, RowsArguments,
+    RunArguments, ScanArguments, Seeds, ShapeArguments, StrengthArguments, TableArguments,
+    TuningArguments,
 };
 use crate::seed_range::read_seeds;
 use crate::unread::Unread;
@@ -18,25 +19,25 @@ use clap::parser::ValueSource;
 use s2_names::SymbolRate;
 use std::alloc::Global;
 
-fn shape_of(m: &ArgMatches<'_>) -> Option<ShapeWords> {
-    Some(ShapeWords {
+fn shape_of(m: &ArgMatches<'_>) -> Option<ShapeArguments> {
+    Some(ShapeArguments {
         group: m.get_one::<u16>("group")?,
         groups: m.get_one::<u16>("groups")?,
         q: m.get_one::<u16>("q")?,
     })
 }
 
-fn code_of(m: &ArgMatches<'_>) -> Option<CodeWords> {
+fn code_of(m: &ArgMatches<'_>) -> Option<CodeArguments> {
     match m.get_str("modcod") {
-        Some(text) => Some(CodeWords::Mode {
+        Some(text) => Some(CodeArguments::Mode {
             modcod: read_modcod(text)?,
             short: m.get_flag("short"),
         }),
-        None => Some(CodeWords::Shape(shape_of(m)?)),
+        None => Some(CodeArguments::Shape(shape_of(m)?)),
     }
 }
 
-/// The number of a roll-off, if there is such a one.
+/// The number of the roll-off, or None if there is no such roll-off.
 pub(crate) fn roll_off_of(m: &ArgMatches<'_>) -> Option<u8> {
     match m.get_one::<u8>("ro") {
         Some(number) if number <= MAX_ROLL_OFF => Some(number),
@@ -44,8 +45,8 @@ pub(crate) fn roll_off_of(m: &ArgMatches<'_>) -> Option<u8> {
     }
 }
 
-fn link_of(m: &ArgMatches<'_>) -> Option<LinkWords> {
-    Some(LinkWords {
+fn link_of(m: &ArgMatches<'_>) -> Option<LinkArguments> {
+    Some(LinkArguments {
         modcod: read_modcod(m.get_str("modcod")?)?,
         short: m.get_flag("short"),
         pilots: m.get_flag("pilots"),
@@ -61,15 +62,15 @@ fn is_given(m: &ArgMatches<'_>, name: &str) -> bool {
     }
 }
 
-fn number_of(m: &ArgMatches<'_>, name: &str) -> Option<NumberWords> {
-    Some(NumberWords {
+fn number_of(m: &ArgMatches<'_>, name: &str) -> Option<NumberArguments> {
+    Some(NumberArguments {
         is_given: is_given(m, name),
         value: m.get_one::<u32>(name)?,
     })
 }
 
-fn tuning_of(m: &ArgMatches<'_>) -> Option<TuningWords> {
-    Some(TuningWords {
+fn tuning_of(m: &ArgMatches<'_>) -> Option<TuningArguments> {
+    Some(TuningArguments {
         rounds: number_of(m, "rounds")?,
         passes: number_of(m, "passes")?,
         divisor: number_of(m, "divisor")?,
@@ -81,15 +82,15 @@ fn tuning_of(m: &ArgMatches<'_>) -> Option<TuningWords> {
     })
 }
 
-fn strength_of(m: &ArgMatches<'_>) -> Option<StrengthWords> {
+fn strength_of(m: &ArgMatches<'_>) -> Option<StrengthArguments> {
     match m.get_str("esn0") {
-        Some(text) => read_esn0(text).map(StrengthWords::EsN0),
-        None => m.get_one::<u16>("level").map(StrengthWords::Level),
+        Some(text) => read_esn0(text).map(StrengthArguments::EsN0),
+        None => m.get_one::<u16>("level").map(StrengthArguments::Level),
     }
 }
 
-fn channel_of(m: &ArgMatches<'_>) -> Option<ChannelWords> {
-    Some(ChannelWords {
+fn channel_of(m: &ArgMatches<'_>) -> Option<ChannelArguments> {
+    Some(ChannelArguments {
         seed: m.get_one::<u64>("seed")?,
         strength: strength_of(m)?,
     })
@@ -103,9 +104,9 @@ fn seeds_of(m: &ArgMatches<'_>) -> Option<Option<Seeds>> {
 }
 
 /// The channel of the first run.
-fn first_channel_of(m: &ArgMatches<'_>, seeds: Option<Seeds>) -> Option<ChannelWords> {
+fn first_channel_of(m: &ArgMatches<'_>, seeds: Option<Seeds>) -> Option<ChannelArguments> {
     match seeds {
-        Some(seeds) => Some(ChannelWords {
+        Some(seeds) => Some(ChannelArguments {
             seed: seeds.first,
             strength: strength_of(m)?,
         }),
@@ -121,8 +122,8 @@ fn exit_by_of(m: &ArgMatches<'_>) -> Option<ExitBy> {
     }
 }
 
-fn notes_of(m: &ArgMatches<'_>) -> Option<NoteWords> {
-    Some(NoteWords {
+fn notes_of(m: &ArgMatches<'_>) -> Option<NoteArguments> {
+    Some(NoteArguments {
         exit_by: exit_by_of(m)?,
         strict: m.get_flag("strict"),
         tuned: m.get_flag("tuned"),
@@ -130,13 +131,13 @@ fn notes_of(m: &ArgMatches<'_>) -> Option<NoteWords> {
     })
 }
 
-/// Of how many frames one has its line, 0 if each has it.
+/// N if every N-th frame has a line, or 0 if each frame has one.
 fn every_of(m: &ArgMatches<'_>) -> u32 {
     m.get_one::<u32>("every").unwrap_or(0)
 }
 
-fn records_of<'a>(m: &ArgMatches<'a>) -> RecordWords<'a> {
-    RecordWords {
+fn records_of<'a>(m: &ArgMatches<'a>) -> RecordArguments<'a> {
+    RecordArguments {
         certificates: m.get_str("certificates"),
         values: m.get_str("values"),
         codewords: m.get_str("codewords"),
@@ -144,9 +145,9 @@ fn records_of<'a>(m: &ArgMatches<'a>) -> RecordWords<'a> {
     }
 }
 
-/// The records of a sender.
-fn sent_records_of<'a>(m: &ArgMatches<'a>) -> RecordWords<'a> {
-    RecordWords {
+/// The records of a transmitter.
+fn sent_records_of<'a>(m: &ArgMatches<'a>) -> RecordArguments<'a> {
+    RecordArguments {
         certificates: None,
         values: None,
         codewords: m.get_str("codewords"),
@@ -159,7 +160,7 @@ fn progress_of(m: &ArgMatches<'_>) -> Progress {
 }
 
 fn rows_of<'a>(m: &ArgMatches<'a>) -> Option<Request<'a>> {
-    Some(Request::Rows(RowsWords {
+    Some(Request::Rows(RowsArguments {
         shape: shape_of(m)?,
         weight: m.get_one::<u8>("weight")?,
         seed: m.get_one::<u64>("seed")?,
@@ -167,7 +168,7 @@ fn rows_of<'a>(m: &ArgMatches<'a>) -> Option<Request<'a>> {
 }
 
 fn table_of<'a>(m: &ArgMatches<'a>) -> Option<Request<'a>> {
-    Some(Request::Table(TableWords {
+    Some(Request::Table(TableArguments {
         modcod: read_modcod(m.get_str("modcod")?)?,
         short: m.get_flag("short"),
         quiet: m.get_flag("quiet"),
@@ -190,14 +191,14 @@ fn mode_of(m: &ArgMatches<'_>) -> Option<Option<(u8, bool)>> {
 }
 
 fn modes_of<'a>(m: &ArgMatches<'a>) -> Option<Request<'a>> {
-    Some(Request::Modes(ModesWords {
+    Some(Request::Modes(ModesArguments {
         rate: rate_of(m)?,
         mode: mode_of(m)?,
     }))
 }
 
 fn judge_of<'a>(m: &ArgMatches<'a>) -> Option<Request<'a>> {
-    Some(Request::Judge(JudgeWords {
+    Some(Request::Judge(JudgeArguments {
         code: code_of(m)?,
         each: m.get_flag("each"),
         hard: m.get_flag("hard"),
@@ -212,7 +213,7 @@ fn judge_of<'a>(m: &ArgMatches<'a>) -> Option<Request<'a>> {
 }
 
 fn check_of<'a>(m: &ArgMatches<'a>) -> Option<Request<'a>> {
-    Some(Request::Check(CheckWords {
+    Some(Request::Check(CheckArguments {
         each: m.get_flag("each"),
         rows: m.get_str("ROWS")?,
         certificate: m.get_str("CERT")?,
@@ -220,9 +221,10 @@ fn check_of<'a>(m: &ArgMatches<'a>) -> Option<Request<'a>> {
 }
 
 fn mod_of<'a>(m: &ArgMatches<'a>) -> Option<Request<'a>> {
-    Some(Request::Mod(ModWords {
+    Some(Request::Mod(ModArguments {
         link: link_of(m)?,
         dummy: m.get_one::<u16>("dummy")?,
+        resync: m.get_flag("resync"),
         quiet: m.get_flag("quiet"),
         progress: progress_of(m),
         records: sent_records_of(m),
@@ -233,7 +235,7 @@ fn mod_of<'a>(m: &ArgMatches<'a>) -> Option<Request<'a>> {
 }
 
 fn noise_of<'a>(m: &ArgMatches<'a>) -> Option<Request<'a>> {
-    Some(Request::Noise(NoiseWords {
+    Some(Request::Noise(NoiseArguments {
         channel: channel_of(m)?,
         progress: progress_of(m),
         from: m.get_str("IN")?,
@@ -242,7 +244,7 @@ fn noise_of<'a>(m: &ArgMatches<'a>) -> Option<Request<'a>> {
 }
 
 fn demod_of<'a>(m: &ArgMatches<'a>) -> Option<Request<'a>> {
-    Some(Request::Demod(DemodWords {
+    Some(Request::Demod(DemodArguments {
         link: link_of(m)?,
         tuning: tuning_of(m)?,
         notes: notes_of(m)?,
@@ -257,9 +259,10 @@ fn demod_of<'a>(m: &ArgMatches<'a>) -> Option<Request<'a>> {
 
 fn run_of<'a>(m: &ArgMatches<'a>) -> Option<Request<'a>> {
     let seeds = seeds_of(m)?;
-    Some(Request::Run(RunWords {
+    Some(Request::Run(RunArguments {
         link: link_of(m)?,
         dummy: m.get_one::<u16>("dummy")?,
+        resync: m.get_flag("resync"),
         tuning: tuning_of(m)?,
         channel: first_channel_of(m, seeds)?,
         seeds,
@@ -274,7 +277,7 @@ fn run_of<'a>(m: &ArgMatches<'a>) -> Option<Request<'a>> {
 }
 
 fn scan_of<'a>(m: &ArgMatches<'a>) -> Option<Request<'a>> {
-    Some(Request::Scan(ScanWords {
+    Some(Request::Scan(ScanArguments {
         first: m.get_one::<u32>("first"),
         progress: progress_of(m),
         symbols: m.get_str("SYMBOLS")?,
@@ -282,7 +285,7 @@ fn scan_of<'a>(m: &ArgMatches<'a>) -> Option<Request<'a>> {
 }
 
 fn join_of<'a>(m: &ArgMatches<'a>) -> Option<Request<'a>> {
-    Some(Request::Join(JoinWords {
+    Some(Request::Join(JoinArguments {
         modcod: read_modcod(m.get_str("modcod")?)?,
         short: m.get_flag("short"),
         bbframes: m.get_str("BBFRAMES")?,
@@ -291,7 +294,7 @@ fn join_of<'a>(m: &ArgMatches<'a>) -> Option<Request<'a>> {
 }
 
 fn audit_of<'a>(m: &ArgMatches<'a>) -> Option<Request<'a>> {
-    Some(Request::Audit(AuditWords {
+    Some(Request::Audit(AuditArguments {
         link: link_of(m)?,
         divisor: number_of(m, "divisor")?,
         tuned: m.get_flag("tuned"),
@@ -323,7 +326,7 @@ fn request_of<'a>(name: &str, m: &ArgMatches<'a>) -> Option<Request<'a>> {
 /// The request of parsed arguments.
 fn request_in<'a>(alloc: Global, matches: &ArgMatches<'a>) -> Result<Request<'a>, Unread> {
     match matches.subcommand() {
-        None => Ok(Request::Own),
+        None => Ok(Request::Demo),
         Some((name, inner)) => match request_of(name, inner) {
             Some(request) => Ok(request),
             None => Err(not_understood(alloc, name, inner)?),
@@ -331,9 +334,9 @@ fn request_in<'a>(alloc: Global, matches: &ArgMatches<'a>) -> Result<Request<'a>
     }
 }
 
-/// The request of the command line, or why there is none. A few values the parser takes as any text: one of these that
-/// cannot be read is a usage fault too.
-pub fn read_words<'a>(alloc: Global, arguments: &'a [String]) -> Result<Request<'a>, Unread> {
+/// The request of the command line, or why there is none. The parser accepts any text for a few values: it is a usage
+/// error too if one of these is invalid.
+pub fn parse_arguments<'a>(alloc: Global, arguments: &'a [String]) -> Result<Request<'a>, Unread> {
     match program(alloc)?.try_get_matches_from(arguments) {
         Ok(matches) => request_in(alloc, &matches),
         Err(error) => Err(unread_of(alloc, arguments, error)?),

@@ -1,11 +1,11 @@
-//! Usage faults: each is one line, with what is accepted and the way to the help.
-use crate::arguments::Form;
+//! Usage errors. Each is one line with the mistake, the accepted values, and the command that prints the help.
+use crate::arguments::ArgumentKind;
 use crate::decibels::read_esn0;
 use crate::misuse::{Misuse, misuse_of};
 use crate::options::read_modcod;
 use crate::reading::roll_off_of;
 use crate::seed_range::read_seeds;
-use crate::table::{Entry, arguments_of, commands};
+use crate::table::{CommandHelp, arguments_of, commands};
 use crate::unread::Unread;
 use clap::builder::ValueParser;
 use clap::error::ErrorKind;
@@ -15,7 +15,7 @@ use s2_names::{Case, SymbolRate, constellation};
 use std::alloc::{AllocError, Global};
 
 /// The command of this name.
-fn entry_of(name: &str) -> Option<Entry> {
+fn entry_of(name: &str) -> Option<CommandHelp> {
     for entry in commands() {
         if entry.name == name {
             return Some(*entry);
@@ -24,13 +24,13 @@ fn entry_of(name: &str) -> Option<Entry> {
     None
 }
 
-/// The command of the words, if they name one.
-fn command_in(arguments: &[String]) -> Option<Entry> {
+/// The command that the arguments name, if there is one.
+fn command_in(arguments: &[String]) -> Option<CommandHelp> {
     entry_of(arguments.get(1)?.as_str())
 }
 
-/// The end of a line: where there is more about a command, or about the program.
-fn push_way(text: &mut String, command: Option<Entry>) -> Result<(), AllocError> {
+/// Appends the end of a line: the command that prints the help of a command or of the program.
+fn push_way(text: &mut String, command: Option<CommandHelp>) -> Result<(), AllocError> {
     match command {
         Some(entry) => {
             let name = entry.name;
@@ -40,7 +40,7 @@ fn push_way(text: &mut String, command: Option<Entry>) -> Result<(), AllocError>
     }
 }
 
-/// Appends a word of the line, in quotes and with its escapes if it is empty or has spaces or control characters.
+/// Appends an argument. If it is empty or has spaces or control characters, it is quoted and escaped.
 fn push_word(text: &mut String, word: &str) -> Result<(), AllocError> {
     if word.is_empty() || word.bytes().any(|byte| byte <= b' ' || byte == 127) {
         write!(text, "{word:?}")
@@ -53,13 +53,13 @@ fn push_word(text: &mut String, word: &str) -> Result<(), AllocError> {
 fn push_accepted(text: &mut String, parser: ValueParser<'static>) -> Result<(), AllocError> {
     match parser {
         ValueParser::Signed(least, most) => write!(text, "{least} to {most}"),
-        ValueParser::Unsigned(_, _) => text.push_str("a number of 64 bits"),
+        ValueParser::Unsigned(_, _) => text.push_str("an unsigned 64-bit number"),
         ValueParser::Names(names) => push_names(text, names),
-        _ => text.push_str("a value of it"),
+        _ => text.push_str("a valid value"),
     }
 }
 
-/// Appends names, with a comma between them.
+/// Appends names, with `or` between them.
 fn push_names(text: &mut String, names: &[&str]) -> Result<(), AllocError> {
     let mut between = "";
     for name in names {
@@ -70,13 +70,13 @@ fn push_names(text: &mut String, names: &[&str]) -> Result<(), AllocError> {
     Ok(())
 }
 
-/// The parser of an option, by its name in the help, as `--number <N>`.
-fn parser_of(command: Option<Entry>, option: &str) -> ValueParser<'static> {
+/// The parser of the option with this name in the help, for example `--number <N>`.
+fn parser_of(command: Option<CommandHelp>, option: &str) -> ValueParser<'static> {
     let Some(entry) = command else {
         return ValueParser::String;
     };
     for argument in arguments_of(entry.command) {
-        if let Form::Valued(value) = argument.form {
+        if let ArgumentKind::Valued(value) = argument.form {
             if bare(option).strip_prefix("--") == Some(argument.name) {
                 return value.allowed;
             }
@@ -85,7 +85,7 @@ fn parser_of(command: Option<Entry>, option: &str) -> ValueParser<'static> {
     ValueParser::String
 }
 
-/// An option without what stands for its value.
+/// An option without the name of its value.
 fn bare(option: &str) -> &str {
     match option.split_once(' ') {
         Some((name, _)) => name,
@@ -101,11 +101,15 @@ fn push_refused(text: &mut String, option: &str, value: &str) -> Result<(), Allo
     text.push_str(" is not ")
 }
 
-/// Appends what is said of a word that is neither an option nor a file.
-fn push_unknown(text: &mut String, command: Option<Entry>, word: &str) -> Result<(), AllocError> {
+/// Appends that a word is neither an option nor a file.
+fn push_unknown(
+    text: &mut String,
+    command: Option<CommandHelp>,
+    word: &str,
+) -> Result<(), AllocError> {
     push_word(text, word)?;
     if !word.starts_with('-') {
-        return text.push_str(" is one argument too many");
+        return text.push_str(" is an unexpected argument");
     }
     text.push_str(" is not an option of ")?;
     match command {
@@ -120,11 +124,11 @@ fn push_lines(alloc: Global, text: &mut String, lines: &str) -> Result<(), Alloc
     text.push_str(names.as_str())
 }
 
-/// Appends what a mistake is.
+/// Appends a description of a mistake.
 fn push_misuse(
     alloc: Global,
     text: &mut String,
-    command: Option<Entry>,
+    command: Option<CommandHelp>,
     misuse: Misuse<'_>,
 ) -> Result<(), AllocError> {
     match misuse {
@@ -154,7 +158,7 @@ fn push_misuse(
     }
 }
 
-/// A value given to `--pilots` in the belief that it takes one.
+/// Values that users give to `--pilots`, although it takes none.
 const SWITCHES: [&str; 8] = ["on", "off", "yes", "no", "true", "false", "1", "0"];
 
 fn is_switch(word: &str) -> bool {
@@ -166,7 +170,7 @@ fn is_switch(word: &str) -> bool {
     false
 }
 
-/// Whether such a value follows `--pilots`.
+/// Whether one of these values follows `--pilots`.
 fn is_switched(arguments: &[String]) -> bool {
     let mut behind = false;
     for argument in arguments {
@@ -178,7 +182,7 @@ fn is_switched(arguments: &[String]) -> bool {
     false
 }
 
-/// The mistake that an error of this kind and this text is about.
+/// The mistake that an error with this kind and this text reports.
 fn mistake_of<'t>(arguments: &[String], kind: ErrorKind, told: &'t str) -> Option<Misuse<'t>> {
     match misuse_of(kind, told)? {
         Misuse::Unknown(_) if is_switched(arguments) => Some(Misuse::TakesNone("--pilots")),
@@ -186,7 +190,7 @@ fn mistake_of<'t>(arguments: &[String], kind: ErrorKind, told: &'t str) -> Optio
     }
 }
 
-/// The line of the usage fault that an error of this kind and this text is.
+/// The line of a usage error, from the kind and the text of clap's error.
 fn fault_line(
     alloc: Global,
     arguments: &[String],
@@ -197,13 +201,13 @@ fn fault_line(
     let mut text = String::from_str(alloc, "s2: ")?;
     match mistake_of(arguments, kind, told) {
         Some(misuse) => push_misuse(alloc, &mut text, command, misuse)?,
-        None => text.push_str(kind.as_str().unwrap_or("the words are not understood"))?,
+        None => text.push_str(kind.as_str().unwrap_or("the arguments are not understood"))?,
     }
     push_way(&mut text, command)?;
     Ok(text)
 }
 
-/// Why words are no request, from the parser's error.
+/// Why a command line is not a request, from the parser's error.
 pub(crate) fn unread_of(
     alloc: Global,
     arguments: &[String],
@@ -235,7 +239,7 @@ fn push_modes(text: &mut String, modulation: Modulation) -> Result<(), AllocErro
     Ok(())
 }
 
-/// Appends the values that are accepted for a mode: the names of its constellation, if it begins with one.
+/// Appends the accepted modes: those of the constellation with which the name begins, if it does.
 fn push_accepted_modes(text: &mut String, name: &str) -> Result<(), AllocError> {
     if begins_with(name, "qpsk", "QPSK") {
         text.push_str("a mode: QPSK has ")?;
@@ -244,7 +248,7 @@ fn push_accepted_modes(text: &mut String, name: &str) -> Result<(), AllocError> 
         text.push_str("a mode: 8PSK has ")?;
         push_modes(text, Modulation::Psk8)
     } else {
-        text.push_str("1 to 17 or a name")
+        text.push_str("1 to 17 or the name of a mode")
     }
 }
 
@@ -252,7 +256,7 @@ fn begins_with(name: &str, small: &str, capital: &str) -> bool {
     name.starts_with(small) || name.starts_with(capital)
 }
 
-/// The line of a MODCOD that is none.
+/// The line for an invalid MODCOD.
 fn modcod_line(alloc: Global, value: &str) -> Result<String, AllocError> {
     let mut text = String::from_str(alloc, "s2: ")?;
     push_refused(&mut text, "--modcod", value)?;
@@ -261,7 +265,7 @@ fn modcod_line(alloc: Global, value: &str) -> Result<String, AllocError> {
     Ok(text)
 }
 
-/// A value that an option does not accept.
+/// An option, a value that it does not accept, and those that it accepts.
 #[derive(Clone, Copy)]
 struct Refused<'a> {
     value: &'a str,
@@ -269,7 +273,7 @@ struct Refused<'a> {
     accepted: &'static str,
 }
 
-/// The value of an option that accepts these, if it is given and could not be read.
+/// The value of an option, if it is given and invalid.
 fn refused_by<'a>(
     value: Option<&'a str>,
     is_read: bool,
@@ -286,7 +290,7 @@ fn refused_by<'a>(
     }
 }
 
-/// The first value that its option does not accept, of those that the parser takes as any text. MODCOD is apart.
+/// The first invalid value of the options for which the parser accepts any text, apart from `--modcod`.
 fn refused_in<'a>(m: &ArgMatches<'a>) -> Option<Refused<'a>> {
     let (roll_off, esn0) = (m.get_str("ro"), m.get_str("esn0"));
     let (seeds, rate) = (m.get_str("seeds"), m.get_str("rate"));
@@ -300,13 +304,13 @@ fn refused_in<'a>(m: &ArgMatches<'a>) -> Option<Refused<'a>> {
         esn0,
         esn0.and_then(read_esn0).is_some(),
         "--esn0",
-        "-10 to 40, with at most two digits after the point",
+        "-10 to 40, with at most two decimals",
     ))
     .or(refused_by(
         seeds,
         seeds.and_then(read_seeds).is_some(),
         "--seeds",
-        "two numbers of 64 bits with two points between them, the first at most the second, as 1..100",
+        "two unsigned 64-bit numbers with two dots between them, the first at most the second, for example 1..100",
     ))
     .or(refused_by(
         rate,
@@ -316,7 +320,7 @@ fn refused_in<'a>(m: &ArgMatches<'a>) -> Option<Refused<'a>> {
     ))
 }
 
-/// The line of the first value that its option does not accept.
+/// The line for the first invalid value.
 fn refused_line(alloc: Global, name: &str, m: &ArgMatches<'_>) -> Result<String, AllocError> {
     let mut text = String::from_str(alloc, "s2: ")?;
     match refused_in(m) {
@@ -324,13 +328,13 @@ fn refused_line(alloc: Global, name: &str, m: &ArgMatches<'_>) -> Result<String,
             push_refused(&mut text, refused.option, refused.value)?;
             text.push_str(refused.accepted)?;
         }
-        None => text.push_str("no request has these words")?,
+        None => text.push_str("the arguments are not understood")?,
     }
     push_way(&mut text, entry_of(name))?;
     Ok(text)
 }
 
-/// The usage fault of arguments from which no request can be made.
+/// The usage error of arguments from which no request can be made.
 pub(crate) fn not_understood(
     alloc: Global,
     name: &str,
@@ -344,11 +348,11 @@ pub(crate) fn not_understood(
     }
 }
 
-/// The usage fault of an argument that is not text.
+/// The usage error of an argument that is not text.
 pub fn not_text(alloc: Global, argument: &str) -> Result<Unread, AllocError> {
     let mut text = String::from_str(alloc, "s2: ")?;
     push_word(&mut text, argument)?;
-    text.push_str(" is not text in UTF-8")?;
+    text.push_str(" is not valid UTF-8")?;
     push_way(&mut text, None)?;
     Ok(Unread::Fault(text))
 }

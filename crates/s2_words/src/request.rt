@@ -3,7 +3,7 @@ use s2_names::SymbolRate;
 
 /// The numbers of a shape.
 #[derive(Clone, Copy)]
-pub struct ShapeWords {
+pub struct ShapeArguments {
     pub group: u16,
     pub groups: u16,
     pub q: u16,
@@ -11,7 +11,7 @@ pub struct ShapeWords {
 
 /// The numbers of a mode and of a link.
 #[derive(Clone, Copy)]
-pub struct LinkWords {
+pub struct LinkArguments {
     pub modcod: u8,
     pub short: bool,
     pub pilots: bool,
@@ -19,35 +19,35 @@ pub struct LinkWords {
     pub roll_off: u8,
 }
 
-/// How strong noise is: its level, or an Es/N0 in hundredths of a dB.
+/// The strength of the noise: its level, or an Es/N0 in hundredths of a dB.
 #[derive(Clone, Copy)]
-pub enum StrengthWords {
+pub enum StrengthArguments {
     Level(u16),
     EsN0(i32),
 }
 
-/// The seed of a channel's noise, and how strong that is.
+/// The seed and the strength of a channel's noise.
 #[derive(Clone, Copy)]
-pub struct ChannelWords {
+pub struct ChannelArguments {
     pub seed: u64,
-    pub strength: StrengthWords,
+    pub strength: StrengthArguments,
 }
 
-/// A number of the line, or its default if it is not there.
+/// A number of the command line, or its default if it is not given.
 #[derive(Clone, Copy)]
-pub struct NumberWords {
+pub struct NumberArguments {
     pub is_given: bool,
     pub value: u32,
 }
 
-/// What the line says of how a receiver is tuned.
+/// The tuning of a receiver, as the command line has it.
 #[derive(Clone, Copy)]
-pub struct TuningWords {
-    pub rounds: NumberWords,
-    pub passes: NumberWords,
-    pub divisor: NumberWords,
-    pub factor: NumberWords,
-    pub max_header_errors: NumberWords,
+pub struct TuningArguments {
+    pub rounds: NumberArguments,
+    pub passes: NumberArguments,
+    pub divisor: NumberArguments,
+    pub factor: NumberArguments,
+    pub max_header_errors: NumberArguments,
     pub tuned: bool,
     pub uncertified: bool,
     pub figures: bool,
@@ -62,24 +62,24 @@ pub struct Seeds {
 
 /// `rows`: the numbers of made rows.
 #[derive(Clone, Copy)]
-pub struct RowsWords {
-    pub shape: ShapeWords,
+pub struct RowsArguments {
+    pub shape: ShapeArguments,
     pub weight: u8,
     pub seed: u64,
 }
 
 /// A code, by the numbers of its shape or by a mode.
 #[derive(Clone, Copy)]
-pub enum CodeWords {
-    Shape(ShapeWords),
+pub enum CodeArguments {
+    Shape(ShapeArguments),
     Mode { modcod: u8, short: bool },
 }
 
-/// `judge`: a code, whether there are many frames, whether the values are decided bits, whether notes are left out, the
-/// passes and the factor, whether what min-sum finds stays uncertified, and the files.
+/// `judge`: a code, whether there are several frames, whether the values are hard bits, whether notes are suppressed,
+/// the passes and the factor, whether there is no search for certificates after min-sum, and the files.
 #[derive(Clone, Copy)]
-pub struct JudgeWords<'a> {
-    pub code: CodeWords,
+pub struct JudgeArguments<'a> {
+    pub code: CodeArguments,
     pub each: bool,
     pub hard: bool,
     pub quiet: bool,
@@ -93,16 +93,16 @@ pub struct JudgeWords<'a> {
 
 /// `table`: the numbers of a code, and its row file.
 #[derive(Clone, Copy)]
-pub struct TableWords<'a> {
+pub struct TableArguments<'a> {
     pub modcod: u8,
     pub short: bool,
     pub quiet: bool,
     pub rows: &'a str,
 }
 
-/// `check`: whether there are many certificates, and the files.
+/// `check`: whether there are several certificates, and the files.
 #[derive(Clone, Copy)]
-pub struct CheckWords<'a> {
+pub struct CheckArguments<'a> {
     pub each: bool,
     pub rows: &'a str,
     pub certificate: &'a str,
@@ -111,23 +111,24 @@ pub struct CheckWords<'a> {
 /// Whether progress is shown on standard error.
 #[derive(Clone, Copy)]
 pub enum Progress {
-    /// It was requested.
+    /// Always: it was requested.
     Shown,
-    /// If standard error is a terminal.
+    /// Only if standard error is a terminal.
     OnTerminal,
-    /// It was to be quiet.
+    /// Never: `--quiet` was given.
     Hidden,
 }
 
-/// `mod`: a link, the number of frames between dummy frames (0 for none), whether notes are left out, whether
-/// progress is shown, the records (codewords and BBFRAMEs), and the files.
+/// `mod`: a link, the number of frames between dummy frames (0 for none), and whether it continues after a wrong sync byte.
+/// Also whether notes are left out, whether progress is shown, the records (codewords and BBFRAMEs), and the files.
 #[derive(Clone, Copy)]
-pub struct ModWords<'a> {
-    pub link: LinkWords,
+pub struct ModArguments<'a> {
+    pub link: LinkArguments,
     pub dummy: u16,
+    pub resync: bool,
     pub quiet: bool,
     pub progress: Progress,
-    pub records: RecordWords<'a>,
+    pub records: RecordArguments<'a>,
     pub rows: &'a str,
     pub packets: &'a str,
     pub symbols: &'a str,
@@ -135,46 +136,46 @@ pub struct ModWords<'a> {
 
 /// `noise`: a channel, whether progress is shown, and the files.
 #[derive(Clone, Copy)]
-pub struct NoiseWords<'a> {
-    pub channel: ChannelWords,
+pub struct NoiseArguments<'a> {
+    pub channel: ChannelArguments,
     pub progress: Progress,
     pub from: &'a str,
     pub to: &'a str,
 }
 
-/// What decides the exit of a reception.
+/// What the exit status of a reception depends on.
 #[derive(Clone, Copy)]
 pub enum ExitBy {
-    /// Each frame is to be certified.
+    /// Every frame must be certified.
     Certainty,
-    /// Each frame is to be delivered, and no symbols are to be skipped.
+    /// Every frame must be delivered, and no symbols may be skipped.
     Delivery,
 }
 
-/// What a reception reports besides its lines: what decides the exit, whether losses do so too, whether it has the best
-/// settings already, so that no note proposes them, and whether notes are left out.
+/// The notes and the exit status of a reception: what the status depends on, and whether it also depends on losses. If
+/// the best settings are in use already, no note proposes them. Notes can be suppressed.
 #[derive(Clone, Copy)]
-pub struct NoteWords {
+pub struct NoteArguments {
     pub exit_by: ExitBy,
     pub strict: bool,
     pub tuned: bool,
     pub quiet: bool,
 }
 
-/// The files of records, those that are given: certificates, soft values, words and BBFRAMEs. The words are decided bits,
-/// or the codewords that are sent.
+/// The given files of records: certificates, soft values, words and BBFRAMEs. The words are decided bits, or the
+/// transmitted codewords.
 #[derive(Clone, Copy)]
-pub struct RecordWords<'a> {
+pub struct RecordArguments<'a> {
     pub certificates: Option<&'a str>,
     pub values: Option<&'a str>,
     pub codewords: Option<&'a str>,
     pub bbframes: Option<&'a str>,
 }
 
-impl<'a> RecordWords<'a> {
+impl<'a> RecordArguments<'a> {
     /// The names of the files, in the order in which they are opened.
     pub fn names(self) -> [Option<&'a str>; 4] {
-        let RecordWords {
+        let RecordArguments {
             certificates,
             values,
             codewords,
@@ -184,43 +185,45 @@ impl<'a> RecordWords<'a> {
     }
 }
 
-/// `demod`: a link, the tuning, the notes, of how many frames one has its line (0 if each has it), whether progress is
-/// shown, the records, and the files.
+/// `demod`: a link, the tuning, the notes, N if every N-th frame has a line (0: each frame has one), whether progress
+/// is shown, the records, and the files.
 #[derive(Clone, Copy)]
-pub struct DemodWords<'a> {
-    pub link: LinkWords,
-    pub tuning: TuningWords,
-    pub notes: NoteWords,
+pub struct DemodArguments<'a> {
+    pub link: LinkArguments,
+    pub tuning: TuningArguments,
+    pub notes: NoteArguments,
     pub every: u32,
     pub progress: Progress,
-    pub records: RecordWords<'a>,
+    pub records: RecordArguments<'a>,
     pub rows: &'a str,
     pub symbols: &'a str,
     pub packets: &'a str,
 }
 
-/// `run`: a link, the number of frames between dummy frames (0 for none), the tuning, a channel, the seeds of its runs
-/// if there are many (the channel's seed is then the first of them), the notes, of how many frames one has its line (0 if
-/// each has it), whether progress is shown, the records, and the files.
+/// `run`: a link, the number of frames between dummy frames (0 for none), whether it continues after a wrong sync byte,
+/// the tuning, and a channel. If there are several runs it has the range of their seeds, and the channel has the first of them.
+/// Also the notes, N if every N-th frame has a line (0: each frame has one), whether progress is shown, the records, and
+/// the files.
 #[derive(Clone, Copy)]
-pub struct RunWords<'a> {
-    pub link: LinkWords,
+pub struct RunArguments<'a> {
+    pub link: LinkArguments,
     pub dummy: u16,
-    pub tuning: TuningWords,
-    pub channel: ChannelWords,
+    pub resync: bool,
+    pub tuning: TuningArguments,
+    pub channel: ChannelArguments,
     pub seeds: Option<Seeds>,
-    pub notes: NoteWords,
+    pub notes: NoteArguments,
     pub every: u32,
     pub progress: Progress,
-    pub records: RecordWords<'a>,
+    pub records: RecordArguments<'a>,
     pub rows: &'a str,
     pub packets: &'a str,
     pub to: &'a str,
 }
 
-/// `scan`: how many symbols are looked at, if not all, whether progress is shown, and the recording.
+/// `scan`: the number of symbols to examine if not all, whether progress is shown, and the recording.
 #[derive(Clone, Copy)]
-pub struct ScanWords<'a> {
+pub struct ScanArguments<'a> {
     pub first: Option<u32>,
     pub progress: Progress,
     pub symbols: &'a str,
@@ -228,18 +231,18 @@ pub struct ScanWords<'a> {
 
 /// `join`: the numbers of a mode, and the files.
 #[derive(Clone, Copy)]
-pub struct JoinWords<'a> {
+pub struct JoinArguments<'a> {
     pub modcod: u8,
     pub short: bool,
     pub bbframes: &'a str,
     pub packets: &'a str,
 }
 
-/// `audit`: a link, the divisor of soft values, whether the report was made with the best settings, and the files.
+/// `audit`: a link, the divisor of the soft values, whether the report was made with the best settings, and the files.
 #[derive(Clone, Copy)]
-pub struct AuditWords<'a> {
-    pub link: LinkWords,
-    pub divisor: NumberWords,
+pub struct AuditArguments<'a> {
+    pub link: LinkArguments,
+    pub divisor: NumberArguments,
     pub tuned: bool,
     pub rows: &'a str,
     pub symbols: &'a str,
@@ -247,28 +250,27 @@ pub struct AuditWords<'a> {
     pub certificates: &'a str,
 }
 
-/// `modes`: a symbol rate, if the bits of a transport stream per second are to be listed; and MODCOD and whether frames
-/// are short, if one mode is to be listed.
+/// `modes`: a symbol rate if net bit rates are listed too; and MODCOD and the frame length if one mode is listed.
 #[derive(Clone, Copy)]
-pub struct ModesWords {
+pub struct ModesArguments {
     pub rate: Option<SymbolRate>,
     pub mode: Option<(u8, bool)>,
 }
 
-/// The request: `Own` without a command, else the command with its options.
+/// The request: `Demo` without a command, else the command with its options.
 #[derive(Clone, Copy)]
 pub enum Request<'a> {
-    Own,
-    Modes(ModesWords),
-    Rows(RowsWords),
-    Table(TableWords<'a>),
-    Judge(JudgeWords<'a>),
-    Check(CheckWords<'a>),
-    Mod(ModWords<'a>),
-    Noise(NoiseWords<'a>),
-    Demod(DemodWords<'a>),
-    Run(RunWords<'a>),
-    Scan(ScanWords<'a>),
-    Join(JoinWords<'a>),
-    Audit(AuditWords<'a>),
+    Demo,
+    Modes(ModesArguments),
+    Rows(RowsArguments),
+    Table(TableArguments<'a>),
+    Judge(JudgeArguments<'a>),
+    Check(CheckArguments<'a>),
+    Mod(ModArguments<'a>),
+    Noise(NoiseArguments<'a>),
+    Demod(DemodArguments<'a>),
+    Run(RunArguments<'a>),
+    Scan(ScanArguments<'a>),
+    Join(JoinArguments<'a>),
+    Audit(AuditArguments<'a>),
 }

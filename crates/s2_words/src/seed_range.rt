@@ -1,11 +1,11 @@
-//! A range of seeds as a text of the command line.
+//! Reads a range of seeds from the command line.
 ghost use Rattle.std.specs.Prelude.{◌≡◌, ◌++◌, ◌↔◌, ℕ, List, codes, IsSome, IsSomeAnd, IfSome};
 ghost use Rattle.s2_words.specs.SeedRanges.{IsSeedText, IsSeedsText, HasNoPoint};
 ghost use Rattle.s2_words.specs.declared.request.Seeds.{Seeds};
 
 use crate::request::Seeds;
 
-/// The two parts of a text around two points.
+/// The parts of a text before and after two dots.
 fn parts_of(text: &str) -> Option<(&str, &str)>
     ensures parts { IfSome result (λ p. text.now ≡ p.0.now ++ (codes ".." ++ p.1.now)) }
     ensures only { (first last : List ℕ) → text.now ≡ first ++ (codes ".." ++ last) → HasNoPoint first
@@ -24,7 +24,7 @@ fn read_seed(text: &str) -> Option<u64>
     text.parse::<u64>().ok()
 }
 
-/// A range of seeds: the first and the last, with two points between them.
+/// A range of seeds: the first and the last, with two dots between them.
 pub(crate) fn read_seeds(text: &str) -> Option<Seeds>
     ensures found { IsSome result ↔ ((seeds : Seeds) × IsSeedsText seeds text.now) }
     ensures value { IfSome result (λ seeds. IsSeedsText seeds text.now) }

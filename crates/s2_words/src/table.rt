@@ -1,18 +1,18 @@
-//! The table of all that the program understands: its commands, and the arguments of each.
+//! The table of the command line: the commands, and the arguments of each.
 use crate::arguments::{
     Argument, BBFRAMES, BBFRAMES_READ, CERTIFICATE, CERTIFICATE_READ, CERTIFICATES,
     CERTIFICATES_READ, CLEAN_SYMBOLS, CODEWORDS, DIVISOR, DIVISOR_OF_REPORT, DUMMY,
     EACH_CERTIFICATE, EACH_FRAME, ESN0, EVERY, EXIT_BY, FACTOR, FIGURES, FIRST, GROUP,
     GROUP_OR_MODE, GROUPS, GROUPS_OR_MODE, HARD, LEVEL, LOCK, MODCOD, MODCOD_OR_NONE,
     NOISY_SYMBOLS, NUMBER, PACKETS, PACKETS_MADE, PACKETS_RECEIVED, PASSES, PILOTS, PROGRESS, Q,
-    Q_OR_MODE, QUIET, QUIET_AND_STILL, RATE, RECORDING, REPORT, ROLL_OFF, ROLL_OFF_READ, ROUNDS,
-    ROWS, SEED, SEED_OR_SEEDS, SEEDS, SENT_BBFRAMES, SENT_CODEWORDS, SHORT, SOFT_VALUES, STRICT,
-    SYMBOLS, SYMBOLS_MADE, TUNED, TUNED_REPORT, UNCERTIFIED, VALUES, WEIGHT,
+    Q_OR_MODE, QUIET, QUIET_AND_STILL, RATE, RECORDING, REPORT, RESYNC, ROLL_OFF, ROLL_OFF_READ,
+    ROUNDS, ROWS, SEED, SEED_OR_SEEDS, SEEDS, SENT_BBFRAMES, SENT_CODEWORDS, SHORT, SOFT_VALUES,
+    STRICT, SYMBOLS, SYMBOLS_MADE, TUNED, TUNED_REPORT, UNCERTIFIED, VALUES, WEIGHT,
 };
 
 /// The commands.
 #[derive(Clone, Copy)]
-pub(crate) enum Name {
+pub(crate) enum CommandName {
     Modes,
     Rows,
     Table,
@@ -27,80 +27,81 @@ pub(crate) enum Name {
     Audit,
 }
 
-/// A command, and its name. Its options and its help are apart, so that no proof has the texts of all.
+/// A command, its name and its first line of help. Its options and the rest of its help are separate, so that no proof
+/// contains all texts.
 #[derive(Clone, Copy)]
-pub(crate) struct Entry {
-    pub command: Name,
+pub(crate) struct CommandHelp {
+    pub command: CommandName,
     pub name: &'static str,
     pub about: &'static str,
 }
 
-/// All commands.
-static COMMANDS: [Entry; 12] = [
-    Entry {
-        command: Name::Modes,
+/// All commands, in the order of the help.
+static COMMANDS: [CommandHelp; 12] = [
+    CommandHelp {
+        command: CommandName::Demod,
+        name: "demod",
+        about: "Demodulates symbols into a transport stream",
+    },
+    CommandHelp {
+        command: CommandName::Scan,
+        name: "scan",
+        about: "Finds the modes in a recording, and how to receive it",
+    },
+    CommandHelp {
+        command: CommandName::Mod,
+        name: "mod",
+        about: "Modulates a transport stream into symbols",
+    },
+    CommandHelp {
+        command: CommandName::Run,
+        name: "run",
+        about: "Sends a transport stream through a noisy channel and receives it",
+    },
+    CommandHelp {
+        command: CommandName::Noise,
+        name: "noise",
+        about: "Adds noise generated from a seed to symbols",
+    },
+    CommandHelp {
+        command: CommandName::Modes,
         name: "modes",
         about: "Lists the modes",
     },
-    Entry {
-        command: Name::Rows,
+    CommandHelp {
+        command: CommandName::Rows,
         name: "rows",
-        about: "Prints a row file that a seed determines",
+        about: "Prints a row file generated from a seed",
     },
-    Entry {
-        command: Name::Table,
+    CommandHelp {
+        command: CommandName::Table,
         name: "table",
-        about: "Tells whether rows are the standard's",
+        about: "Checks whether a row file is the standard's table",
     },
-    Entry {
-        command: Name::Judge,
+    CommandHelp {
+        command: CommandName::Judge,
         name: "judge",
-        about: "Decides on soft values",
+        about: "Decodes soft values",
     },
-    Entry {
-        command: Name::Check,
+    CommandHelp {
+        command: CommandName::Check,
         name: "check",
-        about: "Checks a certificate that its word is most likely",
+        about: "Verifies a certificate",
     },
-    Entry {
-        command: Name::Mod,
-        name: "mod",
-        about: "Makes the symbols of packets",
-    },
-    Entry {
-        command: Name::Noise,
-        name: "noise",
-        about: "Adds noise that a seed determines to symbols",
-    },
-    Entry {
-        command: Name::Demod,
-        name: "demod",
-        about: "Receives the packets of symbols",
-    },
-    Entry {
-        command: Name::Run,
-        name: "run",
-        about: "Sends packets, adds noise, and receives them",
-    },
-    Entry {
-        command: Name::Scan,
-        name: "scan",
-        about: "Tells which modes a recording has, and how to receive it",
-    },
-    Entry {
-        command: Name::Join,
-        name: "join",
-        about: "Joins the packets of BBFRAMEs",
-    },
-    Entry {
-        command: Name::Audit,
+    CommandHelp {
+        command: CommandName::Audit,
         name: "audit",
-        about: "Checks a report by the certificates of its frames, without decoding",
+        about: "Checks a report against its certificates, without decoding",
+    },
+    CommandHelp {
+        command: CommandName::Join,
+        name: "join",
+        about: "Reassembles packets from BBFRAMEs",
     },
 ];
 
-/// All commands.
-pub(crate) fn commands() -> &'static [Entry] {
+/// All commands, in the order of the help.
+pub(crate) fn commands() -> &'static [CommandHelp] {
     &COMMANDS
 }
 
@@ -135,13 +136,14 @@ static JUDGE_ARGUMENTS: [Argument; 14] = [
 static CHECK_ARGUMENTS: [Argument; 4] = [EACH_CERTIFICATE, QUIET, ROWS, CERTIFICATE_READ];
 
 /// The arguments of `mod`, in order.
-static MOD_ARGUMENTS: [Argument; 13] = [
+static MOD_ARGUMENTS: [Argument; 14] = [
     MODCOD,
     SHORT,
     PILOTS,
     NUMBER,
     ROLL_OFF,
     DUMMY,
+    RESYNC,
     QUIET_AND_STILL,
     PROGRESS,
     SENT_CODEWORDS,
@@ -192,13 +194,14 @@ static DEMOD_ARGUMENTS: [Argument; 25] = [
 ];
 
 /// The arguments of `run`, in order.
-static RUN_ARGUMENTS: [Argument; 30] = [
+static RUN_ARGUMENTS: [Argument; 31] = [
     MODCOD,
     SHORT,
     PILOTS,
     NUMBER,
     ROLL_OFF,
     DUMMY,
+    RESYNC,
     ROUNDS,
     PASSES,
     UNCERTIFIED,
@@ -247,102 +250,102 @@ static AUDIT_ARGUMENTS: [Argument; 11] = [
 ];
 
 /// The arguments of a command.
-pub(crate) fn arguments_of(command: Name) -> &'static [Argument] {
+pub(crate) fn arguments_of(command: CommandName) -> &'static [Argument] {
     match command {
-        Name::Modes => &MODES_ARGUMENTS,
-        Name::Rows => &ROWS_ARGUMENTS,
-        Name::Table => &TABLE_ARGUMENTS,
-        Name::Judge => &JUDGE_ARGUMENTS,
-        Name::Check => &CHECK_ARGUMENTS,
-        Name::Mod => &MOD_ARGUMENTS,
-        Name::Noise => &NOISE_ARGUMENTS,
-        Name::Demod => &DEMOD_ARGUMENTS,
-        Name::Run => &RUN_ARGUMENTS,
-        Name::Scan => &SCAN_ARGUMENTS,
-        Name::Join => &JOIN_ARGUMENTS,
-        Name::Audit => &AUDIT_ARGUMENTS,
+        CommandName::Modes => &MODES_ARGUMENTS,
+        CommandName::Rows => &ROWS_ARGUMENTS,
+        CommandName::Table => &TABLE_ARGUMENTS,
+        CommandName::Judge => &JUDGE_ARGUMENTS,
+        CommandName::Check => &CHECK_ARGUMENTS,
+        CommandName::Mod => &MOD_ARGUMENTS,
+        CommandName::Noise => &NOISE_ARGUMENTS,
+        CommandName::Demod => &DEMOD_ARGUMENTS,
+        CommandName::Run => &RUN_ARGUMENTS,
+        CommandName::Scan => &SCAN_ARGUMENTS,
+        CommandName::Join => &JOIN_ARGUMENTS,
+        CommandName::Audit => &AUDIT_ARGUMENTS,
     }
 }
 
-/// A choice of options, of which exactly one is required, and its name.
+/// A group of options: exactly one of them is required.
 #[derive(Clone, Copy)]
 pub(crate) struct Choice {
     pub name: &'static str,
     pub options: &'static [&'static str],
 }
 
-/// A code, by its shape or by a mode.
+/// A code is given by its shape or by a mode.
 const CODE: Choice = Choice {
     name: "code",
     options: &["group", "modcod"],
 };
 
-/// How strong noise is.
+/// The strength of the noise.
 const STRENGTH: Choice = Choice {
     name: "strength",
     options: &["level", "esn0"],
 };
 
-/// The seed of a run, or the seeds of many.
+/// The seed of one run, or the seeds of several.
 const SEEDING: Choice = Choice {
     name: "seeding",
     options: &["seed", "seeds"],
 };
 
 /// The choices of a command.
-pub(crate) fn choices_of(command: Name) -> &'static [Choice] {
+pub(crate) fn choices_of(command: CommandName) -> &'static [Choice] {
     match command {
-        Name::Judge => &[CODE],
-        Name::Noise => &[STRENGTH],
-        Name::Run => &[SEEDING, STRENGTH],
+        CommandName::Judge => &[CODE],
+        CommandName::Noise => &[STRENGTH],
+        CommandName::Run => &[SEEDING, STRENGTH],
         _ => &[],
     }
 }
 
-/// What must stand beside options, and what must not.
+/// Options that others require, and options that they exclude.
 #[derive(Clone, Copy)]
 pub(crate) struct Rule {
     /// If one of these is given,
     pub given: &'static [&'static str],
-    /// so are all of these,
+    /// all of these are required,
     pub needed: &'static [&'static str],
-    /// and none of these.
+    /// and none of these is allowed.
     pub excluded: &'static [&'static str],
 }
 
-/// A shape has three numbers, and stands in the place of a mode.
+/// A shape has three numbers, and replaces a mode.
 const WHOLE_SHAPE: Rule = Rule {
     given: &["group", "groups", "q"],
     needed: &["group", "groups", "q"],
     excluded: &["modcod", "short"],
 };
 
-/// The length is that of a mode's frames.
+/// Short frames require a mode.
 const LENGTH_OF_MODE: Rule = Rule {
     given: &["short"],
     needed: &["modcod"],
     excluded: &[],
 };
 
-/// What min-sum finds stays uncertified, so no passes look for a certificate.
+/// Without a search for certificates there are no passes.
 const NO_PASSES: Rule = Rule {
     given: &["uncertified"],
     needed: &[],
     excluded: &["passes"],
 };
 
-/// The rules for a command's options, at most one for each.
-fn rules_of(command: Name) -> &'static [Rule] {
+/// The rules for the options of a command, at most one per option.
+fn rules_of(command: CommandName) -> &'static [Rule] {
     match command {
-        Name::Modes => &[LENGTH_OF_MODE],
-        Name::Judge => &[WHOLE_SHAPE, LENGTH_OF_MODE, NO_PASSES],
-        Name::Demod | Name::Run => &[NO_PASSES],
+        CommandName::Modes => &[LENGTH_OF_MODE],
+        CommandName::Judge => &[WHOLE_SHAPE, LENGTH_OF_MODE, NO_PASSES],
+        CommandName::Demod | CommandName::Run => &[NO_PASSES],
         _ => &[],
     }
 }
 
 /// The rule for an option of a command, if there is one.
-pub(crate) fn rule_of(command: Name, option: &str) -> Option<Rule> {
+pub(crate) fn rule_of(command: CommandName, option: &str) -> Option<Rule> {
     for rule in rules_of(command) {
         if rule.given.contains(&option) {
             return Some(*rule);

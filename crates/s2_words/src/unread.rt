@@ -1,15 +1,15 @@
-//! Why there is no request.
+//! The reasons why a command line is not a request.
 use clap::Error;
 use std::alloc::AllocError;
 
-/// Why words are no request.
+/// Why a command line is not a request.
 #[derive(Drop)]
 pub enum Unread {
-    /// They ask for help or for the version, which clap prints.
+    /// It requests help or the version, which clap prints.
     Asked(Error),
-    /// They are a usage fault, of which this is the line.
+    /// It has a usage error: the line that reports it.
     Fault(String),
-    /// There was no memory to read them.
+    /// There was not enough memory to read it.
     NoMemory,
 }
 

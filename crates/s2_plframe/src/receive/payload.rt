@@ -41,12 +41,12 @@ fn read_slots(blocks: usize, gold: &Gold, slots: &[Symbol], out: &mut [Symbol])
     for block in 0..blocks {
         let at = PILOT_PERIOD * block;
         let to = PILOT_SPACING * block;
-        gold.unturn_into(
+        gold.derotate_into(
             at,
             &slots[at..at + PILOT_SPACING],
             &mut out[to..to + PILOT_SPACING],
         );
     }
     let at = PILOT_PERIOD * blocks;
-    gold.unturn_into(at, &slots[at..], &mut out[PILOT_SPACING * blocks..]);
+    gold.derotate_into(at, &slots[at..], &mut out[PILOT_SPACING * blocks..]);
 }

@@ -10,8 +10,8 @@ ghost use Rattle.s2_plframe.specs.Inside.{AreHeaders, is_dummy, found_by, wrong_
 use crate::constants::HEADER_THRESHOLD;
 use crate::header::{dummy_code, header_bit, pls_code};
 use crate::receive::found::Found;
-use crate::receive::lock::Lock;
 use crate::receive::registers::{header_number, is_near, mixed, pushed, wrong_in};
+use crate::receive::tolerance::HeaderTolerance;
 use s2_mode::{HEADER_SYMBOLS, Mode, Symbol};
 use std::marker::Model;
 
@@ -195,7 +195,7 @@ impl Search {
 
     /// What the last 90 symbols are if they come right after a frame: the nearest header passes, if its wrong
     /// bits are at most the lock's number. If fewer symbols came, it is nothing.
-    pub fn behind(&self, lock: Lock) -> Found
+    pub fn behind(&self, lock: HeaderTolerance) -> Found
         ensures found { length self.now.seen ≡ header_symbols → result ≡ found_behind self.now.mode lock self.now.seen }
         ensures early { length self.now.seen < header_symbols → result ≡ founds.Nothing }
     {

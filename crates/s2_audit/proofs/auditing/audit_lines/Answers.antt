@@ -1,7 +1,7 @@
 use Rattle.std.proofs.Common.{◌≡◌, None, Ok, Err, rules, arith, ap, ◌∙◌, inl, inr}
 use Rattle.s2_console.specs.declared.fault.Fault.TheVariants as faults
 use Rattle.s2_audit.specs.Auditing.{last_of}
-use Rattle.s2_audit.specs.Turns.{standing}
+use Rattle.s2_audit.specs.Outcomes.{standing}
 use Rattle.s2_audit.proofs.AuditLemmas.{begins, ends_by, few_counts, goes_on_by, not_failed, reaches, stops_there}
 use Rattle.s2_audit.proofs.auditing.audit_lines.Goals as goal
 
@@ -20,10 +20,10 @@ audit_line-requires-clause-few g c = few_counts _ _ _ _ _ _ _ _ _ c.lines.invari
 
 pub returns-in-Ok-Some-clause-audits : goal.returns-in-Ok-Some-clause-audits
 returns-in-Ok-Some-clause-audits g c =
-    ends_by (standing c.audit_line.new.desk.place c.audit_line.new.counts) (Ok c.in-Ok-Some.exit) c.lines.invariant.terms (c.in-Ok-Some.is ∙ ap Ok c.in-Ok-Some.field-0-is) c.lines.invariant.progress c.audit_line.ensures.line
+    ends_by (standing c.audit_line.new.auditor.place c.audit_line.new.counts) (Ok c.in-Ok-Some.exit) c.lines.invariant.terms (c.in-Ok-Some.is ∙ ap Ok c.in-Ok-Some.field-0-is) c.lines.invariant.progress c.audit_line.ensures.line
 
 pub returns-in-Err-clause-audits : goal.returns-in-Err-clause-audits
-returns-in-Err-clause-audits g c = ends_by (standing c.audit_line.new.desk.place c.audit_line.new.counts) (Err c.in-Err.fault) c.lines.invariant.terms c.in-Err.is c.lines.invariant.progress c.audit_line.ensures.line
+returns-in-Err-clause-audits g c = ends_by (standing c.audit_line.new.auditor.place c.audit_line.new.counts) (Err c.in-Err.fault) c.lines.invariant.terms c.in-Err.is c.lines.invariant.progress c.audit_line.ensures.line
 
 pub lines-preserved : goal.lines-preserved
 lines-preserved g c =

@@ -16,7 +16,7 @@ returns-clause-run g c =
     let between : Screen = screen_of (contents done.new.out) (count done.new.out) (g.E.CountedWrite.contents c.console.inside.errors) (g.E.Counted.count c.console.inside.errors) in
     let files = files_by g.R.CountedRead.remaining g.R.Counted.count in
     ran (setup_of c.args.setup) _ (files c.args.rows.now c.args.symbols.now c.args.report.now c.args.certificates.now)
-    (files done.new.rows done.new.symbols done.new.report done.new.certificates) before after between c.args.console.now c.conclude.new.self done.result c.conclude.result
-    (ap (λ (s : Screen). s.output) was) (ap (λ (s : Screen). s.output_failed) was) (sym c.conclude.ensures.output) (sym c.conclude.ensures.output_failed)
+    (files done.new.rows done.new.symbols done.new.report done.new.certificates) before after between c.args.console.now c.finish.new.self done.result c.finish.result
+    (ap (λ (s : Screen). s.output) was) (ap (λ (s : Screen). s.output_failed) was) (sym c.finish.ensures.output) (sym c.finish.ensures.output_failed)
     (ap (λ (s : Screen). s.errors) was) (ap (λ (s : Screen). s.errors_failed) was)
-    c.conclude.ensures.exit done.ensures.runs done.ensures.read done.ensures.no_read done.ensures.write done.ensures.no_write c.conclude.ensures.told
+    c.finish.ensures.exit done.ensures.runs done.ensures.read done.ensures.no_read done.ensures.write done.ensures.no_write c.finish.ensures.told

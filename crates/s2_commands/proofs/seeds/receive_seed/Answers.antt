@@ -1,5 +1,5 @@
 use Rattle.s2_commands.proofs.Names.{rules, inl, Ok, Some}
-use Rattle.s2_commands.proofs.HearingLemmas.{hears_on}
+use Rattle.s2_commands.proofs.NoisyReceptionLemmas.{hears_on}
 use Rattle.s2_commands.proofs.seeds.receive_seed.Goals as goal
 
 pub returns-in-Ok-add_noise-clause-hears : goal.returns-in-Ok-add_noise-clause-hears

@@ -12,5 +12,5 @@ returns-clause-known g c = λ fine.
     let before : Screen = screen_of (contents c.console.inside.output) (count c.console.inside.output) None 0 in
     let after : Screen = screen_of (contents c.join_files-ended.new.out) (count c.join_files-ended.new.out) None 0 in
     known c.args.mode (ends c.args.bbframes.now c.args.packets.now.to) (ends c.join_files-ended.new.bbframes c.join_files-ended.new.packets.to)
-    before after c.args.console.now c.conclude.new.self (ap (λ (s : Screen). s.output) c.console.view_is) (sym c.conclude.ensures.output)
-    _ c.join_files-ended.result c.conclude.result c.conclude.ensures.exit fine c.join_files-ended.ensures.runs
+    before after c.args.console.now c.finish.new.self (ap (λ (s : Screen). s.output) c.console.view_is) (sym c.finish.ensures.output)
+    _ c.join_files-ended.result c.finish.result c.finish.ensures.exit fine c.join_files-ended.ensures.runs

@@ -4,7 +4,7 @@ use Rattle.s2_check.specs.Strict.{IsStrict}
 use Rattle.s2_split.specs.Making.{shared_views}
 use Rattle.s2_settle.specs.Settled.{settled}
 use Rattle.s2_settle.specs.Holding.{view_by as view_settled}
-use Rattle.s2_judge.proofs.Certificates.{decoded_without, decoded_with, decoded_by_settler, found_nothing, strict_made, strict_settled}
+use Rattle.s2_judge.proofs.Certificates.{decoded_without, decoded_with, decoded_by_ascent, found_nothing, strict_made, strict_settled}
 use Rattle.s2_judge.proofs.certifier.find_for_decoded.Goals as goal
 
 pub returns-then-certify_codeword-clause-view : goal.returns-then-certify_codeword-clause-view
@@ -29,9 +29,9 @@ returns-then-certify-clause-view c =
     let soft = c.args.soft.now in
     let word = c.args.codeword.now in
     let passes = c.args.passes in
-    let settler = c.certify.new.self in
-    let is = ap (λ (q : Rows). settled q soft word passes) (sym c.requires.settler) ∙ c.certify.ensures.is ∙ ap (λ b. cond b (Some (view_settled settler soft word)) None) c.if-certify.true in
-    decoded_by_settler r passes soft word settler (ne_eqb passes 0 c.if-passes-eq0.false) (c.certify.ensures.rows ∙ c.requires.settler) is
+    let ascent = c.certify.new.self in
+    let is = ap (λ (q : Rows). settled q soft word passes) (sym c.requires.ascent) ∙ c.certify.ensures.is ∙ ap (λ b. cond b (Some (view_settled ascent soft word)) None) c.if-certify.true in
+    decoded_by_ascent r passes soft word ascent (ne_eqb passes 0 c.if-passes-eq0.false) (c.certify.ensures.rows ∙ c.requires.ascent) is
 
 pub returns-clause-view : goal.returns-clause-view
 returns-clause-view c =
@@ -39,7 +39,7 @@ returns-clause-view c =
     let soft = c.args.soft.now in
     let word = c.args.codeword.now in
     let passes = c.args.passes in
-    let is = ap (λ (q : Rows). settled q soft word passes) (sym c.requires.settler) ∙ c.certify.ensures.is ∙ ap (λ b. cond b (Some (view_settled c.certify.new.self soft word)) None) c.if-certify.false in
+    let is = ap (λ (q : Rows). settled q soft word passes) (sym c.requires.ascent) ∙ c.certify.ensures.is ∙ ap (λ b. cond b (Some (view_settled c.certify.new.self soft word)) None) c.if-certify.false in
     decoded_with r passes soft word (ne_eqb passes 0 c.if-passes-eq0.false) ∙ is
 
 pub returns-then-certify_codeword-clause-strict : goal.returns-then-certify_codeword-clause-strict
@@ -52,7 +52,7 @@ returns-then-certify-clause-strict c =
     let r = c.args.maker.now.rows in
     let soft = c.args.soft.now in
     let word = c.args.codeword.now in
-    let settler = c.certify.new.self in
-    let rows = c.requires.settler in
-    let strict = subst (λ (q : Rows). IsStrict q (view_settled settler soft word)) rows (c.certify.ensures.strict c.if-certify.true) in
-    strict_settled r soft word settler (c.certify.ensures.rows ∙ rows) strict
+    let ascent = c.certify.new.self in
+    let rows = c.requires.ascent in
+    let strict = subst (λ (q : Rows). IsStrict q (view_settled ascent soft word)) rows (c.certify.ensures.strict c.if-certify.true) in
+    strict_settled r soft word ascent (c.certify.ensures.rows ∙ rows) strict

@@ -4,7 +4,7 @@ use Rattle.s2_check.specs.Strict.{IsStrict}
 use Rattle.s2_split.specs.Making.{shared_views}
 use Rattle.s2_settle.specs.Settled.{settled}
 use Rattle.s2_settle.specs.Holding.{view_by as view_settled}
-use Rattle.s2_judge.proofs.Certificates.{without_passes, found_nothing, by_greedy, by_settler, by_nobody, strict_made, strict_settled}
+use Rattle.s2_judge.proofs.Certificates.{without_passes, found_nothing, by_greedy, by_ascent, by_nobody, strict_made, strict_settled}
 use Rattle.s2_judge.proofs.certifier.find_for_repair.Goals as goal
 
 pub returns-then-certify_codeword-clause-view : goal.returns-then-certify_codeword-clause-view
@@ -35,11 +35,11 @@ returns-then-certify-clause-view c =
     let word = c.args.codeword.now in
     let passes = c.args.passes in
     let greedy = c.certify_greedily in
-    let settler = c.certify.new.self in
+    let ascent = c.certify.new.self in
     let none = found_nothing greedy.result greedy.new.self.made greedy.ensures.found c.if-certify_greedily.false in
-    let view = view_settled settler soft word in
-    let is = ap (λ (q : Rows). settled q soft word passes) (sym c.requires.settler) ∙ c.certify.ensures.is ∙ ap (λ b. cond b (Some view) None) c.if-certify.true in
-    by_settler r passes soft word greedy.new.self.made settler (ne_eqb passes 0 c.if-passes-eq0.false) greedy.ensures.made none (c.certify.ensures.rows ∙ c.requires.settler) is
+    let view = view_settled ascent soft word in
+    let is = ap (λ (q : Rows). settled q soft word passes) (sym c.requires.ascent) ∙ c.certify.ensures.is ∙ ap (λ b. cond b (Some view) None) c.if-certify.true in
+    by_ascent r passes soft word greedy.new.self.made ascent (ne_eqb passes 0 c.if-passes-eq0.false) greedy.ensures.made none (c.certify.ensures.rows ∙ c.requires.ascent) is
 
 pub returns-clause-view : goal.returns-clause-view
 returns-clause-view c =
@@ -50,7 +50,7 @@ returns-clause-view c =
     let greedy = c.certify_greedily in
     let none = found_nothing greedy.result greedy.new.self.made greedy.ensures.found c.if-certify_greedily.false in
     let view = view_settled c.certify.new.self soft word in
-    let is = ap (λ (q : Rows). settled q soft word passes) (sym c.requires.settler) ∙ c.certify.ensures.is ∙ ap (λ b. cond b (Some view) None) c.if-certify.false in
+    let is = ap (λ (q : Rows). settled q soft word passes) (sym c.requires.ascent) ∙ c.certify.ensures.is ∙ ap (λ b. cond b (Some view) None) c.if-certify.false in
     by_nobody r passes soft word greedy.new.self.made (ne_eqb passes 0 c.if-passes-eq0.false) greedy.ensures.made none is
 
 pub returns-then-certify_codeword-clause-strict : goal.returns-then-certify_codeword-clause-strict
@@ -68,7 +68,7 @@ returns-then-certify-clause-strict c =
     let r = c.args.maker.now.rows in
     let soft = c.args.soft.now in
     let word = c.args.codeword.now in
-    let settler = c.certify.new.self in
-    let rows = c.requires.settler in
-    let strict = subst (λ (q : Rows). IsStrict q (view_settled settler soft word)) rows (c.certify.ensures.strict c.if-certify.true) in
-    strict_settled r soft word settler (c.certify.ensures.rows ∙ rows) strict
+    let ascent = c.certify.new.self in
+    let rows = c.requires.ascent in
+    let strict = subst (λ (q : Rows). IsStrict q (view_settled ascent soft word)) rows (c.certify.ensures.strict c.if-certify.true) in
+    strict_settled r soft word ascent (c.certify.ensures.rows ∙ rows) strict

@@ -9,13 +9,13 @@ use Rattle.s2_judge.specs.Deciding.{satisfies}
 use Rattle.s2_judge.proofs.Decisions.{satisfied_codeword, test_of}
 use Rattle.s2_judge.proofs.steps.is_decoded.Goals as goal
 
-pub returns-then-has_odd_check-clause-test : goal.returns-then-has_odd_check-clause-test
-returns-then-has_odd_check-clause-test c =
+pub returns-then-decision_fails_early-clause-test : goal.returns-then-decision_fails_early-clause-test
+returns-then-decision_fails_early-clause-test c =
     let code = code_of c.args.matrix.now in
     let d = c.args.decoder.now in
     let word = decision (code_of d.rows) (decoded d) in
     let long = length-map-range_with_len _ 0 (code_of d.rows).bits ∙ ap (λ (q : Rows). (code_of q).bits) c.requires.decoder in
-    false_from_ne_true (satisfies code word) (λ even. c.has_odd_check.ensures c.if-has_odd_check.true (satisfied_codeword code word long even))
+    false_from_ne_true (satisfies code word) (λ even. c.decision_fails_early.ensures c.if-decision_fails_early.true (satisfied_codeword code word long even))
 
 pub satisfied-requires : goal.satisfied-requires
 satisfied-requires c =

@@ -13,21 +13,21 @@ use Rattle.s2_judge.proofs.Certificates.{found_or_none, view_by_certifier}
 use Rattle.s2_judge.proofs.Decisions.{repair_made, repair_odd, satisfied_codeword, test_in}
 use Rattle.s2_judge.proofs.steps.try_repair.Goals as goal
 
-pub mends_nothing-requires : goal.mends_nothing-requires
-mends_nothing-requires c =
+pub repair_fails_early-requires : goal.repair_fails_early-requires
+repair_fails_early-requires c =
     ap length c.truths.ensures ∙ ap length c.requires.hard ∙ length-map c.args.soft.now _ ∙ c.requires.soft ∙ sym (ap (λ (q : Rows). (code_of q).bits) c.matrix.ensures)
 
-pub returns-then-mends_nothing-clause-even : goal.returns-then-mends_nothing-clause-even
-returns-then-mends_nothing-clause-even c =
+pub returns-then-repair_fails_early-clause-even : goal.returns-then-repair_fails_early-clause-even
+returns-then-repair_fails_early-clause-even c =
     let r = c.args.certifier.now.rows in
     let soft = c.args.soft.now in
-    false_from_ne_true (satisfies (code_of r) (repaired (code_of r) soft)) (λ even. c.mends_nothing.ensures c.if-mends_nothing.true soft (c.truths.ensures ∙ c.requires.hard) (subst (λ (q : Rows). IsCodeword (code_of q) (repaired (code_of q) soft)) (sym c.matrix.ensures) (satisfied_codeword (code_of r) (repaired (code_of r) soft) (length-repaired (code_of r) soft) even)))
+    false_from_ne_true (satisfies (code_of r) (repaired (code_of r) soft)) (λ even. c.repair_fails_early.ensures c.if-repair_fails_early.true soft (c.truths.ensures ∙ c.requires.hard) (subst (λ (q : Rows). IsCodeword (code_of q) (repaired (code_of q) soft)) (sym c.matrix.ensures) (satisfied_codeword (code_of r) (repaired (code_of r) soft) (length-repaired (code_of r) soft) even)))
 
-pub returns-then-mends_nothing-clause-view : goal.returns-then-mends_nothing-clause-view
-returns-then-mends_nothing-clause-view c =
+pub returns-then-repair_fails_early-clause-view : goal.returns-then-repair_fails_early-clause-view
+returns-then-repair_fails_early-clause-view c =
     let r = c.args.certifier.now.rows in
     let soft = c.args.soft.now in
-    repair_odd r (tuning_of 0 c.args.certifier.now.passes) soft (false_from_ne_true (satisfies (code_of r) (repaired (code_of r) soft)) (λ even. c.mends_nothing.ensures c.if-mends_nothing.true soft (c.truths.ensures ∙ c.requires.hard) (subst (λ (q : Rows). IsCodeword (code_of q) (repaired (code_of q) soft)) (sym c.matrix.ensures) (satisfied_codeword (code_of r) (repaired (code_of r) soft) (length-repaired (code_of r) soft) even))))
+    repair_odd r (tuning_of 0 c.args.certifier.now.passes) soft (false_from_ne_true (satisfies (code_of r) (repaired (code_of r) soft)) (λ even. c.repair_fails_early.ensures c.if-repair_fails_early.true soft (c.truths.ensures ∙ c.requires.hard) (subst (λ (q : Rows). IsCodeword (code_of q) (repaired (code_of q) soft)) (sym c.matrix.ensures) (satisfied_codeword (code_of r) (repaired (code_of r) soft) (length-repaired (code_of r) soft) even))))
 
 pub satisfied-requires : goal.satisfied-requires
 satisfied-requires c =

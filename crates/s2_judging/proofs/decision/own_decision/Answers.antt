@@ -6,7 +6,7 @@ use Rattle.s2_check.specs.Verdicts.{is_certified}
 use Rattle.s2_judge.specs.Deciding.{Decided, decided}
 use Rattle.s2_judging.specs.Judging.{own_verdict}
 use Rattle.s2_judging.proofs.JudgeLemmas.{says}
-use Rattle.s2_judging.proofs.OwnLemmas.{own_certified, never_sole, own_broken}
+use Rattle.s2_judging.proofs.DemoLemmas.{own_certified, never_sole, own_broken}
 use Rattle.s2_judging.proofs.decision.own_decision.Goals as goal
 
 moved : (P : Rows → List Bool → Type 0) (r r' : Rows) (w w' : List Bool) → r ≡ r' → w ≡ w' → P r w → P r' w'

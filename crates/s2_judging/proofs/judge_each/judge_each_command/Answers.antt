@@ -13,8 +13,8 @@ returns-clause-run g c =
     let old = g.O.CountedWrite.contents c.console.inside.output in
     rw (sym c.console.view_is) (
       ran,
-      subst (λ (o : Option (List ℕ)). JudgesEach c.args.hard c.args.tuning c.args.shape files after ran old o) (sym c.conclude_judged.ensures.output.0) c.print_judgements-ran.ensures.run,
+      subst (λ (o : Option (List ℕ)). JudgesEach c.args.hard c.args.tuning c.args.shape files after ran old o) (sym c.finish_judged.ensures.output.0) c.print_judgements-ran.ensures.run,
       subst (λ (n : ℕ). CommandCounts (exit_in ran) (files.rows_failed + files.soft_failed) (after.rows_failed + after.soft_failed) (files.certificate.failed + g.O.Counted.count c.console.inside.output) (after.certificate.failed + n))
-          (sym c.conclude_judged.ensures.output.1) c.print_judgements-ran.ensures.causes,
-      concludes_from c.args.hard c.args.quiet ran c.conclude_judged.result _ _ c.conclude_judged.new.console refl refl c.conclude_judged.ensures.concludes,
+          (sym c.finish_judged.ensures.output.1) c.print_judgements-ran.ensures.causes,
+      concludes_from c.args.hard c.args.quiet ran c.finish_judged.result _ _ c.finish_judged.new.console refl refl c.finish_judged.ensures.concludes,
     )

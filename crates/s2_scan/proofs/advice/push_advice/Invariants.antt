@@ -6,5 +6,5 @@ use Rattle.s2_scan.proofs.advice.push_advice.Given as goal
 abbrev pub invariant-loop-k : goal.invariant-loop-k
 invariant-loop-k l = record {
   same : l.text.items ≡ l.initial.text.items;
-  rest : advice_of l.name l.number (drop l.k l.sightings) ≡ advice_of l.name l.number l.sightings;
+  rest : advice_of l.name l.number (drop l.k l.candidates) ≡ advice_of l.name l.number l.candidates;
 }

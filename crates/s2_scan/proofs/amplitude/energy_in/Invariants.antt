@@ -1,5 +1,5 @@
 use Rattle.std.proofs.Common.{◌≡◌, ◌+◌, ◌*◌, ◌^◌, ◌≤◌, drop}
-use Rattle.s2_scan.specs.Sightings.{energy_in}
+use Rattle.s2_scan.specs.Candidates.{energy_in}
 use Rattle.s2_scan.proofs.amplitude.energy_in.Given as goal
 
 abbrev pub invariant-loop-k : goal.invariant-loop-k

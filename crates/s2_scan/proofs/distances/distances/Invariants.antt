@@ -1,5 +1,5 @@
 use Rattle.std.proofs.Common.{◌≡◌, ◌-◌, ◌++◌, drop, get_or}
-use Rattle.s2_scan.specs.Sightings.{distances, distances_from}
+use Rattle.s2_scan.specs.Candidates.{distances, distances_from}
 use Rattle.s2_scan.proofs.Gaps.{no_pass}
 use Rattle.s2_scan.proofs.distances.distances.Given as goal
 

@@ -1,5 +1,5 @@
 use Rattle.std.proofs.Common.{◌≡◌, ◌+◌, ◌≤◌, drop}
-use Rattle.s2_scan.specs.Sightings.{occurrences}
+use Rattle.s2_scan.specs.Candidates.{occurrences}
 use Rattle.s2_scan.proofs.distances.occurrences.Given as goal
 
 abbrev pub invariant-loop-k : goal.invariant-loop-k

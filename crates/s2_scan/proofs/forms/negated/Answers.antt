@@ -1,5 +1,5 @@
 use Rattle.std.proofs.Common.{◌<◌, ◌^◌, arith}
-use Rattle.s2_scan.proofs.Ways.{not_digit}
+use Rattle.s2_scan.proofs.UndoLemmas.{not_digit}
 use Rattle.s2_scan.proofs.forms.negated.Goals as goal
 
 pub returns : goal.returns

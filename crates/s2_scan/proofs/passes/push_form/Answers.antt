@@ -1,7 +1,7 @@
 use Rattle.std.proofs.Common.{◌≡◌, true, false, ◌++◌, get_or, OnOk, append-nil, ap, sym, subst, ◌∙◌, arith}
 use Rattle.s2_scan.specs.Passing.{matches_sof, seen_as}
 use Rattle.s2_scan.proofs.NoPasses.{none_in_form, some_in_form}
-use Rattle.s2_scan.proofs.Ways.{sof_is}
+use Rattle.s2_scan.proofs.UndoLemmas.{sof_is}
 use Rattle.s2_scan.proofs.passes.push_form.Goals as goal
 
 pub returns-then-is_sof : goal.returns-then-is_sof

@@ -1,6 +1,6 @@
 use Rattle.std.proofs.Common.{◌<◌, ◌≤◌, length, ap, sym, ◌∙◌, arith}
 use Rattle.std.proofs.lemmas.List.{get_or_read}
-use Rattle.s2_scan.specs.Sightings.{counted_on, no_tally, tallied}
+use Rattle.s2_scan.specs.Candidates.{counted_on, no_tally, tallied}
 use Rattle.s2_scan.proofs.Tallies.{tally_here, tally_past}
 use Rattle.s2_scan.proofs.tally.add.Goals as goal
 

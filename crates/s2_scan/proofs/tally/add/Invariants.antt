@@ -1,5 +1,5 @@
 use Rattle.std.proofs.Common.{◌≡◌, ◌++◌, take, drop}
-use Rattle.s2_scan.specs.Sightings.{tallied}
+use Rattle.s2_scan.specs.Candidates.{tallied}
 use Rattle.s2_scan.proofs.tally.add.Given as goal
 
 -- the distance is none of those before

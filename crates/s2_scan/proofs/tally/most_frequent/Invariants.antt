@@ -1,5 +1,5 @@
 use Rattle.std.proofs.Common.{◌≡◌, drop}
-use Rattle.s2_scan.specs.Sightings.{most_frequent, no_tally}
+use Rattle.s2_scan.specs.Candidates.{most_frequent, no_tally}
 use Rattle.s2_scan.proofs.tally.most_frequent.Given as goal
 
 abbrev pub invariant-loop-k : goal.invariant-loop-k

@@ -6,7 +6,7 @@ use Rattle.s2_matrix.specs.Code.{code_of, checks_of}
 use Rattle.s2_settle.specs.Plain.{call, call_for}
 use Rattle.s2_settle.specs.Rests.{least_rest}
 use Rattle.s2_settle.specs.Serving.{rest_at}
-use Rattle.s2_settle.specs.Waiting.{Waiting, waiting}
+use Rattle.s2_settle.specs.WorkList.{WorkList, work_list}
 use Rattle.s2_settle.proofs.Queues.{call_for_more}
 use Rattle.s2_settle.proofs.Spots.{parity_spot, parity_low}
 use Rattle.s2_settle.proofs.calling.call_parity.Goals as goal
@@ -52,11 +52,11 @@ loop-j-preserved c =
             )
         | else-row-q w ↦ (λ x. w.lane-is x * s.q + w.row-is x) ∙ omega (arith, inv.spot)
       ];
-      room = ap (λ (v : Waiting). v.room) c.call_if_lacking.ensures ∙ inv.room;
+      room = ap (λ (v : WorkList). v.room) c.call_if_lacking.ensures ∙ inv.room;
       called = λ before is. (
           let seen = inv.called before is in
           let own = call_for code before (filter t (upto i)) in
-          ap (λ (v : Waiting). v.checks) c.call_if_lacking.ensures
+          ap (λ (v : WorkList). v.checks) c.call_if_lacking.ensures
           ∙ (λ x. cond (nat_lt (at x) least_rest) (fold call (seen x) (checks_of code (bit x))) (seen x))
           ∙ sym (call_for_more code before t i)
           ∙ ap (λ x. call_for code before (filter t (upto x))) next

@@ -58,7 +58,7 @@ returns c =
     let whole : suc r * n ≤ q * n = mul-le-mul_right n c.requires.layer in
     let t_in : length (take w (drop (r * n) targets)) ≡ n = length-take-le w (drop (r * n) targets) (omega (arith, length-drop (r * n) targets)) ∙ width in
     let a_in : length (take w (drop (r * n) amounts)) ≡ n = length-take-le w (drop (r * n) amounts) (omega (arith, length-drop (r * n) amounts)) ∙ width in
-    gives rows c.args.rests.now targets amounts c.run.new.rests c.run.new.targets c.run.new.amounts c.args.reserve r n w c.last_row-last.result es (take w (drop (r * n) targets)) (take w (drop (r * n) amounts)) fit.shaped.group_some c.requires.long c.requires.layer
+    gives rows c.args.rests.now targets amounts c.run.new.rests c.run.new.targets c.run.new.amounts c.args.margin r n w c.last_row-last.result es (take w (drop (r * n) targets)) (take w (drop (r * n) amounts)) fit.shaped.group_some c.requires.long c.requires.layer
     (sym g) width (sym last) (sym es_is) (sym t_part) (sym a_part)
     (record {
       rests_long = c.run.auto.rests;

@@ -16,9 +16,9 @@ loop-pass-init c =
     let first = c.at_first-course.ensures code (sym c.bits-bits.ensures.is) in
     record {
       long = c.requires.long;
-      waiting = c.requires.waiting;
+      work_list = c.requires.work_list;
       before = omega (arith, ap (λ (x : Course). x.before) first);
-      reserve = omega (arith, ap (λ (x : Course). x.reserve) first);
+      margin = omega (arith, ap (λ (x : Course). x.margin) first);
       left = λ k all s shown. (
           let k_is : k ≡ c.args.passes = omega arith in
           record { state = s; shown = shown; same = λ i. passes code c.args.matrix.now.shape.q (k_is i) 0 (first i) s }
@@ -79,12 +79,12 @@ loop-pass-preserved c =
     let now = c.lacking-now.result in
     let after_is : c.after-course.result ≡ after code course p now = c.after-course.ensures code (sym c.bits-bits.ensures.is) in
     let few : now ≤ 64800 = omega (arith, c.lacking-now.ensures.few, inv.long.rests_long, c.bits-bits.ensures.is, c.bits-bits.ensures.few) in
-    let reserve : c.after-course.result.reserve ≤ 256 = omega (arith, ap (λ (x : Course). x.reserve) after_is, fallen (nat_lt p 2) course.reserve (fall course.before now), inv.reserve) in
+    let margin : c.after-course.result.margin ≤ 256 = omega (arith, ap (λ (x : Course). x.margin) after_is, fallen (nat_lt p 2) course.margin (fall course.before now), inv.margin) in
     record {
       long = c.run_pass.ensures.long;
-      waiting = c.begin.ensures.waiting;
+      work_list = c.begin.ensures.work_list;
       before = omega (arith, ap (λ (x : Course). x.before) after_is, few);
-      reserve = reserve;
+      margin = margin;
       left = λ k all s shown. (
           let left = inv.left (suc k) (omega arith) s shown in
           let st = left.state in
@@ -95,14 +95,14 @@ loop-pass-preserved c =
           let began = c.begin.ensures.is st left.shown in
           let none : (plain.lacking code b == 0) ≡ false = ne_eqb (plain.lacking code b) 0 (λ e. c.if-begin-eq0.false (c.begin.ensures.lacking ∙ lacking_same rows c.requires.fit c.begin.new.held b began.shows ∙ e)) in
           let next : c.after-course.result ≡ after code course p (plain.lacking code st) = after_is ∙ ap (after code course p) count in
-          let shows = pass_shown rows c.requires.fit c.after-course.result.reserve reserve c.begin.new.held b began.within began.shows in
+          let shows = pass_shown rows c.requires.fit c.after-course.result.margin margin c.begin.new.held b began.within began.shows in
           record {
-            state = plain.pass code rows.shape.q c.after-course.result.reserve b;
+            state = plain.pass code rows.shape.q c.after-course.result.margin b;
             shown = record {
-              within = pass_within rows c.requires.fit c.after-course.result.reserve reserve c.begin.new.held b began.within began.shows;
-              shows = subst (λ (x : Held). Shows rows x (plain.pass code rows.shape.q c.after-course.result.reserve b)) (sym c.run_pass.ensures.is) shows;
+              within = pass_within rows c.requires.fit c.after-course.result.margin margin c.begin.new.held b began.within began.shows;
+              shows = subst (λ (x : Held). Shows rows x (plain.pass code rows.shape.q c.after-course.result.margin b)) (sym c.run_pass.ensures.is) shows;
             };
-            same = (λ i. passes code rows.shape.q k (p + 1) (next i) (plain.pass code rows.shape.q (next i).reserve b)) ∙ sym (passes_later code rows.shape.q k p course st some test none) ∙ left.same;
+            same = (λ i. passes code rows.shape.q k (p + 1) (next i) (plain.pass code rows.shape.q (next i).margin b)) ∙ sym (passes_later code rows.shape.q k p course st some test none) ∙ left.same;
           }
           );
     }

@@ -88,6 +88,6 @@ returns-clause-is c =
     record {
       targets = λ i. set targets (at i) (target i);
       amounts = λ i. set amounts (at i) (amount i);
-      rests = subst (λ (x : Moved). IsShifted rows j x (by_member rows j (new_target rows r h lane) (new_amount rows 0 r h lane)) rests c.shift.new.rests c.args.waiting.now.checks c.shift.new.waiting.checks) before
-          (subst (λ (x : Moved). IsShifted rows j c.by_member.result x rests c.shift.new.rests c.args.waiting.now.checks c.shift.new.waiting.checks) now c.shift.ensures.is);
+      rests = subst (λ (x : Moved). IsShifted rows j x (by_member rows j (new_target rows r h lane) (new_amount rows 0 r h lane)) rests c.shift.new.rests c.args.work_list.now.checks c.shift.new.work_list.checks) before
+          (subst (λ (x : Moved). IsShifted rows j c.by_member.result x rests c.shift.new.rests c.args.work_list.now.checks c.shift.new.work_list.checks) now c.shift.ensures.is);
     }

@@ -24,10 +24,10 @@ sent_of : {A B : Type 0} (x x' : Option A) (y y' : Option B) (first : A → ℕ)
 sent_of x x' y y' first last m n few e =
     omega (arith, few, e, same_count first x, same_count first x', same_count last y, same_count last y')
 
-pub conclude_records-requires : goal.conclude_records-requires
-conclude_records-requires g c =
+pub finish_command-requires : goal.finish_command-requires
+finish_command-requires g c =
     elim c.match-request.branch [
-      | in-Mod w ↦ rw w.records-is (sent_of c.in_ok-records.records.1.1.0 w.mod_command-exit.new.sinks.0 c.in_ok-records.records.1.1.1 w.mod_command-exit.new.sinks.1 (λ file. file.to.failed) (λ sink. sink.to.to.failed) _ _
+      | in-Mod w ↦ rw w.records-is (sent_of c.in_ok-records.records.1.1.0 w.mod_command-exit.new.sinks.0 c.in_ok-records.records.1.1.1 w.mod_command-exit.new.sinks.1 (λ file. file.to.inner.failed) (λ sink. sink.to.to.inner.failed) _ _
           w.mod_command-exit.ensures.few c.in_ok-records.ensures.fresh)
       | in-Demod w ↦ rw w.records-is (one_of _ _ w.demod_command-exit.ensures.few c.in_ok-records.ensures.fresh)
       | in-Run w ↦ rw w.records-is (one_of _ _ w.run_command-exit.ensures.few c.in_ok-records.ensures.fresh)

@@ -1,4 +1,4 @@
-use Rattle.s2_modem.proofs.Names.{◌≡◌, ◌≤◌, length, Rows, sym, refl, ap, subst, ◌∙◌, IfSome, n_of, symbols_in, code_of, refilled, Link, received_payload, soft_values, symbols_least, Decision, FigureFinder, finder_of, frame_soft, frame_decision, received_word, FindsWord, Reads, Listening, decides, decision_held}
+use Rattle.s2_modem.proofs.Names.{◌≡◌, ◌≤◌, length, Rows, sym, refl, ap, subst, ◌∙◌, IfSome, n_of, symbols_in, code_of, refilled, Link, received_payload, soft_values, symbols_least, Decision, FigureMeter, meter_of, frame_soft, frame_decision, received_word, FindsWord, Reads, DeciderState, decides, decision_held}
 use Rattle.s2_modem.proofs.DecisionLemmas.{code_is, figures_are, frame_decided, if_wanted}
 use Rattle.s2_modem.proofs.decider.DeciderDecide.decide.Goals as goal
 use Rattle.s2_modem.proofs.decider.DeciderDecide.decide.Goals.{After-header_energy}
@@ -6,16 +6,16 @@ use Rattle.s2_modem.proofs.decider.DeciderDecide.decide.Goals.{After-header_ener
 pub find_figures-figures-requires-clause-symbols : goal.find_figures-figures-requires-clause-symbols
 find_figures-figures-requires-clause-symbols c =
     let so = c.self.invariant in
-    let holds : FigureFinder → Type 0 = λ f. length c.args.symbols.now ≡ symbols_in f.mode in
-    subst (λ o. IfSome o holds) (sym so.figures) (if_wanted holds c.self.inside.judge.tuning.figures (finder_of c.self.inside.mode c.self.inside.demodulator.number) (c.requires ∙ sym (ap (λ (l : Listening). symbols_in l.link.setup.mode) c.self.view_is)))
+    let holds : FigureMeter → Type 0 = λ f. length c.args.symbols.now ≡ symbols_in f.mode in
+    subst (λ o. IfSome o holds) (sym so.figures) (if_wanted holds c.self.inside.judge.tuning.figures (meter_of c.self.inside.mode c.self.inside.demodulator.number) (c.requires ∙ sym (ap (λ (l : DeciderState). symbols_in l.link.setup.mode) c.self.view_is)))
 
 pub find_figures-figures-requires-clause-word : goal.find_figures-figures-requires-clause-word
 find_figures-figures-requires-clause-word c =
     let so = c.self.invariant in
     let rows = c.decide-verdict.new.self.rows in
-    let holds : FigureFinder → Type 0 = λ f. (code_of rows).bits ≡ n_of f.mode in
+    let holds : FigureMeter → Type 0 = λ f. (code_of rows).bits ≡ n_of f.mode in
     let long = ap (λ (r : Rows). (code_of r).bits) c.decide-verdict.ensures.rows ∙ code_is c.self.inside.mode c.self.inside.judge.rows so.sizes so.shape in
-    subst (λ o. IfSome o holds) (sym so.figures) (if_wanted holds c.self.inside.judge.tuning.figures (finder_of c.self.inside.mode c.self.inside.demodulator.number) long)
+    subst (λ o. IfSome o holds) (sym so.figures) (if_wanted holds c.self.inside.judge.tuning.figures (meter_of c.self.inside.mode c.self.inside.demodulator.number) long)
 
 pub header_energy-requires : goal.header_energy-requires
 header_energy-requires c = subst (λ n. 90 ≤ n) (sym c.requires) (symbols_least c.args.self.now.link.setup.mode)
@@ -44,12 +44,12 @@ module _ (c : After-header_energy) where
   is_decided =
       let was = c.decide-verdict in
       let soft = sym was.ensures.soft ∙ soft_is in
-      let figures = figures_are link c.self.inside.judge.tuning c.args.symbols.now was.new.self.soft _ was.new.self.bits was.new.self.rounds c.self.inside.finder c.find_figures-figures.result
+      let figures = figures_are link c.self.inside.judge.tuning c.args.symbols.now was.new.self.soft _ was.new.self.bits was.new.self.rounds c.self.inside.meter c.find_figures-figures.result
       c.find_figures-figures.ensures.is c.self.invariant.figures was.ensures.soft soft was.ensures.bits was.ensures.rounds in
       frame_decided link c.self.inside.judge.tuning c.args.symbols.now was.new.self.soft _ was.new.self.bits was.result was.new.self.certificate
       c.correct-found.new.self.word c.correct-found.result decision.outcome decision.delivered decision.figures decision.energy
       was.ensures.soft soft was.ensures.verdict was.ensures.bits was.ensures.certificate finds reads figures c.header_energy.ensures
-      ∙ ap (λ (l : Listening). frame_decision l.link l.tuning c.args.symbols.now) c.self.view_is
+      ∙ ap (λ (l : DeciderState). frame_decision l.link l.tuning c.args.symbols.now) c.self.view_is
 
 pub returns-clause-last : goal.returns-clause-last
 returns-clause-last c = is_decided (goal.at.returns-clause-last c).After-header_energy

@@ -22,14 +22,14 @@ loop-block-preserved c =
     let whole : n ≡ 1440 = omega arith in
     let fits : to + n ≤ length c.loop-block.out = omega arith in
     let part : length (mid_of to n c.loop-block.out) ≡ n = simp (length-take, length-drop) (omega arith) in
-    λ s lt. written_piece to n (λ v. rotated_back (quarter_turns gold (place_behind blocks v)) (symbol_at slots (place_behind blocks v))) c.loop-block.out c.unturn_into.new.out
-    fits (c.unturn_into.auto.out ∙ part) c.loop-block.invariant
+    λ s lt. written_piece to n (λ v. rotated_back (quarter_turns gold (place_behind blocks v)) (symbol_at slots (place_behind blocks v))) c.loop-block.out c.derotate_into.new.out
+    fits (c.derotate_into.auto.out ∙ part) c.loop-block.invariant
     (λ k l.
     let small : k < 1440 = omega arith in
     let inside : block < blocks = omega arith in
     let read : k < m = omega arith in
     let place = in_block blocks block k inside small in
-    c.unturn_into.ensures k (omega arith)
+    c.derotate_into.ensures k (omega arith)
     ∙ (λ t. rotated_back (quarter_turns gold (sym place t)) ((get_or-mid_of (symbol (pos 0) (pos 0)) at m slots k read ∙ (λ r. symbol_at slots (sym place r))) t)))
     s (omega arith)
 
@@ -45,13 +45,13 @@ returns c =
     let same : length c.loop-block.out ≡ length c.args.out.now = omega arith in
     let fits : to + n ≤ length c.loop-block.out = omega arith in
     let part : length (mid_of to n c.loop-block.out) ≡ n = simp (length-take, length-drop) (omega arith) in
-    λ s lt. written_piece to n (λ v. rotated_back (quarter_turns gold (place_behind blocks v)) (symbol_at slots (place_behind blocks v))) c.loop-block.out c.unturn_into-2.new.out
-    fits (c.unturn_into-2.auto.out ∙ part) (λ k l. c.loop-block.invariant k (omega arith))
+    λ s lt. written_piece to n (λ v. rotated_back (quarter_turns gold (place_behind blocks v)) (symbol_at slots (place_behind blocks v))) c.loop-block.out c.derotate_into-2.new.out
+    fits (c.derotate_into-2.auto.out ∙ part) (λ k l. c.loop-block.invariant k (omega arith))
     (λ k l.
     let read : k < m = omega arith in
     let past : to ≤ to + k = omega arith in
     let moved : to + k + 36 * blocks ≡ at + k = omega arith in
     let place = past_blocks blocks (to + k) past ∙ moved in
-    c.unturn_into-2.ensures k (omega arith)
+    c.derotate_into-2.ensures k (omega arith)
     ∙ (λ t. rotated_back (quarter_turns gold (sym place t)) ((get_or-mid_of (symbol (pos 0) (pos 0)) at m slots k read ∙ (λ r. symbol_at slots (sym place r))) t)))
     s (omega arith)

@@ -24,28 +24,28 @@ returns-in_err-step-clause-finds g c =
     let fault = c.in_err-step.field-0.0 in
     let is : c.from_residual.result ≡ Err fault = search common in
     let held = subst (λ (r : Receiver g.row.D.Denot). (length r.state.window.symbols < symbols_in r.mode) × (taken r.state ≤ r.limit)) c.self.view_is c.room-room.ensures.held in
-    let reads = subst (λ (r : Receiver g.row.D.Denot). Reads (seen_by g.D.Decide.decide g.D.Decide.last r) (seen_by g.D.Decide.decide g.D.Decide.last new.stepper)
+    let reads = subst (λ (r : Receiver g.row.D.Denot). Reads (seen_by g.D.Decide.decide g.D.Decide.last r) (seen_by g.D.Decide.decide g.D.Decide.last new.inner)
     (g.R.CountedRead.remaining c.reading.reader) (g.R.CountedRead.remaining new.reader) (Err fault)) c.self.view_is c.in_err-step.ensures.reads in
-    rw is (fails_now g.D.Decide.decide g.D.Decide.last c.args.self.now cur new.stepper _ _ _ so.same.rules so.waited so.last so.live held.0 held.1 _ _ fault reads (c.in_err-step.ensures.cause ∙ ap (λ n. n + 1) so.count))
+    rw is (fails_now g.D.Decide.decide g.D.Decide.last c.args.self.now cur new.inner _ _ _ so.same.rules so.waited so.last so.live held.0 held.1 _ _ fault reads (c.in_err-step.ensures.cause ∙ ap (λ n. n + 1) so.count))
 
 pub returns-in-Some-clause-finds : goal.returns-in-Some-clause-finds
 returns-in-Some-clause-finds g c =
     let so = c.reading.invariant in
     let cur = c.reading.self in
     let new = c.read_step.new in
-    let reads = subst (λ (r : Receiver g.row.D.Denot). Reads (seen_by g.D.Decide.decide g.D.Decide.last r) (seen_by g.D.Decide.decide g.D.Decide.last new.stepper)
+    let reads = subst (λ (r : Receiver g.row.D.Denot). Reads (seen_by g.D.Decide.decide g.D.Decide.last r) (seen_by g.D.Decide.decide g.D.Decide.last new.inner)
     (g.R.CountedRead.remaining c.reading.reader) (g.R.CountedRead.remaining new.reader) (Ok (Some c.in-Some.step))) c.self.view_is (rw c.in-Some.is at c.in_ok-step.ensures.reads) in
-    steps_now g.D.Decide.decide g.D.Decide.last c.args.self.now cur new.stepper _ _ _ so.same.rules so.waited so.last so.live c.in-Some.step _ _ reads (c.in_ok-step.ensures.cause ∙ so.count)
+    steps_now g.D.Decide.decide g.D.Decide.last c.args.self.now cur new.inner _ _ _ so.same.rules so.waited so.last so.live c.in-Some.step _ _ reads (c.in_ok-step.ensures.cause ∙ so.count)
 
 pub reading-preserved : goal.reading-preserved
 reading-preserved g c =
     let so = c.reading.invariant in
     let cur = c.reading.self in
     let new = c.read_step.new in
-    let reads = subst (λ (r : Receiver g.row.D.Denot). Reads (seen_by g.D.Decide.decide g.D.Decide.last r) (seen_by g.D.Decide.decide g.D.Decide.last new.stepper)
+    let reads = subst (λ (r : Receiver g.row.D.Denot). Reads (seen_by g.D.Decide.decide g.D.Decide.last r) (seen_by g.D.Decide.decide g.D.Decide.last new.inner)
     (g.R.CountedRead.remaining c.reading.reader) (g.R.CountedRead.remaining new.reader) (Ok None)) c.self.view_is (rw c.in_default.is at c.in_ok-step.ensures.reads) in
-    let same = subst (λ (r : Receiver g.row.D.Denot). IsSame g.D.Decide.decide r new.stepper) c.self.view_is c.in_ok-step.ensures.same in
-    let on = waits_more g.D.Decide.decide g.D.Decide.last c.args.self.now cur new.stepper _ _ _ so.same.rules so.waited so.last so.live reads in
+    let same = subst (λ (r : Receiver g.row.D.Denot). IsSame g.D.Decide.decide r new.inner) c.self.view_is c.in_ok-step.ensures.same in
+    let on = waits_more g.D.Decide.decide g.D.Decide.last c.args.self.now cur new.inner _ _ _ so.same.rules so.waited so.last so.live reads in
     record {
       same = record { rules = same.rules ∙ so.same.rules; mode = same.mode ∙ so.same.mode; max_header_errors = same.max_header_errors ∙ so.same.max_header_errors; limit = same.limit ∙ so.same.limit };
       waited = on.0;

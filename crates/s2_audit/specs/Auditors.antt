@@ -1,0 +1,72 @@
+-- The soft values of a frame of a recording (EN 302 307-1, 5.4 and 5.5).
+use Rattle.std.specs.Prelude.{◌≡◌, ◌⊎◌, ℕ, ◌+◌, ◌-◌, ◌*◌, ◌<◌, ◌≤◌, Bool, true, false, List, ◌++◌, length, take, Option, ℤ}
+use Rattle.std.specs.Io.KnownBytes.{Consumes, IsAtEnd}
+use Rattle.s2_mode.specs.Mode.{Mode, n_of, slots_of, symbols_in}
+use Rattle.s2_rows.specs.Rows.{Rows}
+use Rattle.s2_link.specs.Link.{Link}
+use Rattle.s2_mode.specs.Symbols.{symbols_of}
+use Rattle.s2_plframe.specs.Payload.{received_payload}
+use Rattle.s2_soft.specs.Soft.{soft_values}
+use Rattle.s2_audit.specs.Limits.{certificate_bytes, frame_bytes}
+use Rattle.s2_audit.specs.Reading.{EndsBefore}
+
+-- the rows and the mode of a link, its scrambling number, and a divisor of soft values
+pub record Terms : Type 0 where
+  pub rows : Rows
+  pub mode : Mode
+  pub number : ℕ
+  pub divisor : ℕ
+
+-- those of a link
+abbrev pub terms_of : Link → ℕ → Terms
+terms_of link divisor =
+    record { rows = link.rows; mode = link.setup.mode; number = link.setup.number; divisor = divisor }
+
+-- the soft values of the codeword of a frame, by the bytes of its symbols
+abbrev pub frame_soft : Terms → List ℕ → List ℤ
+frame_soft t bytes = soft_values t.divisor t.mode (received_payload t.mode t.number (symbols_of bytes))
+
+-- the state of an audit: its options, the number of symbols read, the soft values of the last frame, and the bytes of
+-- the last certificate
+pub record AuditorState : Type 0 where
+  pub terms : Terms
+  pub place : ℕ
+  pub soft : List ℤ
+  pub block : List ℕ
+
+-- the room for the bytes of a frame's symbols, its symbols, its payload, its soft values and its certificate
+pub record HasRoom (m : Mode) (b y p s c : ℕ) : Type 0 where
+  pub bytes : b ≡ frame_bytes m
+  pub symbols : y ≡ symbols_in m
+  pub payload : p ≡ 90 * slots_of m
+  pub soft : s ≡ n_of m
+  pub block : c ≡ certificate_bytes m
+
+-- these are the bytes of the symbols of a frame that begins at a symbol, after those that were skipped from a place on
+pub record ReadsFrame (m : Mode) (place : ℕ) (before behind : Option (List ℕ)) (at : ℕ) (symbols : List ℕ) : Type 0 where
+  pub skipped : List ℕ
+  pub place_is : 4 * place + length skipped ≡ 4 * at
+  pub whole : length symbols ≡ frame_bytes m
+  pub read : Consumes before behind (skipped ++ symbols)
+
+-- the recording has no such symbols any more: they were read before, or it ends
+abbrev pub LacksFrame : Mode → (place : ℕ) → Option (List ℕ) → Option (List ℕ) → (at : ℕ) → Type 0
+LacksFrame m place before behind at =
+    (at < place) ⊎ ((place ≤ at) × EndsBefore (4 * (at - place) + frame_bytes m) before behind)
+
+-- a frame was read, and its soft values were found
+pub record FindsSoft (old new : AuditorState) (before behind : Option (List ℕ)) (at : ℕ) : Type 0 where
+  pub symbols : List ℕ
+  pub frame : ReadsFrame old.terms.mode old.place before behind at symbols
+  pub soft : new.soft ≡ frame_soft old.terms symbols
+  pub place : new.place ≡ at + symbols_in old.terms.mode
+
+-- a frame was read, or it is not there
+abbrev pub FindsOrLacks : AuditorState → AuditorState → Option (List ℕ) → Option (List ℕ) → ℕ → Bool → Type 0
+FindsOrLacks old new before behind at true = FindsSoft old new before behind at
+FindsOrLacks old new before behind at false = LacksFrame old.terms.mode old.place before behind at
+
+-- a certificate was read, or as much of it as there was
+abbrev pub TakesBlock : AuditorState → AuditorState → Option (List ℕ) → Option (List ℕ) → ℕ → Type 0
+TakesBlock old new before behind n =
+    (n ≤ length new.block) × Consumes before behind (take n new.block) × (n < length new.block → IsAtEnd behind)

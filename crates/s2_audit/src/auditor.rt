@@ -1,0 +1,270 @@
+//! Reads frames of a recording, and finds the soft values of their codewords.
+ghost use Rattle.std.specs.Prelude.{◌≡◌, ◌*◌, ◌+◌, ◌<◌, length, IfOk, IsOkUnless};
+ghost use Rattle.s2_mode.specs.Counts.{CanCount, CountsFault};
+ghost use Rattle.s2_mode.specs.Limits.{max_symbols};
+ghost use Rattle.s2_mode.specs.Mode.{n_of, slots_of, symbols_in};
+ghost use Rattle.s2_mode.specs.Symbols.{symbols_of};
+ghost use Rattle.s2_plframe.specs.Payload.{received_payload};
+ghost use Rattle.s2_soft.specs.Soft.{soft_values};
+ghost use Rattle.s2_audit.specs.Auditors.{terms_of, FindsOrLacks, TakesBlock};
+ghost use Rattle.s2_audit.specs.Limits.{certificate_bytes, frame_bytes};
+ghost use Rattle.s2_audit.specs.Reading.{ReadsAt, SkipsBytes};
+ghost use Rattle.s2_audit.specs.Showing.{Finds};
+
+use crate::judging::{Finding, judge_bytes};
+use s2_check::Verdict;
+use s2_console::Fault;
+use s2_link::Link;
+use s2_matrix::Matrix;
+use s2_mode::{CountedRead, Mode, ReadFault, Symbol, read_full, symbols_into};
+use s2_plframe::payload_of;
+use s2_scramble::Gold;
+use s2_soft::{Divisor, soft_into};
+use std::alloc::{AllocError, Global};
+use std::marker::Model;
+
+/// Skips bytes: the number that the buffer holds. False if the reader has fewer.
+fn skip_bytes<R: CountedRead>(reader: &mut R, bytes: &mut [u8]) -> Result<bool, ReadFault>
+    requires { CanCount (R.count reader.old) }
+    ensures skips { IfOk result (SkipsBytes (length bytes.old) (R.remaining reader.old) (R.remaining reader.new)) }
+    ensures cause { CountsFault (R.count reader.old) (R.count reader.new) result }
+{
+    if read_full(reader, bytes)? < bytes.len() {
+        return Ok(false);
+    }
+    Ok(true)
+}
+
+/// Skips blocks of 1024 symbols. False if the reader has fewer.
+fn skip_blocks<R: CountedRead>(reader: &mut R, count: u64) -> Result<bool, ReadFault>
+    requires { CanCount (R.count reader.old) }
+    ensures skips { IfOk result (SkipsBytes (4096 * count) (R.remaining reader.old) (R.remaining reader.new)) }
+    ensures cause { CountsFault (R.count reader.old) (R.count reader.new) result }
+{
+    'taken: for _done in 0..count {
+        let mut block = [0u8; 4096];
+        if !skip_bytes(reader, &mut block)? {
+            return Ok(false);
+        }
+    }
+    Ok(true)
+}
+
+/// Skips symbols, in blocks. False if the reader has fewer.
+fn skip<R: CountedRead>(reader: &mut R, count: u64) -> Result<bool, ReadFault>
+    requires { CanCount (R.count reader.old) }
+    ensures skips { IfOk result (SkipsBytes (4 * count) (R.remaining reader.old) (R.remaining reader.new)) }
+    ensures cause { CountsFault (R.count reader.old) (R.count reader.new) result }
+{
+    if !skip_blocks(reader, count / 1024)? {
+        return Ok(false);
+    }
+    let mut block = [0u8; 4096];
+    let rest = (count % 1024) as usize;
+    skip_bytes(reader, &mut block[..4 * rest])
+}
+
+/// Skips symbols, and fills the buffer with the bytes after them. False if the reader has fewer.
+fn read_at<R: CountedRead>(
+    reader: &mut R,
+    skipped: u64,
+    bytes: &mut [u8],
+) -> Result<bool, ReadFault>
+    requires { CanCount (R.count reader.old) }
+    ensures reads { IfOk result (ReadsAt skipped (R.remaining reader.old) (R.remaining reader.new) bytes.new) }
+    ensures size { length bytes.new ≡ length bytes.old }
+    ensures cause { CountsFault (R.count reader.old) (R.count reader.new) result }
+{
+    if !skip(reader, skipped)? {
+        return Ok(false);
+    }
+    if read_full(reader, bytes)? < bytes.len() {
+        return Ok(false);
+    }
+    Ok(true)
+}
+
+/// Writes the soft values of a frame's codeword, by the symbols of the frame.
+fn find_soft(
+    mode: Mode,
+    divisor: Divisor,
+    gold: &Gold,
+    symbols: &[Symbol],
+    payload: &mut [Symbol],
+    soft: &mut [i16],
+)
+    requires frame { length symbols.now ≡ symbols_in mode }
+    requires payload { length payload.old ≡ 90 * slots_of mode }
+    requires soft { length soft.old ≡ n_of mode }
+    ensures is { soft.new ≡ soft_values divisor mode (received_payload mode gold.now symbols.now) }
+    ensures long { length soft.new ≡ n_of mode }
+    ensures payload { length payload.new ≡ 90 * slots_of mode }
+{
+    payload_of(mode, gold, symbols, payload);
+    soft_into(mode, divisor, payload, soft);
+}
+
+/// Writes the soft values of a frame's codeword, by the bytes of its symbols.
+fn find_by_bytes(
+    mode: Mode,
+    divisor: Divisor,
+    gold: &Gold,
+    bytes: &[u8],
+    symbols: &mut [Symbol],
+    payload: &mut [Symbol],
+    soft: &mut [i16],
+)
+    requires bytes { length bytes.now ≡ frame_bytes mode }
+    requires frame { length symbols.old ≡ symbols_in mode }
+    requires payload { length payload.old ≡ 90 * slots_of mode }
+    requires soft { length soft.old ≡ n_of mode }
+    ensures is { soft.new ≡ soft_values divisor mode (received_payload mode gold.now (symbols_of bytes.now)) }
+    ensures long { length soft.new ≡ n_of mode }
+    ensures payload { length payload.new ≡ 90 * slots_of mode }
+    ensures frame { length symbols.new ≡ symbols_in mode }
+{
+    symbols_into(bytes, symbols);
+    find_soft(mode, divisor, gold, symbols, payload, soft);
+}
+
+/// The bytes of a certificate of version 2 of a mode.
+fn certificate_bytes(mode: Mode) -> usize
+    ensures { result ≡ certificate_bytes mode }
+{
+    13 + 2 * mode.n() + (mode.n() + 7) / 8 + 6 * (360 * mode.q())
+}
+
+/// The state of an audit: the rows and the options of a link, and memory for one frame and one certificate.
+pub(crate) struct Auditor<'a> {
+    matrix: &'a Matrix,
+    mode: Mode,
+    divisor: Divisor,
+    gold: Gold,
+    place: u64,
+    bytes: Vec<u8>,
+    symbols: Vec<Symbol>,
+    payload: Vec<Symbol>,
+    soft: Vec<i16>,
+    block: Vec<u8>,
+}
+
+impl Drop for Auditor<'_> {
+    fn drop(self) {
+        let Auditor {
+            matrix: _,
+            mode: _,
+            divisor: _,
+            gold: _,
+            place: _,
+            bytes: _,
+            symbols: _,
+            payload: _,
+            soft: _,
+            block: _,
+        } = self;
+    }
+}
+
+impl<'a> Model for Auditor<'a> {
+    ghost use Rattle.std.specs.Prelude.{◌≡◌, length};
+    ghost use Rattle.s2_mode.specs.Mode.{shape_in};
+    ghost use Rattle.s2_audit.specs.Auditors.{AuditorState, HasRoom};
+
+    ghost Value = { AuditorState };
+
+    ghost view = { λ d. record {
+      terms = record { rows = d.matrix.now; mode = d.mode; number = d.gold; divisor = d.divisor };
+      place = d.place;
+      soft = d.soft.items;
+      block = d.block.items;
+    } };
+
+    ghost invariant = { λ d. (d.matrix.now.shape ≡ shape_in d.mode)
+        × HasRoom d.mode (length d.bytes.items) (length d.symbols.items) (length d.payload.items) (length d.soft.items) (length d.block.items) };
+}
+
+impl<'a> Auditor<'a> {
+    /// The state for a link, before the first symbol.
+    pub(crate) fn new(
+        alloc: Global,
+        link: &Link<'a>,
+        divisor: Divisor,
+    ) -> Result<Auditor<'a>, AllocError>
+        ensures terms { IfOk result (λ d. d.terms ≡ terms_of link.now divisor) }
+        ensures place { IfOk result (λ d. d.place ≡ 0) }
+    {
+        let mode = link.mode();
+        let origin = Symbol { i: 0, q: 0 };
+        Ok(Auditor {
+            matrix: link.matrix(),
+            mode,
+            divisor,
+            gold: Gold::of(alloc, link.number())?,
+            place: 0,
+            bytes: vec![in alloc; 0u8; 4 * mode.symbols()]?,
+            symbols: vec![in alloc; origin; mode.symbols()]?,
+            payload: vec![in alloc; origin; 90 * mode.slots()]?,
+            soft: vec![in alloc; 0i16; mode.n()]?,
+            block: vec![in alloc; 0u8; certificate_bytes(mode)]?,
+        })
+    }
+
+    /// Reads the bytes of a certificate, or all that are left.
+    pub(crate) fn take_block<R: CountedRead>(&mut self, reader: &mut R) -> Result<usize, ReadFault>
+        requires { CanCount (R.count reader.old) }
+        ensures takes { IfOk result (TakesBlock self.old self.new (R.remaining reader.old) (R.remaining reader.new)) }
+        ensures same { self.new ≡ record self.old { block = self.new.block } }
+        ensures size { length self.new.block ≡ certificate_bytes self.old.terms.mode }
+        ensures cause { CountsFault (R.count reader.old) (R.count reader.new) result }
+    {
+        read_full(reader, &mut self.block)
+    }
+
+    /// The bytes of a certificate.
+    pub(crate) fn block_size(&self) -> usize
+        ensures { result ≡ certificate_bytes self.now.terms.mode }
+    {
+        certificate_bytes(self.mode)
+    }
+
+    /// Reads the frame that begins at a symbol, and finds its soft values. False if it is not in the recording.
+    pub(crate) fn read_frame<R: CountedRead>(
+        &mut self,
+        reader: &mut R,
+        at: u64,
+    ) -> Result<bool, ReadFault>
+        requires reader { CanCount (R.count reader.old) }
+        requires at { at < max_symbols }
+        ensures finds { IfOk result (FindsOrLacks self.old self.new (R.remaining reader.old) (R.remaining reader.new) at) }
+        ensures terms { self.new.terms ≡ self.old.terms }
+        ensures block { self.new.block ≡ self.old.block }
+        ensures cause { CountsFault (R.count reader.old) (R.count reader.new) result }
+    {
+        if at < self.place {
+            return Ok(false);
+        }
+        if !read_at(reader, at - self.place, &mut self.bytes)? {
+            return Ok(false);
+        }
+        find_by_bytes(
+            self.mode,
+            self.divisor,
+            &self.gold,
+            &self.bytes,
+            &mut self.symbols,
+            &mut self.payload,
+            &mut self.soft,
+        );
+        self.place = at + self.mode.symbols() as u64;
+        Ok(true)
+    }
+
+    /// The finding on the last certificate, for the last frame's soft values.
+    pub(crate) fn judge(&self, alloc: Global, verdict: Verdict) -> Result<Finding, Fault<'static>>
+        ensures finds { IfOk result (Finds self.now.terms.rows self.now.soft verdict self.now.block) }
+        ensures memory { IsOkUnless result Fault.NoMemory }
+    {
+        let _n = self.mode.n();
+        judge_bytes(alloc, self.matrix, &self.block, &self.soft, verdict)
+    }
+}

@@ -1,0 +1,47 @@
+//! The bytes of a packet file that `--resync` left out: the note on them, and the exit. This is plain code.
+ghost use Rattle.std.specs.Prelude.{◌≡◌, ◌+◌, ◌≤◌, length};
+ghost use Rattle.s2_console.specs.Lines.{line_room};
+
+use crate::opening::errors_of;
+use s2_console::{Exit, Line};
+use s2_files::Disk;
+use s2_mode::write_full;
+use s2_progress::Terminal;
+use s2_resync::LeftOut;
+
+/// Appends words, a number, and a noun, which is plural unless the number is 1.
+fn push_counted(line: &mut Line, words: &str, number: u64, noun: &str)
+    requires { length line.old + (length words.now + 40) + (length noun.now + 1) ≤ line_room }
+    ensures { length line.new ≤ length line.old + (length words.now + 40) + (length noun.now + 1) }
+{
+    line.push_number(words, number);
+    line.push(noun);
+    if number != 1 {
+        line.push("s");
+    }
+}
+
+/// The note on bytes that were left out.
+fn left_out_note(left_out: LeftOut) -> Line {
+    let mut line = Line::new();
+    push_counted(&mut line, "s2: note: ", left_out.bytes, " byte");
+    push_counted(&mut line, " left out in ", left_out.places, " place");
+    line.push("\n");
+    line
+}
+
+/// Notes the bytes that were left out, if there are any.
+pub(crate) fn note_left_out<R: Disk>(terminal: &Terminal<'_, R>, left_out: LeftOut) {
+    if left_out.bytes > 0 {
+        let _ = write_full(&mut errors_of(terminal), left_out_note(left_out).as_bytes());
+    }
+}
+
+/// The exit of a command that ended so: that of a loss, if all went well but bytes were left out.
+pub(crate) fn exit_after(left_out: LeftOut, exit: Exit) -> Exit {
+    if exit == Exit::Fine && left_out.bytes > 0 {
+        Exit::No
+    } else {
+        exit
+    }
+}
