@@ -1,24 +1,27 @@
 //! The commands on a link: what each needs of its words, and how it runs on its files. This is plain code.
-ghost use Rattle.std.specs.Prelude.{OnErr};
+ghost use Rattle.std.specs.Prelude.{◌≡◌, ◌≢◌, ◌+◌, ◌≤◌, OnErr};
 ghost use Rattle.s2_mode.specs.Counts.{CanCount};
+ghost use Rattle.s2_console.specs.Files.{CanStart};
 ghost use Rattle.s2_console.specs.Screens.{CanNote};
+ghost use Rattle.s2_receive.specs.Sinks.{wanted_count};
 
 use crate::beginnings::note_beginning;
 use crate::losses::{exit_after, note_left_out};
 use crate::opening::{Reading, open_link, show_on};
-use crate::records::{finish_command, open_records};
+use crate::records::{Records, finish_command, open_records};
 use crate::serve::mode_of;
-use s2_commands::{DemodOptions, RunOptions, demod_command, mod_command, run_command};
+use s2_commands::{DemodOptions, LinkFiles, RunOptions, demod_command, mod_command, run_command};
 use s2_console::{Console, Exit, Fault};
-use s2_files::{Disk, Opener};
+use s2_files::{Disk, Opener, Output, Truncating};
 use s2_link::{LinkSetup, RollOff};
-use s2_mode::{CountedWrite, FaultText, Mode};
+use s2_mode::{CountedRead, CountedWrite, FaultText, Mode, WriteFault};
 use s2_progress::{Pace, Show, Terminal};
 use s2_resync::LeftOut;
 use s2_scramble::ScramblingNumber;
 use s2_words::{
     DemodArguments, LinkArguments, ModArguments, Progress, RecordArguments, RunArguments, Seeds,
 };
+use std::alloc::Global;
 use std::time::Clock;
 
 /// A request that works on a link: its words, and its options in the types of the command.
@@ -176,12 +179,62 @@ fn conclude_packets<R: Disk + AllocGlobal>(
     packets: Option<&str>,
     left_out: LeftOut,
     exit: Exit,
-) -> Exit {
+) -> Exit
+    ensures { exit ≡ Exit.Fault → result ≡ Exit.Fault }
+{
     note_packets(terminal, packets, exit);
     if packets.is_some() {
         note_left_out(terminal, left_out);
     }
     exit_after(left_out, exit)
+}
+
+/// Runs the command of a request on its opened files. `notes` takes the notes before a report.
+fn run_request<I: CountedRead, W: Output, F: Output, O: CountedWrite, E: CountedWrite>(
+    setup: LinkSetup,
+    request: LinkRequest<'_, '_>,
+    files: &mut LinkFiles<I, W>,
+    records: &mut Records<Truncating<F>>,
+    console: &mut Console<O, E>,
+    notes: &mut E,
+    alloc: Global,
+) -> Exit
+    requires files { CanStart files.old }
+    requires records { wanted_count (λ t. F.count t.to) records.old.0 + (wanted_count (λ t. F.count t.to) records.old.1.0
+        + (wanted_count (λ t. F.count t.to) records.old.1.1.0 + wanted_count (λ b. F.count b.to.to) records.old.1.1.1)) ≡ 0 }
+    requires console { CanNote console.old }
+    requires notes { CanCount (E.count notes.old) }
+    ensures quiet { result ≢ Exit.Fault → CanCount console.new.errors_failed }
+    ensures few { wanted_count (λ t. F.count t.to) records.new.0 + (wanted_count (λ t. F.count t.to) records.new.1.0
+        + (wanted_count (λ t. F.count t.to) records.new.1.1.0 + wanted_count (λ b. F.count b.to.to) records.new.1.1.1)) ≤ 1 }
+{
+    match request {
+        LinkRequest::Mod(words) => mod_command(
+            alloc,
+            setup,
+            words,
+            files,
+            &mut records.1.1,
+            console,
+            notes,
+        ),
+        LinkRequest::Demod(_, options) => {
+            demod_command(alloc, setup, options, files, records, console, notes)
+        }
+        LinkRequest::Run(_, options) => {
+            run_command(alloc, setup, options, files, records, console, notes)
+        }
+    }
+}
+
+/// A failed write at the end of a command, as the fault of the program.
+fn or_fault<'a>(ended: Result<Exit, WriteFault>) -> Result<Exit, Fault<'a>>
+    ensures { (p : Type 0) → OnErr ended p → OnErr result p }
+{
+    match ended {
+        Ok(exit) => Ok(exit),
+        Err(_) => Err(Fault::Write),
+    }
 }
 
 /// Opens the files of a request on a link, and runs its command on them. `notes` takes the notes before a report.
@@ -204,29 +257,17 @@ pub(crate) fn with_link<'a, R: Disk + Clock + AllocGlobal, O: CountedWrite, E: C
     let mut opener = Opener::new(rt);
     let mut files = open_link(&mut opener, terminal, &show, &unseen, names, reading)?;
     let mut records = open_records(&mut opener, terminal, setup.mode, request.records())?;
-    let (open, sinks) = (&mut files, &mut records);
-    let exit = match request {
-        LinkRequest::Mod(words) => mod_command(
-            alloc,
-            setup,
-            words,
-            open,
-            &mut sinks.1.1,
-            console,
-            notes,
-        ),
-        LinkRequest::Demod(_, options) => demod_command(
-            alloc, setup, options, open, sinks, console, notes,
-        ),
-        LinkRequest::Run(_, options) => run_command(
-            alloc, setup, options, open, sinks, console, notes,
-        ),
-    };
+    let exit = run_request(
+        setup,
+        request,
+        &mut files,
+        &mut records,
+        console,
+        notes,
+        alloc,
+    );
     show.finish();
     let left_out = files.from.left_out();
     let exit = conclude_packets(terminal, request.noted_packets(), left_out, exit);
-    match finish_command(exit, files.to.is_begun(), records) {
-        Ok(exit) => Ok(exit),
-        Err(_) => Err(Fault::Write),
-    }
+    or_fault(finish_command(exit, files.to.is_begun(), records))
 }

@@ -38,7 +38,9 @@ pub(crate) fn note_left_out<R: Disk>(terminal: &Terminal<'_, R>, left_out: LeftO
 }
 
 /// The exit of a command that ended so: that of a loss, if all went well but bytes were left out.
-pub(crate) fn exit_after(left_out: LeftOut, exit: Exit) -> Exit {
+pub(crate) fn exit_after(left_out: LeftOut, exit: Exit) -> Exit
+    ensures { exit ≡ Exit.Fault → result ≡ Exit.Fault }
+{
     if exit == Exit::Fine && left_out.bytes > 0 {
         Exit::No
     } else {

@@ -1,12 +1,8 @@
 use Rattle.std.proofs.Common.{◌≡◌, ℕ, ◌+◌, ◌≤◌, Option, Some, None, refl, arith}
 use Rattle.s2_send.specs.Sinks as sent
 use Rattle.s2_receive.specs.Sinks as heard
-use Rattle.s2_tool.proofs.link_request.with_link.Goals.{in-Mod, in-Demod, in-Run}
-use Rattle.s2_tool.proofs.link_request.with_link.Goals as goal
-
--- no call has failed
-none_of : (n : ℕ) → n ≡ 0 → n ≤ 1
-none_of n e = omega (arith, e)
+use Rattle.s2_tool.proofs.link_request.run_request.Goals.{in-Mod, in-Demod, in-Run}
+use Rattle.s2_tool.proofs.link_request.run_request.Goals as goal
 
 -- at most one call has failed since there was none
 one_of : (n m : ℕ) → n ≤ m + 1 → m ≡ 0 → n ≤ 1
@@ -23,12 +19,3 @@ sent_of : {A B : Type 0} (x x' : Option A) (y y' : Option B) (first : A → ℕ)
     → m + (n + (heard.wanted_count first x + heard.wanted_count last y)) ≡ 0 → m + (n + (heard.wanted_count first x' + heard.wanted_count last y')) ≤ 1
 sent_of x x' y y' first last m n few e =
     omega (arith, few, e, same_count first x, same_count first x', same_count last y, same_count last y')
-
-pub finish_command-requires : goal.finish_command-requires
-finish_command-requires g c =
-    elim c.match-request.branch [
-      | in-Mod w ↦ rw w.records-is (sent_of c.in_ok-records.records.1.1.0 w.mod_command-exit.new.sinks.0 c.in_ok-records.records.1.1.1 w.mod_command-exit.new.sinks.1 (λ file. file.to.inner.failed) (λ sink. sink.to.to.inner.failed) _ _
-          w.mod_command-exit.ensures.few c.in_ok-records.ensures.fresh)
-      | in-Demod w ↦ rw w.records-is (one_of _ _ w.demod_command-exit.ensures.few c.in_ok-records.ensures.fresh)
-      | in-Run w ↦ rw w.records-is (one_of _ _ w.run_command-exit.ensures.few c.in_ok-records.ensures.fresh)
-    ]
