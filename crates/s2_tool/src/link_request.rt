@@ -173,7 +173,7 @@ fn note_packets<R: Disk + AllocGlobal>(
     }
 }
 
-/// The exit of a command of which bytes of a packet file were left out. Notes on the file of this name are written.
+/// The exit of a command that left out these bytes of its packet file. Notes on the file of this name are written.
 fn conclude_packets<R: Disk + AllocGlobal>(
     terminal: &Terminal<'_, R>,
     packets: Option<&str>,
