@@ -23,9 +23,7 @@ fn changed_bits(view: &CertView<'_>, word: &Bits) -> usize
     let _valid = view.shape();
     let mut changed = 0usize;
     'bits: for i in 0..word.len() {
-        if word.get(i) != view.bit(i) {
-            changed += 1;
-        }
+        changed += usize::from(word.get(i) ^ view.bit(i));
     }
     changed
 }

@@ -54,16 +54,16 @@ fn compare_all<R: CountedRead, O: CountedWrite>(
 fn compare_under<R: CountedRead, O: CountedWrite>(
     alloc: Global,
     matrix: &Matrix,
-    form: Form,
+    form: &Form,
     certificates: &mut R,
     words: &mut R,
     out: &mut O,
 ) -> Result<Exit, Fault<'static>>
-    requires shape { matrix.now.shape ≡ shape_for form }
+    requires shape { matrix.now.shape ≡ shape_for form.now }
     requires certificates { CanCount (R.count certificates.old) }
     requires words { CanCount (R.count words.old) }
     requires out { CanCount (O.count out.old) }
-    ensures compares { IsUnder form matrix.now
+    ensures compares { IsUnder form.now matrix.now
         (feeds (R.remaining certificates.old) (R.remaining words.old)) (feeds (R.remaining certificates.new) (R.remaining words.new))
         result (O.contents out.old) (O.contents out.new) }
     ensures read { result ≡ Err Fault.Read → R.count certificates.new + R.count words.new ≡ R.count certificates.old + R.count words.old + 1 }
@@ -78,7 +78,7 @@ fn compare_under<R: CountedRead, O: CountedWrite>(
 /// Reads rows, and compares all frames.
 fn print_comparison<R: CountedRead, O: CountedWrite>(
     alloc: Global,
-    form: Form,
+    form: &Form,
     rows: &mut R,
     certificates: &mut R,
     words: &mut R,
@@ -89,7 +89,7 @@ fn print_comparison<R: CountedRead, O: CountedWrite>(
     requires words { CanCount (R.count words.old) }
     requires out { CanCount (O.count out.old) }
     ensures whole { IsOk result → O.count out.new ≡ O.count out.old }
-    ensures run { ComparesEach form (R.remaining rows.old)
+    ensures run { ComparesEach form.now (R.remaining rows.old)
         (feeds (R.remaining certificates.old) (R.remaining words.old)) (feeds (R.remaining certificates.new) (R.remaining words.new))
         result (O.contents out.old) (O.contents out.new) }
     ensures causes { CommandCounts result (R.count rows.old + (R.count certificates.old + R.count words.old))
@@ -123,6 +123,6 @@ pub fn compare_command<R: CountedRead, O: CountedWrite, E: CountedWrite>(
         console.old console.new result (R.count rows.old + (R.count certificates.old + R.count words.old))
         (R.count rows.new + (R.count certificates.new + R.count words.new)) }
 {
-    let ended = print_comparison(alloc, form, rows, certificates, words, &mut console.output);
+    let ended = print_comparison(alloc, &form, rows, certificates, words, &mut console.output);
     console.finish(ended)
 }

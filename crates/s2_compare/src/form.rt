@@ -1,5 +1,5 @@
 //! The forms of a device's words.
-ghost use Rattle.std.specs.Prelude.{◌≡◌, ◌≤◌};
+ghost use Rattle.std.specs.Prelude.{◌≡◌, ◌+◌, ◌≤◌};
 ghost use Rattle.s2_mode.specs.Limits.{max_bits};
 ghost use Rattle.s2_compare.specs.Devices.{record_size, shape_for};
 
@@ -18,18 +18,19 @@ pub enum Form {
 
 impl Form {
     /// The shape of the code.
-    pub fn shape(self) -> Shape
-        ensures { result ≡ shape_for self }
+    pub fn shape(&self) -> Shape
+        ensures { result ≡ shape_for self.now }
     {
         match self {
-            Form::Bytes(shape) | Form::Digits(shape) => shape,
+            Form::Bytes(shape) | Form::Digits(shape) => *shape,
             Form::Bbframes(mode) => mode.shape(),
         }
     }
 
     /// How many bytes a record has.
-    pub(crate) fn record_size(self) -> usize
-        ensures { result ≡ record_size self }
+    pub(crate) fn record_size(&self) -> usize
+        ensures is { result ≡ record_size self.now }
+        ensures few { result ≤ max_bits + 1 }
     {
         match self {
             Form::Bytes(shape) => (shape.n() + 7) / 8,

@@ -55,10 +55,10 @@ impl<'a> Comparer<'a> {
     pub(crate) fn new(
         alloc: Global,
         matrix: &'a Matrix,
-        form: Form,
+        form: &Form,
     ) -> Result<Comparer<'a>, Fault<'static>>
-        requires { matrix.now.shape ≡ shape_for form }
-        ensures form { IfOk result (λ c. c.form ≡ form) }
+        requires { matrix.now.shape ≡ shape_for form.now }
+        ensures form { IfOk result (λ c. c.form ≡ form.now) }
         ensures rows { IfOk result (λ c. c.rows ≡ matrix.now) }
         ensures told { IsOkUnless result Fault.NoMemory }
     {
@@ -155,7 +155,8 @@ pub(crate) fn compare_next<R: CountedRead, O: CountedWrite>(
         (O.contents out.old) (O.contents out.new) result }
     ensures same { comparer.new ≡ comparer.old }
     ensures read { result ≡ Err Fault.Read → R.count certificates.new + R.count words.new ≡ R.count certificates.old + R.count words.old + 1 }
-    ensures no_read { result ≢ Err Fault.Read → R.count certificates.new + R.count words.new ≡ R.count certificates.old + R.count words.old }
+    ensures no_read { result ≢ Err Fault.Read → R.count certificates.new ≡ R.count certificates.old }
+    ensures no_other { result ≢ Err Fault.Read → R.count words.new ≡ R.count words.old }
     ensures write { result ≡ Err Fault.Write → O.count out.new ≡ O.count out.old + 1 }
     ensures no_write { result ≢ Err Fault.Write → O.count out.new ≡ O.count out.old }
 {

@@ -34,9 +34,9 @@ impl Drop for Kind {
 }
 
 /// The kind of a form. `AllocError` only if memory is refused.
-fn kind_of(alloc: Global, form: Form) -> Result<Kind, AllocError>
-    ensures form { IfOk result (λ k. form_by (shape_for form) k ≡ form) }
-    ensures fits { (rows : Rows) → rows.shape ≡ shape_for form → IfOk result (λ k. FitsKind rows k) }
+fn kind_of(alloc: Global, form: &Form) -> Result<Kind, AllocError>
+    ensures form { IfOk result (λ k. form_by (shape_for form.now) k ≡ form.now) }
+    ensures fits { (rows : Rows) → rows.shape ≡ shape_for form.now → IfOk result (λ k. FitsKind rows k) }
 {
     match form {
         Form::Bytes(_) => {
@@ -45,24 +45,24 @@ fn kind_of(alloc: Global, form: Form) -> Result<Kind, AllocError>
         }
         Form::Digits(_) => Ok(Kind::Digits),
         Form::Bbframes(mode) => {
-            let encoder = Encoder::new(alloc, mode)?;
+            let encoder = Encoder::new(alloc, *mode)?;
             Ok(Kind::Bbframes(encoder))
         }
     }
 }
 
 /// Fills a record. A fault if a part of it is left, or nothing.
-fn fill<R: CountedRead>(reader: &mut R, record: &mut [u8]) -> Result<(), Fault<'static>>
+fn fill<R: CountedRead>(reader: &mut R, bytes: &mut [u8]) -> Result<(), Fault<'static>>
     requires { CanCount (R.count reader.old) }
-    ensures size { length record.new ≡ length record.old }
-    ensures bytes { OnOk result (Consumes (R.remaining reader.old) (R.remaining reader.new) record.new) }
-    ensures cut { IfErr result (λ fault. IsCutOff (length record.old) (R.remaining reader.old) (R.remaining reader.new) fault) }
+    ensures size { length bytes.new ≡ length bytes.old }
+    ensures full { OnOk result (Consumes (R.remaining reader.old) (R.remaining reader.new) bytes.new) }
+    ensures cut { IfErr result (λ fault. IsCutOff (length bytes.old) (R.remaining reader.old) (R.remaining reader.new) fault) }
     ensures read { result ≡ Err Fault.Read → R.count reader.new ≡ R.count reader.old + 1 }
     ensures no_other { result ≢ Err Fault.Read → R.count reader.new ≡ R.count reader.old }
 {
-    match read_full(reader, record) {
+    match read_full(reader, bytes) {
         Err(_) => Err(Fault::Read),
-        Ok(count) if count == record.len() => Ok(()),
+        Ok(count) if count == bytes.len() => Ok(()),
         Ok(0) => Err(Fault::about("words: ", FaultText::of("fewer than certificates"))),
         Ok(_) => Err(Fault::about("words: ", FaultText::of("cut"))),
     }
@@ -109,7 +109,7 @@ fn take_record(
 pub(crate) struct WordReader<'a> {
     matrix: &'a Matrix,
     kind: Kind,
-    record: Vec<u8>,
+    bytes: Vec<u8>,
     word: Bits,
 }
 
@@ -118,7 +118,7 @@ impl<'a> Drop for WordReader<'a> {
         let WordReader {
             matrix: _,
             kind: _,
-            record: _,
+            bytes: _,
             word: _,
         } = self;
     }
@@ -131,7 +131,7 @@ impl<'a> Model for WordReader<'a> {
 
     ghost view = { λ r. record { form = form_by r.matrix.now.shape r.kind; rows = r.matrix.now; word = r.word } };
 
-    ghost invariant = { λ r. FitsReader r.matrix.now r.kind r.record.items r.word };
+    ghost invariant = { λ r. FitsReader r.matrix.now r.kind r.bytes.items r.word };
 }
 
 impl<'a> WordReader<'a> {
@@ -139,19 +139,19 @@ impl<'a> WordReader<'a> {
     pub(crate) fn new(
         alloc: Global,
         matrix: &'a Matrix,
-        form: Form,
+        form: &Form,
     ) -> Result<WordReader<'a>, AllocError>
-        requires { matrix.now.shape ≡ shape_for form }
-        ensures form { IfOk result (λ r. r.form ≡ form) }
+        requires { matrix.now.shape ≡ shape_for form.now }
+        ensures form { IfOk result (λ r. r.form ≡ form.now) }
         ensures rows { IfOk result (λ r. r.rows ≡ matrix.now) }
     {
         let kind = kind_of(alloc, form)?;
-        let record = vec![in alloc; 0u8; form.record_size()]?;
+        let bytes = vec![in alloc; 0u8; form.record_size()]?;
         let word = Bits::zeroed(alloc, matrix.bits())?;
         Ok(WordReader {
             matrix,
             kind,
-            record,
+            bytes,
             word,
         })
     }
@@ -180,7 +180,7 @@ impl<'a> WordReader<'a> {
         ensures read { result ≡ Err Fault.Read → R.count reader.new ≡ R.count reader.old + 1 }
         ensures no_other { result ≢ Err Fault.Read → R.count reader.new ≡ R.count reader.old }
     {
-        fill(reader, &mut self.record)?;
-        take_record(self.matrix, &mut self.kind, &self.record, &mut self.word)
+        fill(reader, &mut self.bytes)?;
+        take_record(self.matrix, &mut self.kind, &self.bytes, &mut self.word)
     }
 }

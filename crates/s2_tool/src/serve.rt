@@ -5,6 +5,7 @@ ghost use Rattle.s2_console.specs.Screens.{CanNote};
 
 use crate::causes::{note_cause, note_marks};
 use crate::link_request::{LinkRequest, setup_of, with_link};
+use crate::losses::note_audit;
 use crate::opening::{
     open_audit, open_compare, open_input, open_inputs, open_join, open_judge, open_noise,
     open_scan, screen_beside, show_on, standard_input,
@@ -480,7 +481,7 @@ fn serve_join<'a, R: Disk + AllocGlobal, O: CountedWrite, E: CountedWrite>(
     Ok(join_command(rt.alloc(), mode, &mut bbframes, &mut packets, console))
 }
 
-/// `audit`.
+/// `audit`. If it is refused, a note names the likely causes.
 fn serve_audit<'a, R: Disk + AllocGlobal, O: CountedWrite, E: CountedWrite>(
     rt: &R,
     terminal: &Terminal<'_, R>,
@@ -493,7 +494,7 @@ fn serve_audit<'a, R: Disk + AllocGlobal, O: CountedWrite, E: CountedWrite>(
     let setup = setup_of(words.link)?;
     let divisor = divisor_of(&setup.mode, words)?;
     let (mut rows, mut symbols, mut report, mut certificates) = open_audit(terminal, words)?;
-    Ok(audit_command(
+    let exit = audit_command(
         rt.alloc(),
         setup,
         divisor,
@@ -502,5 +503,7 @@ fn serve_audit<'a, R: Disk + AllocGlobal, O: CountedWrite, E: CountedWrite>(
         &mut report,
         &mut certificates,
         console,
-    ))
+    );
+    note_audit(terminal, exit);
+    Ok(exit)
 }

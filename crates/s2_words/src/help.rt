@@ -300,6 +300,9 @@ Exit status:
   1  a usage error, or an error reported on standard error
   2  a frame is not proved, or certificates are left over
 
+Notes, on standard error:
+  likely causes: ..    after exit 2: another divisor (try --tuned), another mode, or a recording that was cut or shifted
+
 Example:
   s2 demod --modcod qpsk1/2 --tuned --certificates certificates rows noisy received.ts > report
   s2 audit --modcod qpsk1/2 --tuned rows noisy report certificates";
