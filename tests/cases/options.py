@@ -86,7 +86,7 @@ def judge_effects():
     # the bits of the stored word
     hard = {"reads": {"values": re.sub(rb"-5|7", lambda it: b"%d" % (it[0] == b"-5"), STORED)}}
     as_soft, unnoted = ended("most-likely cost 0\n", errors=noted(HARD_NOTE)), ended("most-likely cost 0\n")
-    yield Effect("--hard", f"judge {TOY} {{}} toy values", {"": as_soft, "--hard": ended("sole cost -9\n")}, hard)
+    yield Effect("--hard", f"judge {TOY} {{}} toy values", {"": as_soft, "--hard": ended("sole cost -9 changed 0\n")}, hard)
     yield Effect("--quiet", f"judge {TOY} {{}} toy values", {"": as_soft, "--quiet": unnoted}, hard)
     two, many = {"reads": {"values": 2 * (STORED + b"\n")}}, ended(2 * "sole cost -45\n")
     yield Effect("--each", f"judge {TOY} {{}} toy values", {"": refused("values: too many"), "--each": many}, two)

@@ -348,6 +348,7 @@ WORDS = [
     ("judge", "--short", "Short frames: 16200 bits instead of 64800"),
     ("judge", "--hard", "instead of soft values: 0 becomes the value 1, and 1 becomes -1"),
     ("judge", "--each", "one after another: a line of the report per frame, and all certificates in one file"),
+    ("judge", ".. changed B", "at the end of each line: B of the bits differ from the word that was read"),
     ("judge", "these look like hard decisions: use --hard", "all values are 0 or 1"),
     *((name, f"{option} <FILE>", says) for name in ("demod", "run") for option, says in RECORDS.items()),
     *(("mod", f"{option} <FILE>", says) for option, says in SENT.items()),

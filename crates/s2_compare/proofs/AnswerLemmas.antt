@@ -31,11 +31,11 @@ xor_zero false false h = refl
 
 zero_each : (n : ℕ) (a b : List Bool) → differences n a b ≡ 0 → (k : ℕ) → k < n → bit_at a k ≡ bit_at b k
 zero_each zero a b h k low = absurd (omega (arith, low))
-zero_each (suc n) a b h k low = by_case (eq-or-lt_of_le (omega (arith, low)))
+zero_each (suc n) a b h k low = by_case (eq-or-lt_of_le (omega (arith, low))) (zero_each n a b (omega (arith, h)) k)
   where
-    by_case : (k ≡ n) ⊎ (k < n) → bit_at a k ≡ bit_at b k
-    by_case (inl e) = subst (λ j. bit_at a j ≡ bit_at b j) (sym e) (xor_zero (bit_at a n) (bit_at b n) (omega (arith, h)))
-    by_case (inr less) = zero_each n a b (omega (arith, h)) k less
+    by_case : (k ≡ n) ⊎ (k < n) → (k < n → bit_at a k ≡ bit_at b k) → bit_at a k ≡ bit_at b k
+    by_case (inl e) before = subst (λ j. bit_at a j ≡ bit_at b j) (sym e) (xor_zero (bit_at a n) (bit_at b n) (omega (arith, h)))
+    by_case (inr less) before = before less
 
 -- words of the same length that differ in no bit are the same
 pub same_word : (n : ℕ) (a b : List Bool) → n ≡ length a → length a ≡ length b → differences n a b ≡ 0 → a ≡ b
@@ -84,13 +84,13 @@ pub worse_lem : WorseLaw
 worse_lem rows view word paid best changed h likely =
     let low : cost view.soft word ≤ℤ cost view.soft view.bits = likely.least view.bits (most_likely rows view h.accepted).codeword in
     let high : cost view.soft view.bits <ℤ cost view.soft word = subst (λ (c : ℤ). c <ℤ cost view.soft word) h.least (subst (λ (c : ℤ). best <ℤ c) h.costs h.more) in
-    omega (ints, low, high)
+    omega (arith, ints, low, high)
 
 pub equal_lem : EqualLaw
 equal_lem rows view word paid changed h strict =
     let more : cost view.soft view.bits <ℤ cost view.soft word = (sole_word rows view strict).alone word h.codeword h.other in
     let same : cost view.soft view.bits ≡ cost view.soft word = sym h.least ∙ h.costs in
-    omega (ints, more, same)
+    omega (arith, ints, more, same)
 
 -- ---- slices that are lent
 

@@ -8,7 +8,7 @@ use Rattle.s2_compare.specs.Counting.{AreBelow, counted, counts_of, is_equal, is
 count_push : (p : Compared → Bool) (xs : List Compared) (x : Compared) → count_by p (xs ++ x ∷ []) ≡ count_by p xs + cond (p x) 1 0
 count_push p xs x = sum_by_push (λ y. cond (p y) 1 0) xs x
 
-made : ℕ → ℕ → ℕ → ℕ → ℕ → ℕ → ℕ → Counts
+abbrev made : ℕ → ℕ → ℕ → ℕ → ℕ → ℕ → ℕ → Counts
 made a b c d e f g = record { frames = a; same = b; equal = c; worse = d; no_codeword = e; refused = f; missing = g }
 
 made_as : (a b c d e f g a' b' c' d' e' f' g' : ℕ) → a ≡ a' → b ≡ b' → c ≡ c' → d ≡ d' → e ≡ e' → f ≡ f' → g ≡ g' → made a b c d e f g ≡ made a' b' c' d' e' f' g'

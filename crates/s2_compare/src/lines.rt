@@ -1,10 +1,21 @@
 //! The lines of a comparison.
-ghost use Rattle.std.specs.Prelude.{◌≡◌, ◌≤◌, length};
+ghost use Rattle.std.specs.Prelude.{◌≡◌, ◌≤◌, ◌+◌, ◌++◌, length};
+ghost use Rattle.std.specs.Fmt.{signed_decimal};
+ghost use Rattle.s2_console.specs.Lines.{line_room};
 ghost use Rattle.s2_compare.specs.Lines.{answer_text, counts_line, front_counts, changed_text, frame_line, frame_text};
 
 use crate::compared::Compared;
 use crate::counts::Counts;
 use s2_console::Line;
+
+/// Appends words and a cost.
+fn push_cost(line: &mut Line, words: &str, cost: i64)
+    requires { length line.old + (length words.now + 40) ≤ line_room }
+    ensures text { line.new ≡ line.old ++ (words.now ++ signed_decimal cost) }
+    ensures short { length line.new ≤ length line.old + (length words.now + 40) }
+{
+    line.push_number(words, cost);
+}
 
 /// The words of an answer, after the frame's number.
 fn push_answer(line: &mut Line, answer: Compared)
@@ -16,10 +27,10 @@ fn push_answer(line: &mut Line, answer: Compared)
         Compared::Same { verdict, cost } => {
             line.push(" same ");
             line.push(verdict.word());
-            line.push_number(" cost ", cost);
+            push_cost(line, " cost ", cost);
         }
         Compared::Equal { cost, changed } => {
-            line.push_number(" equal cost ", cost);
+            push_cost(line, " equal cost ", cost);
             line.push_number(" changed ", changed);
         }
         Compared::Worse {
@@ -27,8 +38,8 @@ fn push_answer(line: &mut Line, answer: Compared)
             best,
             changed,
         } => {
-            line.push_number(" worse cost ", cost);
-            line.push_number(" best ", best);
+            push_cost(line, " worse cost ", cost);
+            push_cost(line, " best ", best);
             line.push_number(" changed ", changed);
         }
         Compared::NoCodeword { checks, changed } => {

@@ -69,6 +69,7 @@ The report, with --each a line per frame. The cost of a word is the sum of the s
   most-likely cost C       proved: the decided bits are a codeword of cost C, and no codeword costs less
   parity cost C            all parity checks hold, but no certificate was found: try --passes 96
   broken cost C check J    not a codeword: check J, counted from 0, is the first that fails
+  .. changed B             with --hard, at the end of each line: B of the bits differ from the word that was read
 
 Exit status:
   0  sole or most-likely

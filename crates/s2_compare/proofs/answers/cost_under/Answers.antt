@@ -13,7 +13,8 @@ bits-preserved c =
     let soft = c.args.view.now.soft in
     let one : ℕ → Bool = bit_at c.args.word.now in
     let i = c.bits.i in
-    let x = value_at soft i in
+    let x = c.soft.result in
+    let is = c.soft.ensures in
     let before = total-filter (value_at soft) one (upto i) in
     let after = total-filter (value_at soft) one (upto (i + 1)) in
     let more = total-upto_more (λ k. cond (one k) (value_at soft k) (pos 0)) i in
@@ -21,11 +22,11 @@ bits-preserved c =
     let same = c.from-value.ensures ∙ to_z-of_z w16 x fits in
     elim c.if-get.branch [
       | then-get w ↦ (
-          let taken = cond-true (one i) x (pos 0) w.if-get.true in
+          let taken = cond-true (one i) (value_at soft i) (pos 0) w.if-get.true in
           record { sum = omega (arith, ints, w.cost-is); low = omega (arith, ints, w.cost-is); high = omega (arith, ints, w.cost-is) }
           )
       | else-get w ↦ (
-          let taken = cond-false (one i) x (pos 0) w.if-get.false in
+          let taken = cond-false (one i) (value_at soft i) (pos 0) w.if-get.false in
           record { sum = omega (arith, ints, w.cost-is); low = omega (arith, ints, w.cost-is); high = omega (arith, ints, w.cost-is) }
           )
     ]

@@ -8,7 +8,7 @@ pub returns-clause-says : goal.returns-clause-says
 returns-clause-says c =
     let d : Decided = decided c.args.matrix.now c.args.judge.now.tuning c.args.soft.now in
     let same : decided c.args.judge.now.rows c.args.judge.now.tuning c.args.soft.now ≡ d = ap (λ r. decided r c.args.judge.now.tuning c.args.soft.now) c.requires.rows in
-    says c.args.matrix.now c.args.soft.now d c.judge-verdict.result c.word.result.now c.judgement.result.exit c.judgement.result.text (c.judge-verdict.ensures.verdict ∙ ap (λ x. x.verdict) same)
+    says c.args.hard c.args.matrix.now c.args.soft.now d c.judge-verdict.result c.word.result.now c.judgement.result.exit c.judgement.result.text (c.judge-verdict.ensures.verdict ∙ ap (λ x. x.verdict) same)
     (c.word.ensures.is ∙ (c.judge-verdict.ensures.bits ∙ ap (λ x. x.bits) same)) c.judgement.ensures.says
 
 pub returns-clause-certificate : goal.returns-clause-certificate
