@@ -55,7 +55,7 @@ pub record IsWorse (rows : Rows) (view : View) (word : List Bool) (paid best : �
   pub more : best <ℤ paid
   pub changes : changed ≡ changed_bits view word
 
--- it is no codeword, and so many checks do not hold
+-- it is no codeword, and this number of checks do not hold
 pub record IsNoCodeword (rows : Rows) (view : View) (word : List Bool) (checks changed : ℕ) : Type 0 where
   pub accepted : IsCertificate rows view
   pub broken : IsCodeword (code_of rows) word → ⊥

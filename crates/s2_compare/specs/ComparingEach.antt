@@ -39,7 +39,7 @@ pub record IsFrame (form : Form) (rows : Rows) (frame : Frame) : Type 0 where
   pub word : Says form rows frame.record_bytes frame.device
   pub compared : Compares rows frame.file frame.device frame.answer
 
--- the answers of frames
+-- how each frame compares
 abbrev pub answers_of : List Frame → List Compared
 answers_of frames = map (λ frame. frame.answer) frames
 

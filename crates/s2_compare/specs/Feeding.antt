@@ -37,8 +37,8 @@ pub record RefusesWord (form : Form) (rows : Rows) (before after : Feeds) (fault
   pub certificate : TakesPiece before.certificates after.certificates (Ok (Some file))
   pub word : TakesWord form rows before.words after.words (Err fault)
 
--- why the next line is not printed if no writer failed: the next certificate is refused, a read of it failed, or memory
--- ran out; or its word is refused; or there are more words than certificates
+-- Why the next line is not printed if no writer failed. The next certificate is refused, a read of it failed, or memory
+-- ran out. Or its word is refused, or there are more words than certificates
 abbrev pub StopsReading : Form → Rows → Feeds → Feeds → Fault → Type 0
 StopsReading form rows before after fault =
     (TakesPiece before.certificates after.certificates (Err fault) × (after.words ≡ before.words))

@@ -27,7 +27,7 @@ frame_text number = codes "frame " ++ decimal number
 abbrev pub frame_line : ℕ → Compared → List ℕ
 frame_line number answer = answer_text (frame_text number) answer ++ codes "\n"
 
--- the lines of frames with these answers, the first of which has this number
+-- the lines of frames that compare in this way; the first frame has this number
 abbrev pub lines_from : ℕ → List Compared → List ℕ
 lines_from number [] = []
 lines_from number (answer ∷ more) = frame_line number answer ++ lines_from (number + 1) more

@@ -39,7 +39,7 @@ pub record FitsReader (rows : Rows) (kind : Kind) (bytes : List ℕ) (word : Lis
   pub bytes_fit : length bytes ≡ record_size (form_by rows.shape kind)
   pub word_fits : length word ≡ (code_of rows).bits
 
--- what was read, by whether a word was
+-- a word that was read, or nothing, or a fault
 abbrev pub said : Result Bool Fault → List Bool → Result (Option (List Bool)) Fault
 said (Ok delivered) word = Ok (given delivered word)
 said (Err fault) word = Err fault

@@ -1,4 +1,4 @@
-//! The answers of a comparison.
+//! The results of a comparison.
 use s2_check::Verdict;
 
 /// How a device's word for a frame compares with the certified one.

@@ -5,7 +5,7 @@
 //! For each frame it prints whether the device's word is the certified one. If it is not, the line says how it differs:
 //! another codeword that costs as much, one that costs more, or no codeword.
 //!
-//! The answers are [`Compared`]. [`laws`] says what follows from them: a device whose word costs more did not decide by
+//! The results are [`Compared`]. [`laws`] says what follows from them: a device whose word costs more did not decide by
 //! maximum likelihood. Words are encoded (EN 302 307-1, 5.2 and 5.3) if the file has BBFRAMEs.
 //!
 //! ```text

@@ -46,7 +46,7 @@ fn changed_by(hard: bool, soft: &[i16], word: &Bits) -> Option<usize>
     }
 }
 
-/// The line and the exit of a verdict on decided bits, of which so many are changed.
+/// The line and the exit of a verdict on decided bits, with the number of changed ones.
 fn judgement(
     matrix: &Matrix,
     soft: &[i16],

@@ -1,4 +1,4 @@
-use Rattle.std.proofs.Common.{ℕ, ◌+◌, Bool, cond, pos, SFits, w16, arith, rules, ◌∙◌}
+use Rattle.std.proofs.Common.{ℕ, ◌+◌, Bool, cond, pos, SFits, w16, arith, rules, sym, ◌∙◌}
 use Rattle.std.proofs.lemmas.Int.{ints, to_z-of_z}
 use Rattle.std.proofs.lemmas.Bool.{cond-true, cond-false}
 use Rattle.s2_matrix.specs.Total.{upto}
@@ -22,11 +22,11 @@ bits-preserved c =
     let same = c.from-value.ensures ∙ to_z-of_z w16 x fits in
     elim c.if-get.branch [
       | then-get w ↦ (
-          let taken = cond-true (one i) (value_at soft i) (pos 0) w.if-get.true in
+          let taken = cond-true (one i) (value_at soft i) (pos 0) (sym c.get.ensures ∙ w.if-get.true) in
           record { sum = omega (arith, ints, w.cost-is); low = omega (arith, ints, w.cost-is); high = omega (arith, ints, w.cost-is) }
           )
       | else-get w ↦ (
-          let taken = cond-false (one i) (value_at soft i) (pos 0) w.if-get.false in
+          let taken = cond-false (one i) (value_at soft i) (pos 0) (sym c.get.ensures ∙ w.if-get.false) in
           record { sum = omega (arith, ints, w.cost-is); low = omega (arith, ints, w.cost-is); high = omega (arith, ints, w.cost-is) }
           )
     ]
