@@ -17,7 +17,7 @@ use Rattle.s2_compare.specs.declared.form.Form.{Form}
 use Rattle.s2_compare.specs.Comparing.{Compares}
 use Rattle.s2_compare.specs.Counting.{counts_of, exit_by}
 use Rattle.s2_compare.specs.Devices.{Says, record_size, shape_for}
-use Rattle.s2_compare.specs.Feeding.{Feeds, BothEnd, StopsNext}
+use Rattle.s2_compare.specs.Feeding.{Feeds, feeds, BothEnd, StopsNext}
 use Rattle.s2_compare.specs.Lines.{lines_from, counts_line}
 
 -- the maximum number of frames of one run, 2^32 - 1
@@ -114,8 +114,19 @@ abbrev pub ComparesEach : Form → Option (List ℕ) → Feeds → Feeds → Res
 ComparesEach form known before after ended old new =
     FailsEarly form known before after ended old new ⊎ ComparesAccepted form known before after ended old new
 
+-- the files of `compare`: the unread bytes of the row file and of the two others, and how many calls have failed
+pub record Files : Type 0 where
+  pub rows : Option (List ℕ)
+  pub feeds : Feeds
+  pub failed : ℕ
+
+-- the files that these readers read
+abbrev pub read_by : {R : Type 0} → (R → Option (List ℕ)) → (R → ℕ) → R → R → R → Files
+read_by remaining count rows certificates words =
+    record { rows = remaining rows; feeds = feeds (remaining certificates) (remaining words); failed = count rows + (count certificates + count words) }
+
 -- `compare` has ended: it ran on its files, only failed calls were counted, and the line of a fault is on the errors
-abbrev pub CompareExits : Form → Option (List ℕ) → Feeds → Feeds → Screen → Screen → Exit → ℕ → ℕ → Type 0
-CompareExits form known before after old new exit reads reads_after =
-    (ended : Result Exit Fault) × (exit ≡ exit_of ended) × ComparesEach form known before after ended old.output new.output
-    × CommandCounts ended reads reads_after old.output_failed new.output_failed × Complains ended old new
+abbrev pub CompareExits : Form → Files → Files → Screen → Screen → Exit → Type 0
+CompareExits form files files_after old new exit =
+    (ended : Result Exit Fault) × (exit ≡ exit_of ended) × ComparesEach form files.rows files.feeds files_after.feeds ended old.output new.output
+    × CommandCounts ended files.failed files_after.failed old.output_failed new.output_failed × Complains ended old new

@@ -18,6 +18,7 @@ pub record Feeds : Type 0 where
   pub certificates : Option (List ℕ)
   pub words : Option (List ℕ)
 
+-- both of them
 abbrev pub feeds : Option (List ℕ) → Option (List ℕ) → Feeds
 feeds certificates words = record { certificates = certificates; words = words }
 

@@ -3,7 +3,7 @@ ghost use Rattle.std.specs.Prelude.{◌≡◌, ◌≢◌, ◌+◌, Err, IsOk};
 ghost use Rattle.s2_mode.specs.Counts.{CanCount};
 ghost use Rattle.s2_console.specs.Screens.{CanShow};
 ghost use Rattle.s2_console.specs.Exits.{CommandCounts};
-ghost use Rattle.s2_compare.specs.ComparingEach.{CompareExits, ComparesEach, ComparesUnder, IsUnder};
+ghost use Rattle.s2_compare.specs.ComparingEach.{CompareExits, ComparesEach, ComparesUnder, IsUnder, read_by};
 ghost use Rattle.s2_compare.specs.Devices.{shape_for};
 ghost use Rattle.s2_compare.specs.Feeding.{feeds};
 
@@ -118,10 +118,8 @@ pub fn compare_command<R: CountedRead, O: CountedWrite, E: CountedWrite>(
     requires console { CanShow console.old }
     ensures quiet { result ≢ Exit.Fault → console.new.errors_failed ≡ console.old.errors_failed }
     ensures whole { result ≢ Exit.Fault → console.new.output_failed ≡ console.old.output_failed }
-    ensures run { CompareExits form (R.remaining rows.old)
-        (feeds (R.remaining certificates.old) (R.remaining words.old)) (feeds (R.remaining certificates.new) (R.remaining words.new))
-        console.old console.new result (R.count rows.old + (R.count certificates.old + R.count words.old))
-        (R.count rows.new + (R.count certificates.new + R.count words.new)) }
+    ensures run { CompareExits form (read_by R.remaining R.count rows.old certificates.old words.old)
+        (read_by R.remaining R.count rows.new certificates.new words.new) console.old console.new result }
 {
     let ended = print_comparison(alloc, &form, rows, certificates, words, &mut console.output);
     console.finish(ended)
