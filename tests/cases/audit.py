@@ -2,7 +2,10 @@
 
 The expected lines are computed from the report and from the bytes of the certificates: the cost of a certificate's bits is
 the sum of its soft values at the bits that are 1."""
-from cases.common import FAULT, LINK, NO, Case, fault
+from cases.common import FAULT, LINK, NO, Case, fault, noted
+
+# The note on a refused audit.
+HINT = "likely causes: another divisor (try --tuned), another mode, or a recording that was cut or shifted"
 
 HEAD = 13
 # Seeds and levels for which at least one of the two frames is most likely and not sole; for the second one another is only `parity`.
@@ -67,7 +70,7 @@ def with_value(certificate, i, value):
 
 def case(report, symbols, certificates, code, out, errors="", words=WORDS):
     reads = {"report": report.encode(), "symbols": symbols, "certificates": certificates}
-    return Case(words, code, out, errors, reads=reads)
+    return Case(words, code, out, noted(HINT) if code == NO else errors, reads=reads)
 
 
 def stopped(report, symbols, certificates, out, text, words=WORDS):

@@ -1,5 +1,8 @@
 """`judge`, and the program without a command."""
-from cases.common import CHAIN, FAULT, NO, PAIR, STORED, STORED_MOVED, TOY, WRONG, WRONG_MOVED, Case, fault, noted, size
+import itertools
+
+from cases import plain_checker
+from cases.common import ANY, CHAIN, FAULT, NO, PAIR, STORED, STORED_MOVED, TOY, WRONG, WRONG_MOVED, Case, Rule, fault, noted, size
 from cases.drawn import made_rows
 
 LIKELY, SOLE = "most-likely", "sole"
@@ -157,6 +160,29 @@ ZEROS = b"".join(b"-4 " if at % 1000 == 0 else b"10 " for at in range(64_800))
 NORMAL_SIZE = 13 + 2 * 64_800 + 8100 + 6 * 32_400
 
 
+def flipped(*places):
+    """The stored word with these bits changed."""
+    return b" ".join(b"%d" % ((bit == b"1") ^ (at in places)) for at, bit in enumerate(BITS.split()))
+
+
+# Words with one and with two changed bits.
+FLIPPED = [*(flipped(at) for at in range(20)), *(flipped(at, (7 * at + 3) % 20) for at in range(20))]
+
+
+def nearest(values):
+    """The line of a word by comparison with all codewords: a word that is most likely has the least number of changed bits."""
+    word, checks = [int(bit) for bit in values.split()], plain_checker.members_of((4, 2, 3), [[0, 4, 8], [0, 1, 2]])
+    codewords = [plain_checker.encoded((4, 2, 3), checks, bits) for bits in itertools.product((0, 1), repeat=8)]
+    least = min(sum(a != b for a, b in zip(word, it)) for it in codewords)
+
+    def told(got):
+        verdict, _, cost, *check, changed, count = got.decode().split()
+        most = verdict in (SOLE, LIKELY)
+        return changed == "changed" and (int(count) == least if most else int(count) >= 0) and int(cost) == int(count) - word.count(1) and bool(check) == (verdict == "broken")
+
+    return Rule(f"a verdict, changed {least}", told)
+
+
 HARD_NOTE = "these look like hard decisions: use --hard"
 
 
@@ -235,7 +261,7 @@ EACH = [
     # a fault in the first frame: the file of certificates is unchanged
     *(fault(f"judge {TOY} --each --cert old toy values", f"values: {text}", reads={"values": values}) for values, text in BAD_VALUES if text != "too many"),
     # decided bits
-    Case(f"judge {TOY} --each --hard --cert out toy values", out=2 * "sole cost -9\n", reads={"values": 2 * (BITS + b"\n")}, writes={"out": 2 * BITS_CERTIFICATE}),
+    Case(f"judge {TOY} --each --hard --cert out toy values", out=2 * "sole cost -9 changed 0\n", reads={"values": 2 * (BITS + b"\n")}, writes={"out": 2 * BITS_CERTIFICATE}),
     *(
         fault(f"judge {TOY} --each --hard --cert old toy values", f"values: {text}", reads={"values": values})
         for values, text in BAD_BITS
@@ -270,9 +296,10 @@ CASES = [
     ),
     *(fault("", f"values: {text}", given=values) for values, text in BAD_VALUES),
     *(fault(f"judge {TOY} toy values", f"values: {text}", reads={"values": values}) for values, text in BAD_VALUES),
-    *(Case(f"judge {TOY} --hard toy values", out=f"sole cost {cost}\n", reads={"values": values}) for values, cost in HARD),
+    *(Case(f"judge {TOY} --hard toy values", out=f"sole cost {cost} changed 0\n", reads={"values": values}) for values, cost in HARD),
+    *(Case(f"judge {TOY} {option} --hard toy values", ANY, nearest(values), reads={"values": values}) for values in FLIPPED for option in ("", "--each")),
     *(fault(f"judge {TOY} --hard toy values", f"values: {text}", reads={"values": values}) for values, text in BAD_BITS),
-    Case(f"judge {TOY} --hard --cert out toy values", out="sole cost -9\n", reads={"values": BITS}, writes={"out": BITS_CERTIFICATE}),
+    Case(f"judge {TOY} --hard --cert out toy values", out="sole cost -9 changed 0\n", reads={"values": BITS}, writes={"out": BITS_CERTIFICATE}),
     *(fault(f"judge {TOY} rows odd", f"rows: {text}", reads={"rows": rows}) for rows, text in BAD_ROWS),
     fault("judge --group 1 --groups 1 --q 30 rows odd", "rows: row too long in line 1", reads={"rows": LONG_ROW}),
     *(Case(f"judge {shape} {rows} values", code, line, reads={"values": values}) for shape, rows, values, code, line in VERDICTS),

@@ -3,7 +3,7 @@
 import re
 from dataclasses import dataclass, field
 
-from cases import figured, links, listing, progress, records
+from cases import audit, comparing, figured, links, listing, progress, records
 from cases.common import (
     ANY, FINE, LINK, NO, PACKET, PAIR, STORED, STORED_CERTIFICATE, STORED_MOVED, TOY, TWO, UNDECODED, WANTED, Case, Rule, digest, ending, noted,
 )  # fmt: skip
@@ -86,7 +86,7 @@ def judge_effects():
     # the bits of the stored word
     hard = {"reads": {"values": re.sub(rb"-5|7", lambda it: b"%d" % (it[0] == b"-5"), STORED)}}
     as_soft, unnoted = ended("most-likely cost 0\n", errors=noted(HARD_NOTE)), ended("most-likely cost 0\n")
-    yield Effect("--hard", f"judge {TOY} {{}} toy values", {"": as_soft, "--hard": ended("sole cost -9\n")}, hard)
+    yield Effect("--hard", f"judge {TOY} {{}} toy values", {"": as_soft, "--hard": ended("sole cost -9 changed 0\n")}, hard)
     yield Effect("--quiet", f"judge {TOY} {{}} toy values", {"": as_soft, "--quiet": unnoted}, hard)
     two, many = {"reads": {"values": 2 * (STORED + b"\n")}}, ended(2 * "sole cost -45\n")
     yield Effect("--each", f"judge {TOY} {{}} toy values", {"": refused("values: too many"), "--each": many}, two)
@@ -98,6 +98,29 @@ def judge_effects():
     yield Effect("--uncertified", f"judge {PAIR} {{}} pair values", {"": ended("most-likely cost -2\n"), "--uncertified": parity}, values)
     broken, likely = ended("broken cost -5 check 0\n", NO), ended("most-likely cost 0\n")
     yield Effect("--factor", f"judge {PAIR} {{}} pair odd", by_default("--factor", 12, 13, broken, likely))
+
+
+def compare_effects(certificates, bbframes):
+    """The toy word, and the first frame of a link."""
+    same = ended(comparing.printed(["same sole cost -45"]))
+    missing = {"group": "<--group <G>|--modcod <M>>", "groups": "--groups <N>", "q": "--q <Q>"}
+    shapes = {"group": (4, 2, "rows: address too large in line 1"), "groups": (2, 1, "rows: too many rows"), "q": (3, 4, "words: cut")}
+    toy = {"reads": {"c": STORED_MOVED, "w": b"\x80\xf0\xf0"}}
+    for name, (usual, other, text) in shapes.items():
+        words = TOY.replace(f"--{name} {usual}", "{}")
+        lacks = ended("", 1, f"s2: missing: {missing[name]}; see s2 compare --help\n")
+        # with another q the certificate has another shape, and a word has another size
+        yield Effect(f"--{name}", f"compare {words} {{}} toy c w", {"": lacks} | each(f"--{name}", (usual, other), (same, refused(text))), toy)
+    text = {"reads": {"c": STORED_MOVED, "w": b"10000000111100001111\n"}}
+    yield Effect("--bits", f"compare {TOY} {{}} toy c w", {"": ended("frame 1 no-codeword checks 6 changed 9\n", 1, "s2: words: more than certificates\n"), "--bits": same}, text)
+    yield Effect("--quiet", f"compare {TOY} {{}} toy c w", dict.fromkeys(("", "--quiet"), same), toy)
+    none = {"reads": {"c": b"", "w": b""}}
+    nothing, large = ended(comparing.printed([])), refused(OTHER_SHORT[0])
+    yield Effect("--modcod", "compare {} --short made c w", each("--modcod", (1, "qpsk1/4", 2), (nothing, nothing, large)), none)
+    yield Effect("--short", "compare --modcod 1 {} made c w", {"": refused(TOO_FEW), "--short": nothing}, none)
+    first = {"reads": {"c": certificates[: len(certificates) // 2], "w": bytes(len(bbframes) // 2)}}
+    gone = ended(comparing.printed(["missing"]), NO)
+    yield Effect("--bbframes", f"compare {LINK} {{}} made c w", {"": refused("words: cut"), "--bbframes": gone}, first)
 
 
 def few_effects():
@@ -144,7 +167,7 @@ def audit_effects(two):
     """Two frames and their certificates."""
     costs = [sum(value for value in soft if value < 0) for soft, _ in records.decided(two)]
     lines = "".join(f"frame {at + 1} at {8190 * at} sole cost {cost}\n" for at, cost in enumerate(costs))
-    fine, other = ended(f"{lines}audit frames 2 sole 2 most-likely 0\n"), ended("frame 1 at 0 other values\n", NO)
+    fine, other = ended(f"{lines}audit frames 2 sole 2 most-likely 0\n"), ended("frame 1 at 0 other values\n", NO, noted(audit.HINT))
     few, large = ({"code": 1, "out": "", "errors": ending(f"s2: {text}\n"), "writes": {}} for text in (TOO_FEW, OTHER_SHORT[0]))
     reads = {"reads": {"in": two, "report": TWO.encode(), "certificates": records.records(two)["--certificates"]}}
     files = "made in report certificates"
@@ -314,6 +337,8 @@ def run_effects(report, others):
 def effects(two, made, pilots, dummy, report, others):
     found = [*rows_effects(), *judge_effects(), *few_effects(), *join_effects(), *mod_effects(two, dummy), *tuning_effects(two, report)]
     found += [*link_effects(two), *figure_effects(two, made), *scan_effects(two)]
+    written = records.records(two)
+    found += compare_effects(written["--certificates"], written["--bbframes"])
     return found + [*record_effects(two), *audit_effects(two), *demod_effects(two, pilots), *run_effects(report, others)]
 
 
@@ -349,7 +374,7 @@ def unshown(name, text, found):
 
 
 # Options without a visible effect: these commands write no notes, and a receiver accepts any roll-off.
-SAME = {("modes", "--quiet"), ("rows", "--quiet"), ("check", "--quiet"), ("audit", "--ro"), ("demod", "--ro")}
+SAME = {("modes", "--quiet"), ("rows", "--quiet"), ("check", "--quiet"), ("compare", "--quiet"), ("audit", "--ro"), ("demod", "--ro")}
 
 
 def has_difference(effect):

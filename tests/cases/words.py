@@ -11,19 +11,20 @@ Without a command it decides on 20 soft values of a toy code, read from standard
 Usage: s2 [COMMAND]
 
 Commands:
-  demod  Demodulates symbols into a transport stream
-  scan   Finds the modes in a recording, and how to receive it
-  mod    Modulates a transport stream into symbols
-  run    Sends a transport stream through a noisy channel and receives it
-  noise  Adds noise generated from a seed to symbols
-  modes  Lists the modes
-  rows   Prints a row file generated from a seed
-  table  Checks whether a row file is the standard's table
-  judge  Decodes soft values
-  check  Verifies a certificate
-  audit  Checks a report against its certificates, without decoding
-  join   Reassembles packets from BBFRAMEs
-  help   Print this message or the help of the given subcommand(s)
+  demod    Demodulates symbols into a transport stream
+  scan     Finds the modes in a recording, and how to receive it
+  mod      Modulates a transport stream into symbols
+  run      Sends a transport stream through a noisy channel and receives it
+  noise    Adds noise generated from a seed to symbols
+  modes    Lists the modes
+  rows     Prints a row file generated from a seed
+  table    Checks whether a row file is the standard's table
+  judge    Decodes soft values
+  check    Verifies a certificate
+  audit    Checks a report against its certificates, without decoding
+  compare  Compares another receiver's words with certified ones, without decoding
+  join     Reassembles packets from BBFRAMEs
+  help     Print this message or the help of the given subcommand(s)
 
 Options:
   -h, --help     Print help
@@ -190,6 +191,7 @@ MISUSES = [
     (f"judge {TOY} --uncertified --passes 0 toy stored", NOT_BOTH),
     (f"judge {TOY} --passes 96 --uncertified toy stored", "--passes <P> cannot be used with --uncertified"),
     ("check toy", "missing: <CERT>"),
+    (f"compare {TOY} toy", "missing: <CERTIFICATES>, <WORDS>"),
     ("check", "missing: <ROWS>, <CERT>"),
     ("join", "missing: --modcod <M>, <BBFRAMES>, <PACKETS>"),
     ("mod made packets out", "missing: --modcod <M>"),
@@ -303,6 +305,7 @@ ABOUTS = {
     "judge": "Decodes soft values",
     "audit": "Checks a report against its certificates, without decoding",
     "join": "Reassembles packets from BBFRAMEs",
+    "compare": "Compares another receiver's words with certified ones, without decoding",
 }
 RECEIVING = ("demod --modcod 1", RUN)
 ENDS = {
@@ -318,6 +321,7 @@ ENDS = {
     "scan": "a header is repeated one frame later",
     "join": "every frame has a valid header, and no packet is bad",
     "audit": "all frames called sole or most-likely are proved, and no certificate is left over",
+    "compare": "every word is the certified one",
 }
 # What a word says, and the value where it is left out.
 WORDS = [
@@ -344,6 +348,7 @@ WORDS = [
     ("judge", "--short", "Short frames: 16200 bits instead of 64800"),
     ("judge", "--hard", "instead of soft values: 0 becomes the value 1, and 1 becomes -1"),
     ("judge", "--each", "one after another: a line of the report per frame, and all certificates in one file"),
+    ("judge", ".. changed B", "at the end of each line: B of the bits differ from the word that was read"),
     ("judge", "these look like hard decisions: use --hard", "all values are 0 or 1"),
     *((name, f"{option} <FILE>", says) for name in ("demod", "run") for option, says in RECORDS.items()),
     *(("mod", f"{option} <FILE>", says) for option, says in SENT.items()),
@@ -361,12 +366,17 @@ WORDS = [
     ("modes", "--rate <R>", "also as 27.5M, 27.5e6 or 27500k: adds the net bit rate to each line"),
     ("modes", "--modcod <M>", "for example qpsk3/4 or 8PSK2/3: `s2 modes` lists them"),
     ("modes", "--short", "Short frames: 16200 bits instead of 64800"),
+    ("compare", "--modcod <M>", "for example qpsk3/4 or 8PSK2/3: `s2 modes` lists them"),
+    ("compare", "--bbframes", "Kbch / 8 bytes each, which are encoded first; zeros: nothing was delivered"),
+    ("compare", "--bits", "WORDS is text: a line of n digits 0 and 1 for each word"),
+    ("compare", "frame I worse cost D best C changed B", "while the certified one costs C: not maximum likelihood"),
     ("join", "--modcod <M>", "for example qpsk3/4 or 8PSK2/3: `s2 modes` lists them"),
     ("join", "--short", "Short frames: 16200 bits instead of 64800"),
     ("join", "cut at BYTE bytes COUNT", "the file ends inside a frame: only COUNT of its bytes are there"),
     ("audit", "--number <N>", "Scrambling number, 0 to 262141 [default: 0]"),
     ("audit", "frame I at SYMBOL sole cost C", "proved: the decided bits cost C, and every other codeword costs more"),
     ("audit", "other values", "of another recording, or with another --divisor or --tuned"),
+    ("audit", "likely causes: ..", "another mode, or a recording that was cut or shifted"),
     ("audit", "--tuned", "if the report was made with --tuned; --divisor overrides it"),
     *((name, "five sync bytes at distance D begin at byte B", "if the first or second is refused, and what to try") for name in ("mod", "run")),
     *((name, "--resync", "continue at the next place with five sync bytes at distance 188; count the bytes left out") for name in ("mod", "run")),
@@ -391,6 +401,7 @@ LINES = {
     "scan": "scan packets",
     "join": f"join {LINK} empty out",
     "audit": f"audit {LINK} made empty empty empty",
+    "compare": f"compare {TOY} toy certificate stored_word",
 }
 # The commands that take --quiet.
 QUIET = [name for name in LINES if name not in ("join", "audit")]
@@ -412,6 +423,10 @@ ENDED = {
     "table": {"code": NO, "out": "other: line 1\n"},
     "judge": {"out": "sole cost -45\n"},
     "check": {"out": "sole cost -45\n"},
+    "compare": {
+        "out": "frame 1 same sole cost -45\nend frames 1 same 1 equal 0 worse 0 no-codeword 0 refused 0 missing 0\n",
+        "reads": {"stored_word": b"\x80\xf0\xf0"},
+    },
     "mod": {"out": "packets 2 frames 2\n", "writes": {"out": size(65_520)}},
     "noise": {"writes": {"out": 2 * PACKET}},
     "demod": {"out": "end frames 0 delivered 0 packets 0 bad 0\n", "reads": {"empty": b""}, "writes": {"out": b""}},

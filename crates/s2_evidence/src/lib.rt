@@ -9,6 +9,8 @@
 //! The command `judge` (`s2_judging`) shares three calls with it: [`with_cost`] begins the line of a verdict, [`sole_line`]
 //! is the line of sole bits, and [`worse`] is the exit of several lines.
 //!
+//! The command `compare` (`s2_compare`) reads certificates by [`next_certificate`], in the room of [`piece_room`].
+//!
 //! In the literature, a certificate is an ML certificate.
 //!
 //! ```text
@@ -25,3 +27,4 @@ mod sizes;
 pub use check::check_command;
 pub use check_each::{check_each_command, worse};
 pub use lines::{sole_line, with_cost};
+pub use next::{next_certificate, piece_room};

@@ -12,8 +12,8 @@ use s2_console::Fault;
 use s2_mode::{CountedRead, read_full};
 use std::alloc::Global;
 
-/// Room for the bytes of any certificate.
-pub(crate) fn piece_room(alloc: Global) -> Result<Vec<u8>, Fault<'static>>
+/// Room for the bytes of any certificate, 6,358,517. `NoMemory` only if memory is refused.
+pub fn piece_room(alloc: Global) -> Result<Vec<u8>, Fault<'static>>
     ensures room { IfOk result (λ v. vec_len v ≡ max_piece) }
     ensures told { IsOkUnless result Fault.NoMemory }
 {
@@ -72,8 +72,9 @@ fn read_piece<R: CountedRead>(reader: &mut R, buffer: &mut [u8]) -> Result<usize
     Ok(end)
 }
 
-/// The next certificate of a reader; none at its end.
-pub(crate) fn next_certificate<R: CountedRead>(
+/// The next certificate of a reader; none at its end. The buffer is that of [`piece_room`]. A certificate is cut only if
+/// it is the last one.
+pub fn next_certificate<R: CountedRead>(
     alloc: Global,
     reader: &mut R,
     buffer: &mut [u8],

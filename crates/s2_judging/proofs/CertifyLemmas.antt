@@ -1,5 +1,5 @@
 -- What a command leaves of the file for a certificate.
-use Rattle.std.proofs.Common.{◌≡◌, ◌≢◌, ℤ, List, ℕ, Option, Result, Ok, Err, OnErr, inl, inr, subst, sym, refl}
+use Rattle.std.proofs.Common.{◌≡◌, ◌≢◌, Bool, ℤ, List, ℕ, Option, Result, Ok, Err, OnErr, inl, inr, subst, sym, refl}
 use Rattle.s2_rows.specs.Rows.{Rows}
 use Rattle.s2_tuning.specs.Tuning.{Tuning}
 use Rattle.s2_judge.specs.Deciding.{decided, IsShown}
@@ -17,12 +17,12 @@ use Rattle.s2_judging.specs.Certifying.{Wrote, WrotePart, IsJudgedAndCertified, 
 pub unchanged : {T : Type 0} → (tuning : Tuning) (IsInput : Result (Rows × List ℤ) Fault → Type 0) (f : Fault) (file : Written) → f ≢ faults.Write → LeavesCertificate {T = T} tuning IsInput (Err f) file file
 unchanged tuning IsInput f file other = record { failed = λ e. absurd (other cc); other = λ e. refl }
 
-module _ (rows : Rows) (asked : Tuning) (soft : List ℤ) (old new : Written) where
+module _ (hard : Bool) (rows : Rows) (asked : Tuning) (soft : List ℤ) (old new : Written) where
   -- a judge that tries as much as is asked for says of these bits, and certifies them
-  pub told : (tuning : Tuning) (p : Printed) → tuning ≡ asked → IsJudged tuning (rows, soft) p.exit p.text → IsShown rows soft (decided rows tuning soft)
-      → Wrote (decided rows tuning soft).certificate old new → CommandAnswers (IsJudgedAndCertified asked old new) (IsOnly (rows, soft)) (Ok p)
+  pub told : (tuning : Tuning) (p : Printed) → tuning ≡ asked → IsJudged hard tuning (rows, soft) p.exit p.text → IsShown rows soft (decided rows tuning soft)
+      → Wrote (decided rows tuning soft).certificate old new → CommandAnswers (IsJudgedAndCertified hard asked old new) (IsOnly (rows, soft)) (Ok p)
   told tuning p same said shown wrote =
-      let P : Tuning → Type 0 = λ t. IsJudgedAndCertified t old new (rows, soft) p.exit p.text in
+      let P : Tuning → Type 0 = λ t. IsJudgedAndCertified hard t old new (rows, soft) p.exit p.text in
       ((rows, soft), refl, subst P same (said, record { shown = shown; done = wrote }))
 
   -- its writer failed
@@ -57,9 +57,9 @@ writes_only (Ok x) P h = tt
 writes_only (Err f) P h = λ other. absurd (other h)
 
 -- the verdict was printed behind the certificate, or could not be
-pub printed_behind : (tuning : Tuning) (IsInput : Result (Rows × List ℤ) Fault → Type 0) (p : Printed) (ended : Result Exit Fault) (out out' : Option (List ℕ)) (old new : Written)
-    → CommandAnswers (IsJudgedAndCertified tuning old new) IsInput (Ok p) → Prints p.exit p.text ended out out' → LeavesCertificate tuning IsInput ended old new
-printed_behind tuning IsInput p ended out out' old new (input, is, (said, certified)) prints = record {
+pub printed_behind : (hard : Bool) (tuning : Tuning) (IsInput : Result (Rows × List ℤ) Fault → Type 0) (p : Printed) (ended : Result Exit Fault) (out out' : Option (List ℕ)) (old new : Written)
+    → CommandAnswers (IsJudgedAndCertified hard tuning old new) IsInput (Ok p) → Prints p.exit p.text ended out out' → LeavesCertificate tuning IsInput ended old new
+printed_behind hard tuning IsInput p ended out out' old new (input, is, (said, certified)) prints = record {
   failed = λ e. (input, is, record { shown = certified.shown; done = inl certified.done });
   other = writes_only ended (new ≡ old) (only_write p.exit p.text ended out out' prints);
 }

@@ -39,15 +39,15 @@ Words = Option (List (Result ℤ ValueFault))
 
 -- ---- one frame
 
-module _ (rows : Rows) (tuning : Tuning) (frame : List ℤ) (file file_after : Written) (old new : Option (List ℕ)) where
+module _ (hard : Bool) (rows : Rows) (tuning : Tuning) (frame : List ℤ) (file file_after : Written) (old new : Option (List ℕ)) where
   -- the certificate could not be written
-  pub cut_certificate : IsShown rows frame (decided rows tuning frame) → ((exit : Exit) × (text : List ℕ) × IsJudged tuning (rows, frame) exit text) → WrotePart (certificate_of rows tuning frame) file file_after → new ≡ old
-      → CutFrame rows tuning frame file file_after old new
+  pub cut_certificate : IsShown rows frame (decided rows tuning frame) → ((exit : Exit) × (text : List ℕ) × IsJudged hard tuning (rows, frame) exit text) → WrotePart (certificate_of rows tuning frame) file file_after → new ≡ old
+      → CutFrame hard rows tuning frame file file_after old new
   cut_certificate shown (exit, line, said) part same = record { exit = exit; line = line; shown = shown; said = said; part = inl (part, same) }
 
   -- the line could not be printed
-  pub cut_line : (exit : Exit) (line : List ℕ) (fault : Fault) → IsShown rows frame (decided rows tuning frame) → IsJudged tuning (rows, frame) exit line → Wrote (certificate_of rows tuning frame) file file_after
-      → Prints exit line (Err fault) old new → JudgesOne rows tuning frame file file_after old new (Err fault)
+  pub cut_line : (exit : Exit) (line : List ℕ) (fault : Fault) → IsShown rows frame (decided rows tuning frame) → IsJudged hard tuning (rows, frame) exit line → Wrote (certificate_of rows tuning frame) file file_after
+      → Prints exit line (Err fault) old new → JudgesOne hard rows tuning frame file file_after old new (Err fault)
   cut_line exit line faults.Write shown said wrote part = record { exit = exit; line = line; shown = shown; said = said; part = inr (wrote, part) }
   cut_line exit line faults.Read shown said wrote no_way = absurd no_way
   cut_line exit line faults.NoMemory shown said wrote no_way = absurd no_way
@@ -58,24 +58,24 @@ module _ (rows : Rows) (tuning : Tuning) (frame : List ℤ) (file file_after : W
   cut_line exit line (faults.Refused words) shown said wrote no_way = absurd no_way
 
 -- the line was printed, or could not be
-pub judges_one : (rows : Rows) (tuning : Tuning) (frame : List ℤ) (file file_after : Written) (old new : Option (List ℕ)) (exit : Exit) (line : List ℕ) (result : Result Ran Fault) → IsShown rows frame (decided rows tuning frame)
-    → IsJudged tuning (rows, frame) exit line → Wrote (certificate_of rows tuning frame) file file_after → Prints exit line (exit_in result) old new → IfOk result (λ ran. ran.looks_hard ≡ list_all is_bit frame)
-    → JudgesOne rows tuning frame file file_after old new result
-judges_one rows tuning frame file file_after old new exit line (Ok ran) shown said wrote (same, printed) looks = record {
+pub judges_one : (hard : Bool) (rows : Rows) (tuning : Tuning) (frame : List ℤ) (file file_after : Written) (old new : Option (List ℕ)) (exit : Exit) (line : List ℕ) (result : Result Ran Fault) → IsShown rows frame (decided rows tuning frame)
+    → IsJudged hard tuning (rows, frame) exit line → Wrote (certificate_of rows tuning frame) file file_after → Prints exit line (exit_in result) old new → IfOk result (λ ran. ran.looks_hard ≡ list_all is_bit frame)
+    → JudgesOne hard rows tuning frame file file_after old new result
+judges_one hard rows tuning frame file file_after old new exit line (Ok ran) shown said wrote (same, printed) looks = record {
   line = line;
   shown = shown;
-  said = subst (λ (e : Exit). IsJudged tuning (rows, frame) e line) (sym same) said;
+  said = subst (λ (e : Exit). IsJudged hard tuning (rows, frame) e line) (sym same) said;
   looks = looks;
   wrote = wrote;
   printed = printed;
 }
-judges_one rows tuning frame file file_after old new exit line (Err fault) shown said wrote prints looks = cut_line rows tuning frame file file_after old new exit line fault shown said wrote prints
+judges_one hard rows tuning frame file file_after old new exit line (Err fault) shown said wrote prints looks = cut_line hard rows tuning frame file file_after old new exit line fault shown said wrote prints
 
 -- ---- the next frame
 
-module _ (rows : Rows) (tuning : Tuning) (before after : Words) (remaining : Option (List ℕ)) (left : ℕ) (file file_after : Written) (old new : Option (List ℕ)) where
+module _ (hard : Bool) (rows : Rows) (tuning : Tuning) (before after : Words) (remaining : Option (List ℕ)) (left : ℕ) (file file_after : Written) (old new : Option (List ℕ)) where
   pub next_refused : (values : List ℤ) (fault : Fault) → TakesFrame (code_of rows).bits before after values remaining left (Err fault) → file_after ≡ file → new ≡ old
-      → JudgesNext rows tuning before after remaining left file file_after old new (Err fault)
+      → JudgesNext hard rows tuning before after remaining left file file_after old new (Err fault)
   next_refused values faults.Write took same same' = absurd took
   next_refused values faults.NoMemory took same same' = absurd took
   next_refused values faults.Read took same same' = (took, same, same')
@@ -85,8 +85,8 @@ module _ (rows : Rows) (tuning : Tuning) (before after : Words) (remaining : Opt
   next_refused values (faults.Rows words) took same same' = (took, same, same')
   next_refused values (faults.Refused words) took same same' = (took, same, same')
 
-  pub next_cut : (frame : List ℤ) (fault : Fault) → length frame ≡ (code_of rows).bits → Reads before after frame → JudgesOne rows tuning frame file file_after old new (Err fault)
-      → JudgesNext rows tuning before after remaining left file file_after old new (Err fault)
+  pub next_cut : (frame : List ℤ) (fault : Fault) → length frame ≡ (code_of rows).bits → Reads before after frame → JudgesOne hard rows tuning frame file file_after old new (Err fault)
+      → JudgesNext hard rows tuning before after remaining left file file_after old new (Err fault)
   next_cut frame faults.Write long read cut = record { frame = frame; long = long; read = read; done = cut }
   next_cut frame faults.Read long read no_way = absurd no_way
   next_cut frame faults.NoMemory long read no_way = absurd no_way
@@ -97,15 +97,15 @@ module _ (rows : Rows) (tuning : Tuning) (before after : Words) (remaining : Opt
   next_cut frame (faults.Refused words) long read no_way = absurd no_way
 
 -- what fails where a frame is judged is a writer
-pub only_writers : (rows : Rows) (tuning : Tuning) (frame : List ℤ) (file file_after : Written) (old new : Option (List ℕ)) (fault : Fault) → JudgesOne rows tuning frame file file_after old new (Err fault) → fault ≡ faults.Write
-only_writers rows tuning frame file file_after old new faults.Write h = refl
-only_writers rows tuning frame file file_after old new faults.Read h = absurd h
-only_writers rows tuning frame file file_after old new faults.NoMemory h = absurd h
-only_writers rows tuning frame file file_after old new faults.TooLong h = absurd h
-only_writers rows tuning frame file file_after old new (faults.Open name) h = absurd h
-only_writers rows tuning frame file file_after old new (faults.UsedTwice name) h = absurd h
-only_writers rows tuning frame file file_after old new (faults.Rows words) h = absurd h
-only_writers rows tuning frame file file_after old new (faults.Refused words) h = absurd h
+pub only_writers : (hard : Bool) (rows : Rows) (tuning : Tuning) (frame : List ℤ) (file file_after : Written) (old new : Option (List ℕ)) (fault : Fault) → JudgesOne hard rows tuning frame file file_after old new (Err fault) → fault ≡ faults.Write
+only_writers hard rows tuning frame file file_after old new faults.Write h = refl
+only_writers hard rows tuning frame file file_after old new faults.Read h = absurd h
+only_writers hard rows tuning frame file file_after old new faults.NoMemory h = absurd h
+only_writers hard rows tuning frame file file_after old new faults.TooLong h = absurd h
+only_writers hard rows tuning frame file file_after old new (faults.Open name) h = absurd h
+only_writers hard rows tuning frame file file_after old new (faults.UsedTwice name) h = absurd h
+only_writers hard rows tuning frame file file_after old new (faults.Rows words) h = absurd h
+only_writers hard rows tuning frame file file_after old new (faults.Refused words) h = absurd h
 
 -- ---- certificates
 
@@ -151,21 +151,21 @@ wrote_all rows tuning (first ∷ frames) start mid end h w = record {
 
 -- ---- so far
 
-pub none_yet : (rows : Rows) (tuning : Tuning) (words : Words) (file : Written) (old : Option (List ℕ)) → JudgedSoFar rows tuning words words [] exits.Fine file file old old
-none_yet rows tuning words file old = record {
+pub none_yet : (hard : Bool) (rows : Rows) (tuning : Tuning) (words : Words) (file : Written) (old : Option (List ℕ)) → JudgedSoFar hard rows tuning words words [] exits.Fine file file old old
+none_yet hard rows tuning words file old = record {
   text = [];
   long = λ k d within. absurd (omega (arith, within));
   read = Reads-nil words;
   shown = λ k d within. absurd (omega (arith, within));
   wrote = refl;
-  said = says_none (λ frame. IsJudged tuning (rows, frame));
+  said = says_none (λ frame. IsJudged hard tuning (rows, frame));
   printed = Appends-nil old;
 }
 
-pub one_more : (rows : Rows) (tuning : Tuning) (words before after : Words) (frames : List (List ℤ)) (exit : Exit) (start file file_after : Written) (old mid new : Option (List ℕ)) (ran : Ran) (frame : List ℤ)
-    → JudgedSoFar rows tuning words before frames exit start file old mid → length frame ≡ (code_of rows).bits → Reads before after frame → JudgesFrame rows tuning frame file file_after mid new ran
-    → JudgedSoFar rows tuning words after (frames ++ frame ∷ []) (worse exit ran.exit) start file_after old new
-one_more rows tuning words before after frames exit start file file_after old mid new ran frame so long read h =
+pub one_more : (hard : Bool) (rows : Rows) (tuning : Tuning) (words before after : Words) (frames : List (List ℤ)) (exit : Exit) (start file file_after : Written) (old mid new : Option (List ℕ)) (ran : Ran) (frame : List ℤ)
+    → JudgedSoFar hard rows tuning words before frames exit start file old mid → length frame ≡ (code_of rows).bits → Reads before after frame → JudgesFrame hard rows tuning frame file file_after mid new ran
+    → JudgedSoFar hard rows tuning words after (frames ++ frame ∷ []) (worse exit ran.exit) start file_after old new
+one_more hard rows tuning words before after frames exit start file file_after old mid new ran frame so long read h =
     let all : flat_map (λ (f : List ℤ). f) (frames ++ frame ∷ []) ≡ flat_map (λ f. f) frames ++ frame =
     flat_map-append (λ (f : List ℤ). f) frames (frame ∷ []) ∙ ap (λ t. flat_map (λ (f : List ℤ). f) frames ++ t) (append-nil frame) in
     record {
@@ -174,7 +174,7 @@ one_more rows tuning words before after frames exit start file file_after old mi
       read = subst (Reads words after) (sym all) (Reads-trans words before after (flat_map (λ f. f) frames) frame so.read read);
       shown = All-push (λ f. IsShown rows f (decided rows tuning f)) frames frame so.shown h.shown;
       wrote = wrote_more rows tuning frames frame start file file_after so.wrote h.wrote;
-      said = says_more (λ f. IsJudged tuning (rows, f)) frames frame exit ran.exit so.text h.line so.said h.said;
+      said = says_more (λ f. IsJudged hard tuning (rows, f)) frames frame exit ran.exit so.text h.line so.said h.said;
       printed = Appends-trans old mid new so.text h.line so.printed h.printed;
     }
 
@@ -184,9 +184,9 @@ all_bits frames = list_all (list_all is_bit) frames
 
 -- ---- the end
 
-module _ (rows : Rows) (tuning : Tuning) (known : Option (List ℕ)) (words before : Words) (frames : List (List ℤ)) (exit : Exit) (start file : Written) (old mid : Option (List ℕ)) where
-  pub ends_so : (file_after : Written) (new : Option (List ℕ)) (result : Result Ran Fault) → JudgedSoFar rows tuning words before frames exit start file old mid
-      → EndsJudging rows tuning known before frames exit start file file_after mid new result → JudgesUnder rows tuning known words start file_after result old new
+module _ (hard : Bool) (rows : Rows) (tuning : Tuning) (known : Option (List ℕ)) (words before : Words) (frames : List (List ℤ)) (exit : Exit) (start file : Written) (old mid : Option (List ℕ)) where
+  pub ends_so : (file_after : Written) (new : Option (List ℕ)) (result : Result Ran Fault) → JudgedSoFar hard rows tuning words before frames exit start file old mid
+      → EndsJudging hard rows tuning known before frames exit start file file_after mid new result → JudgesUnder hard rows tuning known words start file_after result old new
   ends_so file_after new result so ends = record {
     frames = frames;
     exit = exit;
@@ -198,8 +198,8 @@ module _ (rows : Rows) (tuning : Tuning) (known : Option (List ℕ)) (words befo
   }
 
   -- the end of the file
-  pub ends_well : (file_after : Written) (new : Option (List ℕ)) (looks : Bool) (result : Result Ran Fault) → JudgedSoFar rows tuning words before frames exit start file old mid → AreRead before → new ≡ mid → looks ≡ look_hard frames
-      → Finishes (record { exit = exit; looks_hard = looks }) file file_after result → JudgesUnder rows tuning known words start file_after result old new
+  pub ends_well : (file_after : Written) (new : Option (List ℕ)) (looks : Bool) (result : Result Ran Fault) → JudgedSoFar hard rows tuning words before frames exit start file old mid → AreRead before → new ≡ mid → looks ≡ look_hard frames
+      → Finishes (record { exit = exit; looks_hard = looks }) file file_after result → JudgesUnder hard rows tuning known words start file_after result old new
   ends_well file_after new looks (Ok ended) so end same looks_so (is, wrote) =
       ends_so file_after new (Ok ended) so
       (is ∙ ap (λ l. record { exit = exit; looks_hard = l }) looks_so, end, wrote_all rows tuning frames start file file_after so.wrote wrote, same)
@@ -218,8 +218,8 @@ module _ (rows : Rows) (tuning : Tuning) (known : Option (List ℕ)) (words befo
   ends_well file_after new looks (Err (faults.Refused text)) so end same looks_so h = absurd h
 
   -- a fault of the next frame
-  pub next_stops : (remaining : Option (List ℕ)) (left : ℕ) (after : Words) (file_after : Written) (new : Option (List ℕ)) (fault : Fault) → JudgedSoFar rows tuning words before frames exit start file old mid → Spends known max_text remaining left
-      → JudgesNext rows tuning before after remaining left file file_after mid new (Err fault) → JudgesUnder rows tuning known words start file_after (Err fault) old new
+  pub next_stops : (remaining : Option (List ℕ)) (left : ℕ) (after : Words) (file_after : Written) (new : Option (List ℕ)) (fault : Fault) → JudgedSoFar hard rows tuning words before frames exit start file old mid → Spends known max_text remaining left
+      → JudgesNext hard rows tuning before after remaining left file file_after mid new (Err fault) → JudgesUnder hard rows tuning known words start file_after (Err fault) old new
   next_stops remaining left after file_after new faults.Write so spends h = ends_so file_after new (Err faults.Write) so (inl (after, h))
   next_stops remaining left after file_after new faults.NoMemory so spends h = absurd h.0
   next_stops remaining left after file_after new faults.Read so spends h = ends_so file_after new (Err faults.Read) so (tt, h.1, h.2)
@@ -230,25 +230,25 @@ module _ (rows : Rows) (tuning : Tuning) (known : Option (List ℕ)) (words befo
   next_stops remaining left after file_after new (faults.Refused text) so spends h = ends_so file_after new (Err (faults.Refused text)) so h
 
   -- too many frames
-  pub stops_full : JudgedSoFar rows tuning words before frames exit start file old mid → length frames ≡ max_frames → JudgesUnder rows tuning known words start file (Err faults.TooLong) old mid
+  pub stops_full : JudgedSoFar hard rows tuning words before frames exit start file old mid → length frames ≡ max_frames → JudgesUnder hard rows tuning known words start file (Err faults.TooLong) old mid
   stops_full so full = ends_so file mid (Err faults.TooLong) so (inr full, refl, refl)
 
 -- there was no memory for a frame
-pub no_memory : (rows : Rows) (tuning : Tuning) (known : Option (List ℕ)) (words : Words) (file : Written) (old : Option (List ℕ)) → JudgesUnder rows tuning known words file file (Err faults.NoMemory) old old
-no_memory rows tuning known words file old =
-    ends_so rows tuning known words words [] exits.Fine file file old old file old (Err faults.NoMemory) (none_yet rows tuning words file old) (refl, refl, refl)
+pub no_memory : (hard : Bool) (rows : Rows) (tuning : Tuning) (known : Option (List ℕ)) (words : Words) (file : Written) (old : Option (List ℕ)) → JudgesUnder hard rows tuning known words file file (Err faults.NoMemory) old old
+no_memory hard rows tuning known words file old =
+    ends_so hard rows tuning known words words [] exits.Fine file file old old file old (Err faults.NoMemory) (none_yet hard rows tuning words file old) (refl, refl, refl)
 
 -- ---- the loop
 
 -- frames were judged so far, as many, and whether their values are all 0 or 1
-pub record SoFar (rows : Rows) (tuning : Tuning) (words before : Words) (judged : ℕ) (exit : Exit) (bits : Bool) (start file : Written) (old mid : Option (List ℕ)) : Type 0 where
+pub record SoFar (hard : Bool) (rows : Rows) (tuning : Tuning) (words before : Words) (judged : ℕ) (exit : Exit) (bits : Bool) (start file : Written) (old mid : Option (List ℕ)) : Type 0 where
   pub frames : List (List ℤ)
   pub count : length frames ≡ judged
   pub looks : bits ≡ all_bits frames
-  pub so_far : JudgedSoFar rows tuning words before frames exit start file old mid
+  pub so_far : JudgedSoFar hard rows tuning words before frames exit start file old mid
 
-pub starts : (rows : Rows) (tuning : Tuning) (words : Words) (file : Written) (old : Option (List ℕ)) → SoFar rows tuning words words 0 exits.Fine true file file old old
-starts rows tuning words file old = record { frames = []; count = refl; looks = refl; so_far = none_yet rows tuning words file old }
+pub starts : (hard : Bool) (rows : Rows) (tuning : Tuning) (words : Words) (file : Written) (old : Option (List ℕ)) → SoFar hard rows tuning words words 0 exits.Fine true file file old old
+starts hard rows tuning words file old = record { frames = []; count = refl; looks = refl; so_far = none_yet hard rows tuning words file old }
 
 all_bits_more : (frames : List (List ℤ)) (frame : List ℤ) → all_bits (frames ++ frame ∷ []) ≡ (all_bits frames && list_all is_bit frame)
 all_bits_more [] frame = with_true (list_all is_bit frame)
@@ -262,17 +262,17 @@ all_bits_more (first ∷ frames) frame = ap (λ b. list_all is_bit first && b) (
     and_assoc true b c = refl
     and_assoc false b c = refl
 
-pub grows : (rows : Rows) (tuning : Tuning) (words before after : Words) (judged : ℕ) (exit next : Exit) (bits bits_after : Bool) (start file file_after : Written) (old mid new : Option (List ℕ)) (remaining : Option (List ℕ)) (left : ℕ) (found : Option Ran) (ran : Ran)
-    → SoFar rows tuning words before judged exit bits start file old mid → found ≡ Some ran → JudgesNext rows tuning before after remaining left file file_after mid new (Ok found)
-    → next ≡ worse exit ran.exit → bits_after ≡ (bits && ran.looks_hard) → SoFar rows tuning words after (judged + 1) next bits_after start file_after old new
-grows rows tuning words before after judged exit next bits bits_after start file file_after old mid new remaining left found ran so is h sum looks =
-    let step = subst (λ (o : Option Ran). JudgesNext rows tuning before after remaining left file file_after mid new (Ok o)) is h in
+pub grows : (hard : Bool) (rows : Rows) (tuning : Tuning) (words before after : Words) (judged : ℕ) (exit next : Exit) (bits bits_after : Bool) (start file file_after : Written) (old mid new : Option (List ℕ)) (remaining : Option (List ℕ)) (left : ℕ) (found : Option Ran) (ran : Ran)
+    → SoFar hard rows tuning words before judged exit bits start file old mid → found ≡ Some ran → JudgesNext hard rows tuning before after remaining left file file_after mid new (Ok found)
+    → next ≡ worse exit ran.exit → bits_after ≡ (bits && ran.looks_hard) → SoFar hard rows tuning words after (judged + 1) next bits_after start file_after old new
+grows hard rows tuning words before after judged exit next bits bits_after start file file_after old mid new remaining left found ran so is h sum looks =
+    let step = subst (λ (o : Option Ran). JudgesNext hard rows tuning before after remaining left file file_after mid new (Ok o)) is h in
     record {
       frames = so.frames ++ step.frame ∷ [];
       count = length-append so.frames (step.frame ∷ []) ∙ ap (λ k. k + 1) so.count;
       looks = looks ∙ ap₂ (λ a b. a && b) so.looks step.done.looks ∙ sym (all_bits_more so.frames step.frame);
-      so_far = subst (λ (e : Exit). JudgedSoFar rows tuning words after (so.frames ++ step.frame ∷ []) e start file_after old new) (sym sum)
-          (one_more rows tuning words before after so.frames exit start file file_after old mid new ran step.frame so.so_far step.long step.read step.done);
+      so_far = subst (λ (e : Exit). JudgedSoFar hard rows tuning words after (so.frames ++ step.frame ∷ []) e start file_after old new) (sym sum)
+          (one_more hard rows tuning words before after so.frames exit start file file_after old mid new ran step.frame so.so_far step.long step.read step.done);
     }
 
 -- frames that look hard: there is one, and all their values are 0 or 1
@@ -289,23 +289,23 @@ looks_so (frame ∷ frames) judged bits count is = rw (lt-ltb 0 judged (omega (a
     yes_and false = refl
 
 -- the file ended
-pub finishes : (rows : Rows) (tuning : Tuning) (known : Option (List ℕ)) (words before after : Words) (judged : ℕ) (exit : Exit) (bits looks : Bool) (start file file_after last : Written) (old mid new : Option (List ℕ)) (remaining : Option (List ℕ)) (left : ℕ) (found : Option Ran) (result : Result Ran Fault)
-    → SoFar rows tuning words before judged exit bits start file old mid → found ≡ None → JudgesNext rows tuning before after remaining left file file_after mid new (Ok found)
-    → looks ≡ (bits && nat_lt 0 judged) → Finishes (record { exit = exit; looks_hard = looks }) file_after last result → JudgesUnder rows tuning known words start last result old new
-finishes rows tuning known words before after judged exit bits looks start file file_after last old mid new remaining left found result so is h hard ends =
-    let (end, same, same') = subst (λ (o : Option Ran). JudgesNext rows tuning before after remaining left file file_after mid new (Ok o)) is h in
-    ends_well rows tuning known words before so.frames exit start file old mid last new looks result so.so_far end same' (hard ∙ looks_so so.frames judged bits so.count so.looks)
+pub finishes : (hard : Bool) (rows : Rows) (tuning : Tuning) (known : Option (List ℕ)) (words before after : Words) (judged : ℕ) (exit : Exit) (bits looks : Bool) (start file file_after last : Written) (old mid new : Option (List ℕ)) (remaining : Option (List ℕ)) (left : ℕ) (found : Option Ran) (result : Result Ran Fault)
+    → SoFar hard rows tuning words before judged exit bits start file old mid → found ≡ None → JudgesNext hard rows tuning before after remaining left file file_after mid new (Ok found)
+    → looks ≡ (bits && nat_lt 0 judged) → Finishes (record { exit = exit; looks_hard = looks }) file_after last result → JudgesUnder hard rows tuning known words start last result old new
+finishes hard rows tuning known words before after judged exit bits looks start file file_after last old mid new remaining left found result so is h looks_are ends =
+    let (end, same, same') = subst (λ (o : Option Ran). JudgesNext hard rows tuning before after remaining left file file_after mid new (Ok o)) is h in
+    ends_well hard rows tuning known words before so.frames exit start file old mid last new looks result so.so_far end same' (looks_are ∙ looks_so so.frames judged bits so.count so.looks)
     (subst (λ (f : Written). Finishes (record { exit = exit; looks_hard = looks }) f last result) same ends)
 
-pub stops : (rows : Rows) (tuning : Tuning) (known : Option (List ℕ)) (words before after : Words) (judged : ℕ) (exit : Exit) (bits : Bool) (start file file_after : Written) (old mid new : Option (List ℕ)) (first remaining : Option (List ℕ)) (first_left left : ℕ) (fault : Fault)
-    → SoFar rows tuning words before judged exit bits start file old mid → Spends known max_text first first_left → Spends first first_left remaining left
-    → JudgesNext rows tuning before after remaining left file file_after mid new (Err fault) → JudgesUnder rows tuning known words start file_after (Err fault) old new
-stops rows tuning known words before after judged exit bits start file file_after old mid new first remaining first_left left fault so s t h =
-    next_stops rows tuning known words before so.frames exit start file old mid remaining left after file_after new fault so.so_far (Spends-trans known first remaining max_text first_left left s t) h
+pub stops : (hard : Bool) (rows : Rows) (tuning : Tuning) (known : Option (List ℕ)) (words before after : Words) (judged : ℕ) (exit : Exit) (bits : Bool) (start file file_after : Written) (old mid new : Option (List ℕ)) (first remaining : Option (List ℕ)) (first_left left : ℕ) (fault : Fault)
+    → SoFar hard rows tuning words before judged exit bits start file old mid → Spends known max_text first first_left → Spends first first_left remaining left
+    → JudgesNext hard rows tuning before after remaining left file file_after mid new (Err fault) → JudgesUnder hard rows tuning known words start file_after (Err fault) old new
+stops hard rows tuning known words before after judged exit bits start file file_after old mid new first remaining first_left left fault so s t h =
+    next_stops hard rows tuning known words before so.frames exit start file old mid remaining left after file_after new fault so.so_far (Spends-trans known first remaining max_text first_left left s t) h
 
-pub full : (rows : Rows) (tuning : Tuning) (known : Option (List ℕ)) (words before : Words) (judged : ℕ) (exit : Exit) (bits : Bool) (start file : Written) (old mid : Option (List ℕ))
-    → SoFar rows tuning words before judged exit bits start file old mid → judged ≡ max_frames → JudgesUnder rows tuning known words start file (Err faults.TooLong) old mid
-full rows tuning known words before judged exit bits start file old mid so is = stops_full rows tuning known words before so.frames exit start file old mid so.so_far (so.count ∙ is)
+pub full : (hard : Bool) (rows : Rows) (tuning : Tuning) (known : Option (List ℕ)) (words before : Words) (judged : ℕ) (exit : Exit) (bits : Bool) (start file : Written) (old mid : Option (List ℕ))
+    → SoFar hard rows tuning words before judged exit bits start file old mid → judged ≡ max_frames → JudgesUnder hard rows tuning known words start file (Err faults.TooLong) old mid
+full hard rows tuning known words before judged exit bits start file old mid so is = stops_full hard rows tuning known words before so.frames exit start file old mid so.so_far (so.count ∙ is)
 
 -- ---- the start
 
@@ -325,10 +325,10 @@ start_words hard buffer reading known is = ap (λ r. pending hard r buffer known
 pub start_spends : (known : Option (List ℕ)) (reading : Reading) → reading ≡ at_start → Spends known max_text known reading.left
 start_spends known reading is = subst (λ (r : Reading). Spends known max_text known r.left) (sym is) (Spends-refl known max_text)
 
-pub words_moved : (rows : Rows) (tuning tuning' : Tuning) (known : Option (List ℕ)) (words words' : Words) (file file_after : Written) (result : Result Ran Fault) (old new : Option (List ℕ)) → tuning ≡ tuning' → words ≡ words'
-    → JudgesUnder rows tuning known words file file_after result old new → JudgesUnder rows tuning' known words' file file_after result old new
-words_moved rows tuning tuning' known words words' file file_after result old new p q h =
-    subst (λ (w : Words). JudgesUnder rows tuning' known w file file_after result old new) q (subst (λ (t : Tuning). JudgesUnder rows t known words file file_after result old new) p h)
+pub words_moved : (hard : Bool) (rows : Rows) (tuning tuning' : Tuning) (known : Option (List ℕ)) (words words' : Words) (file file_after : Written) (result : Result Ran Fault) (old new : Option (List ℕ)) → tuning ≡ tuning' → words ≡ words'
+    → JudgesUnder hard rows tuning known words file file_after result old new → JudgesUnder hard rows tuning' known words' file file_after result old new
+words_moved hard rows tuning tuning' known words words' file file_after result old new p q h =
+    subst (λ (w : Words). JudgesUnder hard rows tuning' known w file file_after result old new) q (subst (λ (t : Tuning). JudgesUnder hard rows t known words file file_after result old new) p h)
 
 -- the number of values of a frame
 pub takes_moved : (n m left : ℕ) (before after : Words) (values : List ℤ) (remaining : Option (List ℕ)) (result : Result Bool Fault) → n ≡ m → TakesFrame n before after values remaining left result → TakesFrame m before after values remaining left result
@@ -346,7 +346,7 @@ refused_values n left before after values values' remaining (faults.Rows text) h
 refused_values n left before after values values' remaining (faults.Refused text) h = h
 
 -- the same with this tuning
-pub next_moved : (rows : Rows) (tuning tuning' : Tuning) (before after : Words) (remaining : Option (List ℕ)) (left : ℕ) (file file_after : Written) (old new : Option (List ℕ)) (result : Result (Option Ran) Fault) → tuning ≡ tuning'
-    → JudgesNext rows tuning before after remaining left file file_after old new result → JudgesNext rows tuning' before after remaining left file file_after old new result
-next_moved rows tuning tuning' before after remaining left file file_after old new result is h =
-    subst (λ (t : Tuning). JudgesNext rows t before after remaining left file file_after old new result) is h
+pub next_moved : (hard : Bool) (rows : Rows) (tuning tuning' : Tuning) (before after : Words) (remaining : Option (List ℕ)) (left : ℕ) (file file_after : Written) (old new : Option (List ℕ)) (result : Result (Option Ran) Fault) → tuning ≡ tuning'
+    → JudgesNext hard rows tuning before after remaining left file file_after old new result → JudgesNext hard rows tuning' before after remaining left file file_after old new result
+next_moved hard rows tuning tuning' before after remaining left file file_after old new result is h =
+    subst (λ (t : Tuning). JudgesNext hard rows t before after remaining left file file_after old new result) is h

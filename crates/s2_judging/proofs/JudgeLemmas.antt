@@ -5,14 +5,14 @@ use Rattle.s2_check.specs.Views.{View}
 use Rattle.s2_check.specs.declared.verdict.Verdict.{Verdict}
 use Rattle.s2_judge.specs.Deciding.{Decided, IsShown}
 use Rattle.s2_console.specs.declared.exit.Exit.{Exit}
-use Rattle.s2_judging.specs.Judging.{Says, SaysDecided}
+use Rattle.s2_judging.specs.Judging.{Says, SaysDecided, changed_of}
 
 -- the line and the exit of a verdict are those of what is decided
-pub says : (rows : Rows) (soft : List ℤ) (d : Decided) (v : Verdict) (bits : List Bool) (exit : Exit) (text : List ℕ)
-    → v ≡ d.verdict → bits ≡ d.bits → Says v rows soft bits exit text → SaysDecided d rows soft exit text
-says rows soft d v bits exit text p q h =
-    let P : Verdict → Type 0 = λ x. Says x rows soft bits exit text in
-    let Q : List Bool → Type 0 = λ x. Says d.verdict rows soft x exit text in
+pub says : (hard : Bool) (rows : Rows) (soft : List ℤ) (d : Decided) (v : Verdict) (bits : List Bool) (exit : Exit) (text : List ℕ)
+    → v ≡ d.verdict → bits ≡ d.bits → Says v rows soft bits (changed_of hard soft bits) exit text → SaysDecided hard d rows soft exit text
+says hard rows soft d v bits exit text p q h =
+    let P : Verdict → Type 0 = λ x. Says x rows soft bits (changed_of hard soft bits) exit text in
+    let Q : List Bool → Type 0 = λ x. Says d.verdict rows soft x (changed_of hard soft x) exit text in
     subst Q q (subst P p h)
 
 -- so is the certificate

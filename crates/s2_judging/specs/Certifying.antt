@@ -51,9 +51,9 @@ pub record IsCertified (tuning : Tuning) (input : Rows × List ℤ) (Done : Opti
   pub done : Done (decided input.0 tuning input.1).certificate
 
 -- the text printed for an input, and the bytes written before it
-abbrev pub IsJudgedAndCertified : Tuning → Written → Written → Rows × List ℤ → Exit → List ℕ → Type 0
-IsJudgedAndCertified tuning old new input exit text =
-    IsJudged tuning input exit text × IsCertified tuning input (λ view. Wrote view old new)
+abbrev pub IsJudgedAndCertified : (hard : Bool) → Tuning → Written → Written → Rows × List ℤ → Exit → List ℕ → Type 0
+IsJudgedAndCertified hard tuning old new input exit text =
+    IsJudged hard tuning input exit text × IsCertified tuning input (λ view. Wrote view old new)
 
 -- What a failed command leaves of the file. If a writer failed, the input was accepted and the file begun: it has the
 -- whole certificate, or a part if its own writer failed. If the input is refused, memory ran out or a reader failed,
@@ -68,7 +68,7 @@ pub record LeavesCertificate {T : Type 0} (tuning : Tuning) (IsInput : Result (R
 abbrev pub JudgeExits : (hard quiet : Bool) → Tuning → Shape → JudgeFiles → JudgeFiles → Screen → Screen → Exit → Type 0
 JudgeExits hard quiet tuning shape files files_after old new exit =
     (ran : Result Ran Fault)
-    × CommandRuns (IsJudgedAndCertified tuning files.certificate files_after.certificate) (AreInputsBy hard shape files.rows files.soft) (exit_in ran) old.output new.output
+    × CommandRuns (IsJudgedAndCertified hard tuning files.certificate files_after.certificate) (AreInputsBy hard shape files.rows files.soft) (exit_in ran) old.output new.output
     × IfOk ran (LooksHard (AreInputsBy hard shape files.rows files.soft))
     × LeavesCertificate tuning (AreInputsBy hard shape files.rows files.soft) (exit_in ran) files.certificate files_after.certificate
     × CommandCounts (exit_in ran) (files.rows_failed + files.soft_failed) (files_after.rows_failed + files_after.soft_failed)

@@ -62,23 +62,23 @@ WroteEach rows tuning (frame ∷ frames) old new = WroteBytes (certificates_of r
 
 -- frames were read one after another, n values each; their certificates are written, and their lines printed, with this
 -- exit so far
-pub record JudgedSoFar (rows : Rows) (tuning : Tuning) (before after : Option (List (Result ℤ ValueFault))) (frames : List (List ℤ)) (exit : Exit)
+pub record JudgedSoFar (hard : Bool) (rows : Rows) (tuning : Tuning) (before after : Option (List (Result ℤ ValueFault))) (frames : List (List ℤ)) (exit : Exit)
     (file file_after : Written) (old new : Option (List ℕ)) : Type 0 where
   pub text : List ℕ
   pub long : All (λ frame. length frame ≡ (code_of rows).bits) frames
   pub read : Reads before after (flat_map (λ frame. frame) frames)
   pub shown : All (λ frame. IsShown rows frame (decided rows tuning frame)) frames
   pub wrote : WroteEach rows tuning frames file file_after
-  pub said : SaysEach (λ frame. IsJudged tuning (rows, frame)) frames exit text
+  pub said : SaysEach (λ frame. IsJudged hard tuning (rows, frame)) frames exit text
   pub printed : Appends old new text
 
 -- A frame was judged, and a writer failed: a part of its certificate is written, and no line printed; or its
 -- certificate is written, and a part of its line is printed
-pub record CutFrame (rows : Rows) (tuning : Tuning) (frame : List ℤ) (file file_after : Written) (old new : Option (List ℕ)) : Type 0 where
+pub record CutFrame (hard : Bool) (rows : Rows) (tuning : Tuning) (frame : List ℤ) (file file_after : Written) (old new : Option (List ℕ)) : Type 0 where
   pub exit : Exit
   pub line : List ℕ
   pub shown : IsShown rows frame (decided rows tuning frame)
-  pub said : IsJudged tuning (rows, frame) exit line
+  pub said : IsJudged hard tuning (rows, frame) exit line
   pub part : (WrotePart (certificate_of rows tuning frame) file file_after × (new ≡ old))
       ⊎ (Wrote (certificate_of rows tuning frame) file file_after × AppendsPart line old new)
 
@@ -106,26 +106,26 @@ StopsJudging n known words frames fault = IsRefusedFrame n words fault
 
 -- After these frames comes the end of the file, and the run is theirs. Or only a part of the next frame is written. Or
 -- a fault comes, and no more is written
-abbrev pub EndsJudging : Rows → Tuning → Option (List ℕ) → Option (List (Result ℤ ValueFault)) → List (List ℤ) → Exit → Written → Written → Written → Option (List ℕ) → Option (List ℕ) → Result Ran Fault → Type 0
-EndsJudging rows tuning known words frames exit start file file_after old new (Ok ran) =
+abbrev pub EndsJudging : (hard : Bool) → Rows → Tuning → Option (List ℕ) → Option (List (Result ℤ ValueFault)) → List (List ℤ) → Exit → Written → Written → Written → Option (List ℕ) → Option (List ℕ) → Result Ran Fault → Type 0
+EndsJudging hard rows tuning known words frames exit start file file_after old new (Ok ran) =
     (ran ≡ record { exit = exit; looks_hard = look_hard frames }) × AreRead words × WroteBytes (certificates_of rows tuning frames) start file_after × (new ≡ old)
-EndsJudging rows tuning known words frames exit start file file_after old new (Err faults.Write) =
-    ((after : Option (List (Result ℤ ValueFault))) × TakesNext rows words after (λ frame. CutFrame rows tuning frame file file_after old new))
+EndsJudging hard rows tuning known words frames exit start file file_after old new (Err faults.Write) =
+    ((after : Option (List (Result ℤ ValueFault))) × TakesNext rows words after (λ frame. CutFrame hard rows tuning frame file file_after old new))
     ⊎ CutStart words frames file file_after old new
-EndsJudging rows tuning known words frames exit start file file_after old new (Err fault) =
+EndsJudging hard rows tuning known words frames exit start file file_after old new (Err fault) =
     StopsJudging (code_of rows).bits known words frames fault × (file_after ≡ file) × (new ≡ old)
 
 -- `judge --each` under these rows, on a file with these words. Each frame's certificate is written, then its line
 -- printed, and then the next frame is judged
-pub record JudgesUnder (rows : Rows) (tuning : Tuning) (known : Option (List ℕ)) (words : Option (List (Result ℤ ValueFault))) (file file_after : Written)
+pub record JudgesUnder (hard : Bool) (rows : Rows) (tuning : Tuning) (known : Option (List ℕ)) (words : Option (List (Result ℤ ValueFault))) (file file_after : Written)
     (ran : Result Ran Fault) (old new : Option (List ℕ)) : Type 0 where
   pub frames : List (List ℤ)
   pub exit : Exit
   pub read_to : Option (List (Result ℤ ValueFault))
   pub written_to : Written
   pub printed_to : Option (List ℕ)
-  pub so_far : JudgedSoFar rows tuning words read_to frames exit file written_to old printed_to
-  pub ends : EndsJudging rows tuning known read_to frames exit file written_to file_after printed_to new ran
+  pub so_far : JudgedSoFar hard rows tuning words read_to frames exit file written_to old printed_to
+  pub ends : EndsJudging hard rows tuning known read_to frames exit file written_to file_after printed_to new ran
 
 -- it ended before a value was read: the rows are refused or cannot be read, or memory ran out
 pub record FailsEarly (shape : Shape) (files files_after : JudgeFiles) (ran : Result Ran Fault) (old new : Option (List ℕ)) : Type 0 where
@@ -140,7 +140,7 @@ pub record FailsEarly (shape : Shape) (files files_after : JudgeFiles) (ran : Re
 pub record JudgesAccepted (shape : Shape) (hard : Bool) (tuning : Tuning) (files files_after : JudgeFiles) (ran : Result Ran Fault) (old new : Option (List ℕ)) : Type 0 where
   pub rows : Rows
   pub accepted : IfSome files.rows (λ xs. rows_in shape xs ≡ Ok rows)
-  pub judges : JudgesUnder rows tuning files.soft (words_in hard files.soft) files.certificate files_after.certificate ran old new
+  pub judges : JudgesUnder hard rows tuning files.soft (words_in hard files.soft) files.certificate files_after.certificate ran old new
 
 -- `judge --each` on its files
 abbrev pub JudgesEach : (hard : Bool) → Tuning → Shape → JudgeFiles → JudgeFiles → Result Ran Fault → Option (List ℕ) → Option (List ℕ) → Type 0
@@ -159,28 +159,28 @@ JudgeEachExits hard quiet tuning shape files files_after old new exit =
 -- ---- one step
 
 -- a frame was judged, its certificate written, and its line printed
-pub record JudgesFrame (rows : Rows) (tuning : Tuning) (frame : List ℤ) (file file_after : Written) (old new : Option (List ℕ)) (ran : Ran) : Type 0 where
+pub record JudgesFrame (hard : Bool) (rows : Rows) (tuning : Tuning) (frame : List ℤ) (file file_after : Written) (old new : Option (List ℕ)) (ran : Ran) : Type 0 where
   pub line : List ℕ
   pub shown : IsShown rows frame (decided rows tuning frame)
-  pub said : IsJudged tuning (rows, frame) ran.exit line
+  pub said : IsJudged hard tuning (rows, frame) ran.exit line
   pub looks : ran.looks_hard ≡ list_all is_bit frame
   pub wrote : Wrote (certificate_of rows tuning frame) file file_after
   pub printed : Appends old new line
 
-abbrev pub JudgesOne : Rows → Tuning → List ℤ → Written → Written → Option (List ℕ) → Option (List ℕ) → Result Ran Fault → Type 0
-JudgesOne rows tuning frame file file_after old new (Ok ran) = JudgesFrame rows tuning frame file file_after old new ran
-JudgesOne rows tuning frame file file_after old new (Err faults.Write) = CutFrame rows tuning frame file file_after old new
-JudgesOne rows tuning frame file file_after old new (Err fault) = ⊥
+abbrev pub JudgesOne : (hard : Bool) → Rows → Tuning → List ℤ → Written → Written → Option (List ℕ) → Option (List ℕ) → Result Ran Fault → Type 0
+JudgesOne hard rows tuning frame file file_after old new (Ok ran) = JudgesFrame hard rows tuning frame file file_after old new ran
+JudgesOne hard rows tuning frame file file_after old new (Err faults.Write) = CutFrame hard rows tuning frame file file_after old new
+JudgesOne hard rows tuning frame file file_after old new (Err fault) = ⊥
 
 -- the next frame was judged, or a writer failed; there was none, or it is refused
-abbrev pub JudgesNext : Rows → Tuning → Option (List (Result ℤ ValueFault)) → Option (List (Result ℤ ValueFault)) → Option (List ℕ) → ℕ → Written → Written → Option (List ℕ) → Option (List ℕ)
+abbrev pub JudgesNext : (hard : Bool) → Rows → Tuning → Option (List (Result ℤ ValueFault)) → Option (List (Result ℤ ValueFault)) → Option (List ℕ) → ℕ → Written → Written → Option (List ℕ) → Option (List ℕ)
     → Result (Option Ran) Fault → Type 0
-JudgesNext rows tuning before after remaining left file file_after old new (Ok None) = AreRead before × (file_after ≡ file) × (new ≡ old)
-JudgesNext rows tuning before after remaining left file file_after old new (Ok (Some ran)) =
-    TakesNext rows before after (λ frame. JudgesFrame rows tuning frame file file_after old new ran)
-JudgesNext rows tuning before after remaining left file file_after old new (Err faults.Write) =
-    TakesNext rows before after (λ frame. CutFrame rows tuning frame file file_after old new)
-JudgesNext rows tuning before after remaining left file file_after old new (Err fault) =
+JudgesNext hard rows tuning before after remaining left file file_after old new (Ok None) = AreRead before × (file_after ≡ file) × (new ≡ old)
+JudgesNext hard rows tuning before after remaining left file file_after old new (Ok (Some ran)) =
+    TakesNext rows before after (λ frame. JudgesFrame hard rows tuning frame file file_after old new ran)
+JudgesNext hard rows tuning before after remaining left file file_after old new (Err faults.Write) =
+    TakesNext rows before after (λ frame. CutFrame hard rows tuning frame file file_after old new)
+JudgesNext hard rows tuning before after remaining left file file_after old new (Err fault) =
     TakesFrame (code_of rows).bits before after [] remaining left (Err fault) × (file_after ≡ file) × (new ≡ old)
 
 -- a run ended, and the certificates' file was begun, unless it could not be truncated

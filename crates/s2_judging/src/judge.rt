@@ -25,13 +25,14 @@ use std::alloc::Global;
 fn judge_soft<C: Output>(
     alloc: Global,
     tuning: Tuning,
+    hard: bool,
     judged: &Judged,
     certificate: &mut Option<Destination<C>>,
 ) -> Result<Printed, Fault<'static>>
     requires long { length judged.now.soft.items ≡ (code_of judged.now.matrix).bits }
     requires range { All IsSoft judged.now.soft.items }
     requires certificate { CanCount (written C.contents C.count certificate.old).failed }
-    ensures answers { CommandAnswers (IsJudgedAndCertified tuning (written C.contents C.count certificate.old) (written C.contents C.count certificate.new))
+    ensures answers { CommandAnswers (IsJudgedAndCertified hard tuning (written C.contents C.count certificate.old) (written C.contents C.count certificate.new))
         (IsOnly (judged.now.matrix, judged.now.soft.items)) result }
     ensures leaves { LeavesCertificate tuning (IsOnly (judged.now.matrix, judged.now.soft.items)) result
         (written C.contents C.count certificate.old) (written C.contents C.count certificate.new) }
@@ -42,7 +43,7 @@ fn judge_soft<C: Output>(
     let Ok(mut judge) = Judge::new(alloc, &judged.matrix, tuning) else {
         return Err(Fault::NoMemory);
     };
-    match decide_by(&judged.matrix, &mut judge, &judged.soft, certificate) {
+    match decide_by(&judged.matrix, &mut judge, &judged.soft, hard, certificate) {
         Ok(printed) => Ok(printed),
         Err(_) => Err(Fault::Write),
     }
@@ -52,6 +53,7 @@ fn judge_soft<C: Output>(
 fn print_soft<C: Output, O: CountedWrite>(
     alloc: Global,
     tuning: Tuning,
+    hard: bool,
     judged: &Judged,
     certificate: &mut Option<Destination<C>>,
     out: &mut O,
@@ -60,7 +62,7 @@ fn print_soft<C: Output, O: CountedWrite>(
     requires range { All IsSoft judged.now.soft.items }
     requires certificate { CanCount (written C.contents C.count certificate.old).failed }
     requires out { CanCount (O.count out.old) }
-    ensures run { CommandRuns (IsJudgedAndCertified tuning (written C.contents C.count certificate.old) (written C.contents C.count certificate.new))
+    ensures run { CommandRuns (IsJudgedAndCertified hard tuning (written C.contents C.count certificate.old) (written C.contents C.count certificate.new))
         (IsOnly (judged.now.matrix, judged.now.soft.items)) result (O.contents out.old) (O.contents out.new) }
     ensures leaves { LeavesCertificate tuning (IsOnly (judged.now.matrix, judged.now.soft.items)) result
         (written C.contents C.count certificate.old) (written C.contents C.count certificate.new) }
@@ -68,7 +70,7 @@ fn print_soft<C: Output, O: CountedWrite>(
         ((written C.contents C.count certificate.new).failed + O.count out.new) }
     ensures read { result ≢ Err Fault.Read }
 {
-    judge_soft(alloc, tuning, judged, certificate)?.print(out)
+    judge_soft(alloc, tuning, hard, judged, certificate)?.print(out)
 }
 
 /// Reads rows and soft values, decides, and prints the verdict.
@@ -83,7 +85,7 @@ fn print_judgement<R: CountedRead, C: Output, O: CountedWrite>(
     requires files { CanJudge files.old }
     requires out { CanCount (O.count out.old) }
     ensures whole { IsOk result → O.count out.new ≡ O.count out.old }
-    ensures run { CommandRuns (IsJudgedAndCertified tuning files.old.certificate files.new.certificate) (AreInputsBy hard shape files.old.rows files.old.soft) (exit_in result)
+    ensures run { CommandRuns (IsJudgedAndCertified hard tuning files.old.certificate files.new.certificate) (AreInputsBy hard shape files.old.rows files.old.soft) (exit_in result)
         (O.contents out.old) (O.contents out.new) }
     ensures looks { IfOk result (LooksHard (AreInputsBy hard shape files.old.rows files.old.soft)) }
     ensures leaves { LeavesCertificate tuning (AreInputsBy hard shape files.old.rows files.old.soft) (exit_in result) files.old.certificate files.new.certificate }
@@ -91,7 +93,7 @@ fn print_judgement<R: CountedRead, C: Output, O: CountedWrite>(
         (files.old.certificate.failed + O.count out.old) (files.new.certificate.failed + O.count out.new) }
 {
     let judged = read_judged(alloc, &mut files.rows, &mut files.soft, shape, hard)?;
-    let exit = print_soft(alloc, tuning, &judged, &mut files.certificate, out)?;
+    let exit = print_soft(alloc, tuning, hard, &judged, &mut files.certificate, out)?;
     Ok(Ran {
         exit,
         looks_hard: are_bits(&judged.soft),
@@ -99,7 +101,8 @@ fn print_judgement<R: CountedRead, C: Output, O: CountedWrite>(
 }
 
 /// `judge`: prints the verdict of a receiver with this tuning on the soft values of a file, under the code of a row
-/// file. If `hard`, the file has decided bits, tokens 0 and 1, which are read as soft values 1 and -1. If there is a
+/// file. If `hard`, the file has decided bits, tokens 0 and 1, which are read as soft values 1 and -1, and the line ends with the number of
+/// bits in which the decided ones differ from them. If there is a
 /// file for the certificate, and the decided bits are sole or most likely, their certificate is written before the
 /// verdict is printed. If its writer fails, a part of it was written. The file is begun exactly if the input is
 /// accepted and there is memory to judge it. If all values are 0 or 1, and it is not `hard`, a note on the errors says

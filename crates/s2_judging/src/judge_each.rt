@@ -50,6 +50,7 @@ fn judge_frame<C: Output, O: CountedWrite>(
     matrix: &Matrix,
     judge: &mut Judge<'_>,
     frame: &[i16],
+    hard: bool,
     certificates: &mut Option<Destination<C>>,
     out: &mut O,
 ) -> Result<Ran, Fault<'static>>
@@ -59,12 +60,12 @@ fn judge_frame<C: Output, O: CountedWrite>(
     requires certificates { CanCount (written C.contents C.count certificates.old).failed }
     requires out { CanCount (O.count out.old) }
     ensures same { (judge.new.rows ≡ judge.old.rows) × (judge.new.tuning ≡ judge.old.tuning) }
-    ensures judges { JudgesOne matrix.now judge.old.tuning frame.now (written C.contents C.count certificates.old) (written C.contents C.count certificates.new)
+    ensures judges { JudgesOne hard matrix.now judge.old.tuning frame.now (written C.contents C.count certificates.old) (written C.contents C.count certificates.new)
         (O.contents out.old) (O.contents out.new) result }
     ensures write { result ≡ Err Fault.Write → (written C.contents C.count certificates.new).failed + O.count out.new ≡ (written C.contents C.count certificates.old).failed + O.count out.old + 1 }
     ensures no_write { IsOk result → ((written C.contents C.count certificates.new).failed ≡ (written C.contents C.count certificates.old).failed) × (O.count out.new ≡ O.count out.old) }
 {
-    match decide_by(matrix, judge, frame, certificates) {
+    match decide_by(matrix, judge, frame, hard, certificates) {
         Ok(printed) => print_ran(printed, frame, out),
         Err(_) => Err(Fault::Write),
     }
@@ -74,6 +75,7 @@ fn judge_frame<C: Output, O: CountedWrite>(
 fn judge_next<R: CountedRead, C: Output, O: CountedWrite>(
     matrix: &Matrix,
     judge: &mut Judge<'_>,
+    hard: bool,
     frames: &mut Frames,
     soft: &mut R,
     certificates: &mut Option<Destination<C>>,
@@ -85,7 +87,7 @@ fn judge_next<R: CountedRead, C: Output, O: CountedWrite>(
     requires soft { CanCount (R.count soft.old) }
     requires certificates { CanCount (written C.contents C.count certificates.old).failed }
     requires out { CanCount (O.count out.old) }
-    ensures judges { JudgesNext matrix.now judge.old.tuning (pending_in frames.old (R.remaining soft.old)) (pending_in frames.new (R.remaining soft.new))
+    ensures judges { JudgesNext hard matrix.now judge.old.tuning (pending_in frames.old (R.remaining soft.old)) (pending_in frames.new (R.remaining soft.new))
         (R.remaining soft.old) frames.old.reading.left (written C.contents C.count certificates.old) (written C.contents C.count certificates.new)
         (O.contents out.old) (O.contents out.new) result }
     ensures same { (judge.new.rows ≡ judge.old.rows) × (judge.new.tuning ≡ judge.old.tuning) }
@@ -101,7 +103,7 @@ fn judge_next<R: CountedRead, C: Output, O: CountedWrite>(
     if !found {
         return Ok(None);
     }
-    let ran = judge_frame(matrix, judge, frames.values(), certificates, out)?;
+    let ran = judge_frame(matrix, judge, frames.values(), hard, certificates, out)?;
     Ok(Some(ran))
 }
 
@@ -129,6 +131,7 @@ fn finish<C: Output>(
 fn judge_frames<R: CountedRead, C: Output, O: CountedWrite>(
     matrix: &Matrix,
     judge: &mut Judge<'_>,
+    hard: bool,
     frames: &mut Frames,
     soft: &mut R,
     certificates: &mut Option<Destination<C>>,
@@ -141,7 +144,7 @@ fn judge_frames<R: CountedRead, C: Output, O: CountedWrite>(
     requires certificates { CanBegin (written C.contents C.count certificates.old) }
     requires out { CanCount (O.count out.old) }
     ensures judges { (known : Option (List ℕ)) → Spends known max_text (R.remaining soft.old) frames.old.reading.left
-        → JudgesUnder matrix.now judge.old.tuning known (pending_in frames.old (R.remaining soft.old)) (written C.contents C.count certificates.old) (written C.contents C.count certificates.new)
+        → JudgesUnder hard matrix.now judge.old.tuning known (pending_in frames.old (R.remaining soft.old)) (written C.contents C.count certificates.old) (written C.contents C.count certificates.new)
         result (O.contents out.old) (O.contents out.new) }
     ensures read { result ≡ Err Fault.Read → R.count soft.new ≡ R.count soft.old + 1 }
     ensures no_read { result ≢ Err Fault.Read → R.count soft.new ≡ R.count soft.old }
@@ -151,7 +154,7 @@ fn judge_frames<R: CountedRead, C: Output, O: CountedWrite>(
     let mut exit = Exit::Fine;
     let mut bits = true;
     'frames: for judged in 0..u32::MAX {
-        let next = judge_next(matrix, judge, frames, soft, certificates, out)?;
+        let next = judge_next(matrix, judge, hard, frames, soft, certificates, out)?;
         match next {
             None => {
                 let looks_hard = both(bits, judged > 0);
@@ -180,7 +183,7 @@ fn judge_with<R: CountedRead, C: Output, O: CountedWrite>(
     requires soft { CanCount (R.count soft.old) }
     requires certificates { CanBegin (written C.contents C.count certificates.old) }
     requires out { CanCount (O.count out.old) }
-    ensures judges { JudgesUnder matrix.now judge.old.tuning (R.remaining soft.old) (words_in hard (R.remaining soft.old))
+    ensures judges { JudgesUnder hard matrix.now judge.old.tuning (R.remaining soft.old) (words_in hard (R.remaining soft.old))
         (written C.contents C.count certificates.old) (written C.contents C.count certificates.new) result (O.contents out.old) (O.contents out.new) }
     ensures read { result ≡ Err Fault.Read → R.count soft.new ≡ R.count soft.old + 1 }
     ensures no_read { result ≢ Err Fault.Read → R.count soft.new ≡ R.count soft.old }
@@ -190,7 +193,7 @@ fn judge_with<R: CountedRead, C: Output, O: CountedWrite>(
     let Ok(mut frames) = Frames::new(alloc, hard, matrix.bits()) else {
         return Err(Fault::NoMemory);
     };
-    judge_frames(matrix, judge, &mut frames, soft, certificates, out)
+    judge_frames(matrix, judge, hard, &mut frames, soft, certificates, out)
 }
 
 /// The same, with a judge.
@@ -206,7 +209,7 @@ fn judge_under<R: CountedRead, C: Output, O: CountedWrite>(
     requires soft { CanCount (R.count soft.old) }
     requires certificates { CanBegin (written C.contents C.count certificates.old) }
     requires out { CanCount (O.count out.old) }
-    ensures judges { JudgesUnder matrix.now tuning (R.remaining soft.old) (words_in hard (R.remaining soft.old))
+    ensures judges { JudgesUnder hard matrix.now tuning (R.remaining soft.old) (words_in hard (R.remaining soft.old))
         (written C.contents C.count certificates.old) (written C.contents C.count certificates.new) result (O.contents out.old) (O.contents out.new) }
     ensures read { result ≡ Err Fault.Read → R.count soft.new ≡ R.count soft.old + 1 }
     ensures no_read { result ≢ Err Fault.Read → R.count soft.new ≡ R.count soft.old }
@@ -249,7 +252,7 @@ fn print_judgements<R: CountedRead, C: Output, O: CountedWrite>(
 
 /// `judge --each`: prints the verdict of a receiver with this tuning on each frame of a value file, under the code of a
 /// row file. A frame is n values, one for each bit of a codeword; lines mean nothing to it. If `hard`, the file has
-/// decided bits. Frames are read one after another, in the memory of one. If there is a file for certificates, those of
+/// decided bits, and each line ends with the number of changed ones. Frames are read one after another, in the memory of one. If there is a file for certificates, those of
 /// frames that are sole or most likely are written to it, one after another. A frame's certificate is written before
 /// its verdict is printed.
 ///

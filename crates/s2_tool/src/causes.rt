@@ -78,6 +78,11 @@ fn names_of<'a>(request: &Request<'a>) -> Names<'a> {
                 None,
             )
         }
+        Request::Compare(words) => plain(
+            [Some(words.rows), None],
+            [Some(words.certificates), Some(words.words), None],
+            None,
+        ),
         Request::Mod(words) => linked(words.rows, words.packets, words.symbols, words.records),
         Request::Demod(words) => linked(words.rows, words.symbols, words.packets, words.records),
         Request::Run(words) => linked(words.rows, words.packets, words.to, words.records),

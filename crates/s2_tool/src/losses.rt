@@ -1,4 +1,5 @@
-//! The bytes of a packet file that `--resync` left out: the note on them, and the exit. This is plain code.
+//! The bytes of a packet file that `--resync` left out: the note on them, and the exit. And the note on a refused audit. This
+//! is plain code.
 ghost use Rattle.std.specs.Prelude.{◌≢◌, ◌+◌, ◌≤◌, length};
 ghost use Rattle.s2_console.specs.Lines.{line_room};
 
@@ -45,5 +46,14 @@ pub(crate) fn exit_after(left_out: LeftOut, exit: Exit) -> Exit
         Exit::No
     } else {
         exit
+    }
+}
+
+/// Notes the likely causes of a refused audit.
+pub(crate) fn note_audit<R: Disk>(terminal: &Terminal<'_, R>, exit: Exit) {
+    if exit == Exit::No {
+        let note =
+            "s2: note: likely causes: another divisor (try --tuned), another mode, or a recording that was cut or shifted\n";
+        let _ = write_full(&mut errors_of(terminal), note.as_bytes());
     }
 }

@@ -171,6 +171,29 @@ pub(crate) fn open_inputs<'t, 'r, 'a, R: Disk>(
     Ok((first, second))
 }
 
+/// Opens the files of `compare`, in order.
+pub(crate) fn open_compare<'t, 'r, 'a, R: Disk>(
+    terminal: &'t Terminal<'r, R>,
+    rows: &'a str,
+    certificates: &'a str,
+    words: &'a str,
+) -> Result<
+    (
+        Input<'t, 'r, 'a, R>,
+        Input<'t, 'r, 'a, R>,
+        Input<'t, 'r, 'a, R>,
+    ),
+    Fault<'a>,
+>
+    ensures { IfOk result (λ files. (files.0.inner.failed ≡ 0) × (files.1.inner.failed ≡ 0) × (files.2.inner.failed ≡ 0)) }
+{
+    let mut opener = Opener::new(terminal.host());
+    let rows = read_by(&mut opener, terminal, rows)?;
+    let certificates = read_by(&mut opener, terminal, certificates)?;
+    let words = read_by(&mut opener, terminal, words)?;
+    Ok((rows, certificates, words))
+}
+
 /// Opens an output if a name is given.
 fn write_named<'t, 'r, 'a, R: Disk>(
     opener: &mut Opener<'_, R>,

@@ -5,14 +5,16 @@ ghost use Rattle.s2_console.specs.Screens.{CanNote};
 
 use crate::causes::{note_cause, note_marks};
 use crate::link_request::{LinkRequest, setup_of, with_link};
+use crate::losses::note_audit;
 use crate::opening::{
-    open_audit, open_input, open_inputs, open_join, open_judge, open_noise, open_scan,
-    screen_beside, show_on, standard_input,
+    open_audit, open_compare, open_input, open_inputs, open_join, open_judge, open_noise,
+    open_scan, screen_beside, show_on, standard_input,
 };
 use crate::options::{channel_of, demod_options, divisor_of, judging_of, run_options};
 use crate::shown::{has_control, shown};
 use s2_audit::audit_command;
 use s2_commands::{noise_command, rows_command};
+use s2_compare::{Form, compare_command};
 use s2_console::{Console, Exit, Fault};
 use s2_evidence::{check_command, check_each_command};
 use s2_files::Disk;
@@ -24,9 +26,10 @@ use s2_progress::{Pace, Terminal};
 use s2_scan::scan_command;
 use s2_table::table_command;
 use s2_words::{
-    AuditArguments, CheckArguments, CodeArguments, DemodArguments, JoinArguments, JudgeArguments,
-    ModesArguments, NoiseArguments, Request, RowsArguments, RunArguments, ScanArguments,
-    ShapeArguments, TableArguments, Unread, not_text, parse_arguments,
+    AuditArguments, CheckArguments, CodeArguments, CompareArguments, DemodArguments, JoinArguments,
+    JudgeArguments, ModesArguments, NoiseArguments, Request, RowsArguments, RunArguments,
+    ScanArguments, ShapeArguments, TableArguments, Unread, WordsArguments, not_text,
+    parse_arguments,
 };
 use std::alloc::{AllocError, Global};
 use std::env::FillError;
@@ -214,6 +217,7 @@ fn serve_request<'a, R: Disk + Clock + AllocGlobal, O: CountedWrite, E: CountedW
         Request::Scan(words) => serve_scan(rt, terminal, words, console),
         Request::Join(words) => serve_join(rt, terminal, words, console),
         Request::Audit(words) => serve_audit(rt, terminal, words, console),
+        Request::Compare(words) => serve_compare(rt, terminal, words, console),
         Request::Mod(words) => with_link(rt, terminal, LinkRequest::Mod(words), console, notes),
         Request::Demod(words) => serve_demod(rt, terminal, words, console, notes),
         Request::Run(words) => serve_run(rt, terminal, words, console, notes),
@@ -383,6 +387,47 @@ fn serve_check<'a, R: Disk + AllocGlobal, O: CountedWrite, E: CountedWrite>(
     Ok(check_command(rt.alloc(), &mut rows, &mut certificate, console))
 }
 
+/// The form of the words of `compare`, with their code. BBFRAMEs have a mode.
+fn form_of(words: &CompareArguments<'_>) -> Result<Form, Fault<'static>> {
+    match (words.form, words.code) {
+        (WordsArguments::Bytes, code) => Ok(Form::Bytes(shape_by(code)?)),
+        (WordsArguments::Digits, code) => Ok(Form::Digits(shape_by(code)?)),
+        (WordsArguments::Bbframes, CodeArguments::Mode { modcod, short }) => {
+            Ok(Form::Bbframes(mode_of(modcod, short, false)?))
+        }
+        (WordsArguments::Bbframes, CodeArguments::Shape(_)) => {
+            Err(Fault::refused(FaultText::of("no such mode")))
+        }
+    }
+}
+
+/// `compare`.
+fn serve_compare<'a, R: Disk + AllocGlobal, O: CountedWrite, E: CountedWrite>(
+    rt: &R,
+    terminal: &Terminal<'_, R>,
+    words: &CompareArguments<'a>,
+    console: &mut Console<O, E>,
+) -> Result<Exit, Fault<'a>>
+    requires { CanNote console.old }
+    ensures { OnErr result (CanCount console.new.errors_failed) }
+{
+    let form = form_of(words)?;
+    let (mut rows, mut certificates, mut device) = open_compare(
+        terminal,
+        words.rows,
+        words.certificates,
+        words.words,
+    )?;
+    Ok(compare_command(
+        rt.alloc(),
+        form,
+        &mut rows,
+        &mut certificates,
+        &mut device,
+        console,
+    ))
+}
+
 /// `noise`. The rest of the buffer is written before the command has ended well; after a failed write nothing
 /// more is.
 fn serve_noise<'a, R: Disk + Clock + AllocGlobal, O: CountedWrite, E: CountedWrite>(
@@ -436,7 +481,7 @@ fn serve_join<'a, R: Disk + AllocGlobal, O: CountedWrite, E: CountedWrite>(
     Ok(join_command(rt.alloc(), mode, &mut bbframes, &mut packets, console))
 }
 
-/// `audit`.
+/// `audit`. If it is refused, a note names the likely causes.
 fn serve_audit<'a, R: Disk + AllocGlobal, O: CountedWrite, E: CountedWrite>(
     rt: &R,
     terminal: &Terminal<'_, R>,
@@ -449,7 +494,7 @@ fn serve_audit<'a, R: Disk + AllocGlobal, O: CountedWrite, E: CountedWrite>(
     let setup = setup_of(words.link)?;
     let divisor = divisor_of(&setup.mode, words)?;
     let (mut rows, mut symbols, mut report, mut certificates) = open_audit(terminal, words)?;
-    Ok(audit_command(
+    let exit = audit_command(
         rt.alloc(),
         setup,
         divisor,
@@ -458,5 +503,7 @@ fn serve_audit<'a, R: Disk + AllocGlobal, O: CountedWrite, E: CountedWrite>(
         &mut report,
         &mut certificates,
         console,
-    ))
+    );
+    note_audit(terminal, exit);
+    Ok(exit)
 }

@@ -465,6 +465,18 @@ pub(crate) const SENT_BBFRAMES: Argument = Argument {
     ..BBFRAMES
 };
 
+pub(crate) const BBFRAMES_GIVEN: Argument = Argument {
+    name: "bbframes",
+    form: ArgumentKind::Flag,
+    help: "WORDS has BBFRAMEs before scrambling, Kbch / 8 bytes each, which are encoded first; zeros: nothing was delivered",
+};
+
+pub(crate) const BITS_GIVEN: Argument = Argument {
+    name: "bits",
+    form: ArgumentKind::Flag,
+    help: "WORDS is text: a line of n digits 0 and 1 for each word",
+};
+
 /// The argument for the name of a file.
 macro_rules! file {
     ($name:literal, $help:literal) => {
@@ -520,4 +532,14 @@ pub(crate) const REPORT: Argument = file!("REPORT", "Report of `demod`");
 pub(crate) const CERTIFICATES_READ: Argument = file!(
     "CERTIFICATES",
     "Certificates written by `demod --certificates`"
+);
+
+pub(crate) const CERTIFICATES_GIVEN: Argument = file!(
+    "CERTIFICATES",
+    "Certificates, one after another, as `demod --certificates` and `judge --each --cert` write them"
+);
+
+pub(crate) const WORDS: Argument = file!(
+    "WORDS",
+    "The other receiver's word for each certificate, eight bits per byte, the first in the highest bit"
 );

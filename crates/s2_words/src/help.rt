@@ -69,6 +69,7 @@ The report, with --each a line per frame. The cost of a word is the sum of the s
   most-likely cost C       proved: the decided bits are a codeword of cost C, and no codeword costs less
   parity cost C            all parity checks hold, but no certificate was found: try --passes 96
   broken cost C check J    not a codeword: check J, counted from 0, is the first that fails
+  .. changed B             with --hard, at the end of each line: B of the bits differ from the word that was read
 
 Exit status:
   0  sole or most-likely
@@ -300,9 +301,36 @@ Exit status:
   1  a usage error, or an error reported on standard error
   2  a frame is not proved, or certificates are left over
 
+Notes, on standard error:
+  likely causes: ..    after exit 2: another divisor (try --tuned), another mode, or a recording that was cut or shifted
+
 Example:
   s2 demod --modcod qpsk1/2 --tuned --certificates certificates rows noisy received.ts > report
   s2 audit --modcod qpsk1/2 --tuned rows noisy report certificates";
+
+/// The text below the options of `compare`.
+const COMPARE_MORE: &str = "\
+The report, a line per certificate, and a line at the end. The cost of a word is the sum of the soft values at its ones:
+  frame I same sole cost C                 the word is the certified one: it costs C, and every other codeword costs more
+  frame I same most-likely cost C          the word is the certified one: no codeword costs less
+  frame I equal cost C changed B           another codeword of the same cost; B bits differ from the certified word
+  frame I worse cost D best C changed B    a codeword that costs D, while the certified one costs C: not maximum likelihood
+  frame I no-codeword checks K changed B   not a codeword: K checks fail
+  frame I refused                          the certificate is not accepted: try `s2 check --each`
+  frame I missing                          with --bbframes, a record of zeros: nothing was delivered
+  end frames F same S equal E worse W no-codeword N refused R missing M    the number of each
+
+WORDS has n / 8 bytes per certificate, rounded up, in the order of CERTIFICATES; with --bits n digits and a line feed.
+
+Exit status:
+  0  every word is the certified one
+  1  a usage error, or an error reported on standard error: among them more or fewer words than certificates
+  2  a word is another one, or missing, or a certificate is refused
+
+Example:
+  s2 demod --modcod qpsk1/2 --tuned --certificates certificates rows noisy received.ts > report
+  s2 compare --modcod qpsk1/2 rows certificates words
+  s2 compare --modcod qpsk1/2 --bbframes rows certificates bbframes";
 
 /// The text below the options of a command.
 pub(crate) fn more_of(command: CommandName) -> &'static str {
@@ -319,5 +347,6 @@ pub(crate) fn more_of(command: CommandName) -> &'static str {
         CommandName::Scan => SCAN_MORE,
         CommandName::Join => JOIN_MORE,
         CommandName::Audit => AUDIT_MORE,
+        CommandName::Compare => COMPARE_MORE,
     }
 }

@@ -29,10 +29,10 @@ mod unread;
 pub use reading::parse_arguments;
 pub use refusal::not_text;
 pub use request::{
-    AuditArguments, ChannelArguments, CheckArguments, CodeArguments, DemodArguments, ExitBy,
-    JoinArguments, JudgeArguments, LinkArguments, ModArguments, ModesArguments, NoiseArguments,
-    NoteArguments, NumberArguments, Progress, RecordArguments, Request, RowsArguments,
-    RunArguments, ScanArguments, Seeds, ShapeArguments, StrengthArguments, TableArguments,
-    TuningArguments,
+    AuditArguments, ChannelArguments, CheckArguments, CodeArguments, CompareArguments,
+    DemodArguments, ExitBy, JoinArguments, JudgeArguments, LinkArguments, ModArguments,
+    ModesArguments, NoiseArguments, NoteArguments, NumberArguments, Progress, RecordArguments,
+    Request, RowsArguments, RunArguments, ScanArguments, Seeds, ShapeArguments, StrengthArguments,
+    TableArguments, TuningArguments, WordsArguments,
 };
 pub use unread::Unread;

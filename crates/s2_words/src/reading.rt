@@ -6,11 +6,11 @@ use crate::options::{progress_by, read_modcod};
 use crate::parser::program;
 use crate::refusal::{not_understood, unread_of};
 use crate::request::{
-    AuditArguments, ChannelArguments, CheckArguments, CodeArguments, DemodArguments, ExitBy,
-    JoinArguments, JudgeArguments, LinkArguments, ModArguments, ModesArguments, NoiseArguments,
-    NoteArguments, NumberArguments, Progress, RecordArguments, Request, RowsArguments,
-    RunArguments, ScanArguments, Seeds, ShapeArguments, StrengthArguments, TableArguments,
-    TuningArguments,
+    AuditArguments, ChannelArguments, CheckArguments, CodeArguments, CompareArguments,
+    DemodArguments, ExitBy, JoinArguments, JudgeArguments, LinkArguments, ModArguments,
+    ModesArguments, NoiseArguments, NoteArguments, NumberArguments, Progress, RecordArguments,
+    Request, RowsArguments, RunArguments, ScanArguments, Seeds, ShapeArguments, StrengthArguments,
+    TableArguments, TuningArguments, WordsArguments,
 };
 use crate::seed_range::read_seeds;
 use crate::unread::Unread;
@@ -220,6 +220,25 @@ fn check_of<'a>(m: &ArgMatches<'a>) -> Option<Request<'a>> {
     }))
 }
 
+/// The form of the words. The parser refuses both options at once.
+fn words_form_of(m: &ArgMatches<'_>) -> WordsArguments {
+    match (m.get_flag("bbframes"), m.get_flag("bits")) {
+        (true, _) => WordsArguments::Bbframes,
+        (false, true) => WordsArguments::Digits,
+        (false, false) => WordsArguments::Bytes,
+    }
+}
+
+fn compare_of<'a>(m: &ArgMatches<'a>) -> Option<Request<'a>> {
+    Some(Request::Compare(CompareArguments {
+        code: code_of(m)?,
+        form: words_form_of(m),
+        rows: m.get_str("ROWS")?,
+        certificates: m.get_str("CERTIFICATES")?,
+        words: m.get_str("WORDS")?,
+    }))
+}
+
 fn mod_of<'a>(m: &ArgMatches<'a>) -> Option<Request<'a>> {
     Some(Request::Mod(ModArguments {
         link: link_of(m)?,
@@ -319,6 +338,7 @@ fn request_of<'a>(name: &str, m: &ArgMatches<'a>) -> Option<Request<'a>> {
         "scan" => scan_of(m),
         "join" => join_of(m),
         "audit" => audit_of(m),
+        "compare" => compare_of(m),
         _ => None,
     }
 }

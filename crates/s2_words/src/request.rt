@@ -108,6 +108,24 @@ pub struct CheckArguments<'a> {
     pub certificate: &'a str,
 }
 
+/// The form of a device's words: bytes, text of digits, or BBFRAMEs.
+#[derive(Clone, Copy)]
+pub enum WordsArguments {
+    Bytes,
+    Digits,
+    Bbframes,
+}
+
+/// `compare`: a code, the form of the words, and the files.
+#[derive(Clone, Copy)]
+pub struct CompareArguments<'a> {
+    pub code: CodeArguments,
+    pub form: WordsArguments,
+    pub rows: &'a str,
+    pub certificates: &'a str,
+    pub words: &'a str,
+}
+
 /// Whether progress is shown on standard error.
 #[derive(Clone, Copy)]
 pub enum Progress {
@@ -273,4 +291,5 @@ pub enum Request<'a> {
     Scan(ScanArguments<'a>),
     Join(JoinArguments<'a>),
     Audit(AuditArguments<'a>),
+    Compare(CompareArguments<'a>),
 }

@@ -1,13 +1,13 @@
 //! The table of the command line: the commands, and the arguments of each.
 use crate::arguments::{
-    Argument, BBFRAMES, BBFRAMES_READ, CERTIFICATE, CERTIFICATE_READ, CERTIFICATES,
-    CERTIFICATES_READ, CLEAN_SYMBOLS, CODEWORDS, DIVISOR, DIVISOR_OF_REPORT, DUMMY,
-    EACH_CERTIFICATE, EACH_FRAME, ESN0, EVERY, EXIT_BY, FACTOR, FIGURES, FIRST, GROUP,
-    GROUP_OR_MODE, GROUPS, GROUPS_OR_MODE, HARD, LEVEL, LOCK, MODCOD, MODCOD_OR_NONE,
+    Argument, BBFRAMES, BBFRAMES_GIVEN, BBFRAMES_READ, BITS_GIVEN, CERTIFICATE, CERTIFICATE_READ,
+    CERTIFICATES, CERTIFICATES_GIVEN, CERTIFICATES_READ, CLEAN_SYMBOLS, CODEWORDS, DIVISOR,
+    DIVISOR_OF_REPORT, DUMMY, EACH_CERTIFICATE, EACH_FRAME, ESN0, EVERY, EXIT_BY, FACTOR, FIGURES,
+    FIRST, GROUP, GROUP_OR_MODE, GROUPS, GROUPS_OR_MODE, HARD, LEVEL, LOCK, MODCOD, MODCOD_OR_NONE,
     NOISY_SYMBOLS, NUMBER, PACKETS, PACKETS_MADE, PACKETS_RECEIVED, PASSES, PILOTS, PROGRESS, Q,
     Q_OR_MODE, QUIET, QUIET_AND_STILL, RATE, RECORDING, REPORT, RESYNC, ROLL_OFF, ROLL_OFF_READ,
     ROUNDS, ROWS, SEED, SEED_OR_SEEDS, SEEDS, SENT_BBFRAMES, SENT_CODEWORDS, SHORT, SOFT_VALUES,
-    STRICT, SYMBOLS, SYMBOLS_MADE, TUNED, TUNED_REPORT, UNCERTIFIED, VALUES, WEIGHT,
+    STRICT, SYMBOLS, SYMBOLS_MADE, TUNED, TUNED_REPORT, UNCERTIFIED, VALUES, WEIGHT, WORDS,
 };
 
 /// The commands.
@@ -25,6 +25,7 @@ pub(crate) enum CommandName {
     Scan,
     Join,
     Audit,
+    Compare,
 }
 
 /// A command, its name and its first line of help. Its options and the rest of its help are separate, so that no proof
@@ -37,7 +38,7 @@ pub(crate) struct CommandHelp {
 }
 
 /// All commands, in the order of the help.
-static COMMANDS: [CommandHelp; 12] = [
+static COMMANDS: [CommandHelp; 13] = [
     CommandHelp {
         command: CommandName::Demod,
         name: "demod",
@@ -92,6 +93,11 @@ static COMMANDS: [CommandHelp; 12] = [
         command: CommandName::Audit,
         name: "audit",
         about: "Checks a report against its certificates, without decoding",
+    },
+    CommandHelp {
+        command: CommandName::Compare,
+        name: "compare",
+        about: "Compares another receiver's words with certified ones, without decoding",
     },
     CommandHelp {
         command: CommandName::Join,
@@ -249,6 +255,21 @@ static AUDIT_ARGUMENTS: [Argument; 11] = [
     CERTIFICATES_READ,
 ];
 
+/// The arguments of `compare`, in order.
+static COMPARE_ARGUMENTS: [Argument; 11] = [
+    GROUP_OR_MODE,
+    GROUPS_OR_MODE,
+    Q_OR_MODE,
+    MODCOD_OR_NONE,
+    SHORT,
+    BBFRAMES_GIVEN,
+    BITS_GIVEN,
+    QUIET,
+    ROWS,
+    CERTIFICATES_GIVEN,
+    WORDS,
+];
+
 /// The arguments of a command.
 pub(crate) fn arguments_of(command: CommandName) -> &'static [Argument] {
     match command {
@@ -264,6 +285,7 @@ pub(crate) fn arguments_of(command: CommandName) -> &'static [Argument] {
         CommandName::Scan => &SCAN_ARGUMENTS,
         CommandName::Join => &JOIN_ARGUMENTS,
         CommandName::Audit => &AUDIT_ARGUMENTS,
+        CommandName::Compare => &COMPARE_ARGUMENTS,
     }
 }
 
@@ -295,7 +317,7 @@ const SEEDING: Choice = Choice {
 /// The choices of a command.
 pub(crate) fn choices_of(command: CommandName) -> &'static [Choice] {
     match command {
-        CommandName::Judge => &[CODE],
+        CommandName::Judge | CommandName::Compare => &[CODE],
         CommandName::Noise => &[STRENGTH],
         CommandName::Run => &[SEEDING, STRENGTH],
         _ => &[],
@@ -334,11 +356,19 @@ const NO_PASSES: Rule = Rule {
     excluded: &["passes"],
 };
 
+/// BBFRAMEs are those of a mode.
+const MODE_OF_BBFRAMES: Rule = Rule {
+    given: &["bbframes"],
+    needed: &["modcod"],
+    excluded: &["bits"],
+};
+
 /// The rules for the options of a command, at most one per option.
 fn rules_of(command: CommandName) -> &'static [Rule] {
     match command {
         CommandName::Modes => &[LENGTH_OF_MODE],
         CommandName::Judge => &[WHOLE_SHAPE, LENGTH_OF_MODE, NO_PASSES],
+        CommandName::Compare => &[WHOLE_SHAPE, LENGTH_OF_MODE, MODE_OF_BBFRAMES],
         CommandName::Demod | CommandName::Run => &[NO_PASSES],
         _ => &[],
     }

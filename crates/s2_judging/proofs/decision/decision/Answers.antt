@@ -1,6 +1,7 @@
-use Rattle.std.proofs.Common.{◌≡◌, ap, ◌∙◌, subst}
+use Rattle.std.proofs.Common.{◌≡◌, ℕ, Option, ap, ◌∙◌, subst}
 use Rattle.s2_rows.specs.Rows.{Rows}
 use Rattle.s2_judge.specs.Deciding.{Decided, decided, IsShown}
+use Rattle.s2_judging.specs.Judging.{Says}
 use Rattle.s2_judging.proofs.JudgeLemmas.{says, shown}
 use Rattle.s2_judging.proofs.decision.decision.Goals as goal
 
@@ -8,8 +9,10 @@ pub returns-clause-says : goal.returns-clause-says
 returns-clause-says c =
     let d : Decided = decided c.args.matrix.now c.args.judge.now.tuning c.args.soft.now in
     let same : decided c.args.judge.now.rows c.args.judge.now.tuning c.args.soft.now ≡ d = ap (λ r. decided r c.args.judge.now.tuning c.args.soft.now) c.requires.rows in
-    says c.args.matrix.now c.args.soft.now d c.judge-verdict.result c.word.result.now c.judgement.result.exit c.judgement.result.text (c.judge-verdict.ensures.verdict ∙ ap (λ x. x.verdict) same)
-    (c.word.ensures.is ∙ (c.judge-verdict.ensures.bits ∙ ap (λ x. x.bits) same)) c.judgement.ensures.says
+    let word = c.word-word.result.now in
+    let told = subst (λ (o : Option ℕ). Says c.judge-verdict.result c.args.matrix.now c.args.soft.now word o c.judgement.result.exit c.judgement.result.text) c.changed_by.ensures c.judgement.ensures.says in
+    says c.args.hard c.args.matrix.now c.args.soft.now d c.judge-verdict.result word c.judgement.result.exit c.judgement.result.text (c.judge-verdict.ensures.verdict ∙ ap (λ x. x.verdict) same)
+    (c.word-word.ensures.is ∙ (c.judge-verdict.ensures.bits ∙ ap (λ x. x.bits) same)) told
 
 pub returns-clause-certificate : goal.returns-clause-certificate
 returns-clause-certificate c =

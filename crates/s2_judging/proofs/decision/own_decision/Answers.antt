@@ -1,4 +1,4 @@
-use Rattle.std.proofs.Common.{◌≡◌, List, Bool, sym, ap, subst, ◌∙◌}
+use Rattle.std.proofs.Common.{◌≡◌, List, Bool, false, sym, ap, subst, ◌∙◌}
 use Rattle.s2_rows.specs.Rows.{Rows}
 use Rattle.s2_matrix.specs.Code.{code_of, IsCodeword}
 use Rattle.s2_check.specs.Cost.{IsMostLikely}
@@ -36,5 +36,5 @@ returns c =
     let d : Decided = decided c.args.matrix.now c.args.judge.now.tuning c.args.soft.now in
     let same : decided c.args.judge.now.rows c.args.judge.now.tuning c.args.soft.now ≡ d = ap (λ r. decided r c.args.judge.now.tuning c.args.soft.now) c.requires.rows in
     let own : Decided = record { verdict = own_verdict d.verdict; bits = d.bits; certificate = d.certificate } in
-    says c.args.matrix.now c.args.soft.now own c.own_verdict.result c.word.result.now c.judgement.result.exit c.judgement.result.text
+    says false c.args.matrix.now c.args.soft.now own c.own_verdict.result c.word.result.now c.judgement.result.exit c.judgement.result.text
     (c.own_verdict.ensures ∙ ap own_verdict (c.judge-verdict.ensures.verdict ∙ ap (λ x. x.verdict) same)) (c.word.ensures.is ∙ (c.judge-verdict.ensures.bits ∙ ap (λ x. x.bits) same)) c.judgement.ensures.says

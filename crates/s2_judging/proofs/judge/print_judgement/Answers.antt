@@ -36,7 +36,7 @@ returns-in_err-judged-clause-run g c =
     let P : JudgeFiles → Type 0 = λ fs. IfSome fs.rows (λ xs. IfSome fs.soft (λ ys. Follows view (Err f) (inputs_by c.args.hard c.args.shape xs ys))) in
     let p = err_from_is_err_and c.from_residual.result c.from_residual.ensures.1 in
     let Is = AreInputsBy c.args.hard c.args.shape c.args.files.now.rows c.args.files.now.soft in
-    let Says = IsJudgedAndCertified c.args.tuning c.args.files.now.certificate (written g.C.CountedWrite.contents g.C.Counted.count c.files.inside.certificate) in
+    let Says = IsJudgedAndCertified c.args.hard c.args.tuning c.args.files.now.certificate (written g.C.CountedWrite.contents g.C.Counted.count c.files.inside.certificate) in
     rw (p.1, p.2) (refused Says Is f (g.O.CountedWrite.contents c.args.out.now) (g.O.CountedWrite.contents c.args.out.now)
     (refused_inputs Says view c.args.hard c.args.shape c.args.files.now.rows c.args.files.now.soft f (subst P c.files.view_is c.in_err-judged.ensures.says)) refl)
 
@@ -51,12 +51,12 @@ returns-in_err-exit-clause-run g c =
     let file = written g.C.CountedWrite.contents g.C.Counted.count in
     let input : Rows × List ℤ = (c.in_ok-judged.judged.matrix, c.in_ok-judged.judged.soft.items) in
     let Is = AreInputsBy c.args.hard c.args.shape (g.R.CountedRead.remaining c.files.inside.rows) (g.R.CountedRead.remaining c.files.inside.soft) in
-    let Says = IsJudgedAndCertified c.args.tuning (file c.files.inside.certificate) (file c.print_soft.new.certificate) in
+    let Says = IsJudgedAndCertified c.args.hard c.args.tuning (file c.files.inside.certificate) (file c.print_soft.new.certificate) in
     let p = err_from_is_err_and c.from_residual-in_err-exit.result c.from_residual-in_err-exit.ensures.1 in
     let f = c.in_err-exit.field-0.0 in
     let old = g.O.CountedWrite.contents c.args.out.now in
     let new = g.O.CountedWrite.contents c.print_soft.new.out in
-    let P : JudgeFiles → Type 0 = λ fs. CommandRuns (IsJudgedAndCertified c.args.tuning fs.certificate (file c.print_soft.new.certificate)) (AreInputsBy c.args.hard c.args.shape fs.rows fs.soft) (Err f) old new in
+    let P : JudgeFiles → Type 0 = λ fs. CommandRuns (IsJudgedAndCertified c.args.hard c.args.tuning fs.certificate (file c.print_soft.new.certificate)) (AreInputsBy c.args.hard c.args.shape fs.rows fs.soft) (Err f) old new in
     rw (p.1, p.2) (subst P c.files.view_is (runs_moved Says (IsOnly input) Is (Err f) old new (λ said e. subst Is (sym e) c.in_ok-judged.ensures.says) c.in_err-exit.ensures.run))
 
 pub returns-in_err-exit-clause-leaves : goal.returns-in_err-exit-clause-leaves
@@ -72,7 +72,7 @@ returns-clause-run g c =
     let file = written g.C.CountedWrite.contents g.C.Counted.count in
     let input : Rows × List ℤ = (c.in_ok-judged.judged.matrix, c.in_ok-judged.judged.soft.items) in
     let Is = AreInputsBy c.args.hard c.args.shape (g.R.CountedRead.remaining c.files.inside.rows) (g.R.CountedRead.remaining c.files.inside.soft) in
-    let Says = IsJudgedAndCertified c.args.tuning (file c.files.inside.certificate) (file c.print_soft.new.certificate) in
+    let Says = IsJudgedAndCertified c.args.hard c.args.tuning (file c.files.inside.certificate) (file c.print_soft.new.certificate) in
     rw (sym c.files.view_is) (runs_moved Says (IsOnly input) Is (Ok c.in_ok-exit.exit) _ _ (λ said e. subst Is (sym e) c.in_ok-judged.ensures.says) c.in_ok-exit.ensures.run)
 
 pub returns-clause-looks : goal.returns-clause-looks

@@ -8,7 +8,7 @@ use Rattle.s2_judging.proofs.judge_each.judge_frames.Goals as goal
 
 pub frames-init : goal.frames-init
 frames-init g c = record {
-  so_far = starts _ _ _ _ _;
+  so_far = starts c.args.hard _ _ _ _ _;
   spends = Spends-refl _ _;
   rows = c.requires.rows;
   tuning = refl;
@@ -37,8 +37,8 @@ returns-in_err-next-clause-judges g c = λ known spent.
     let new = g.O.CountedWrite.contents c.judge_next.new.out in
     let f = c.in_err-next.field-0.0 in
     let p = err_from_is_err_and c.from_residual.result c.from_residual.ensures.1 in
-    rw (p.1, p.2) (stops rows asked known words before after c.frames.judged c.frames.exit c.frames.bits start mid last old out new (g.R.CountedRead.remaining c.args.soft.now) rest c.args.frames.now.reading.left left f
-    c.frames.invariant.so_far spent c.frames.invariant.spends (next_moved rows c.frames.judge.tuning asked before after rest left mid last out new (Err f) c.frames.invariant.tuning c.in_err-next.ensures.judges))
+    rw (p.1, p.2) (stops c.args.hard rows asked known words before after c.frames.judged c.frames.exit c.frames.bits start mid last old out new (g.R.CountedRead.remaining c.args.soft.now) rest c.args.frames.now.reading.left left f
+    c.frames.invariant.so_far spent c.frames.invariant.spends (next_moved c.args.hard rows c.frames.judge.tuning asked before after rest left mid last out new (Err f) c.frames.invariant.tuning c.in_err-next.ensures.judges))
 
 pub returns-in-None-clause-judges : goal.returns-in-None-clause-judges
 returns-in-None-clause-judges g c = λ known spent.
@@ -56,8 +56,8 @@ returns-in-None-clause-judges g c = λ known spent.
     let old = g.O.CountedWrite.contents c.args.out.now in
     let out = g.O.CountedWrite.contents c.frames.out in
     let new = g.O.CountedWrite.contents c.judge_next.new.out in
-    finishes rows asked known words before after c.frames.judged c.frames.exit c.frames.bits c.both-looks_hard.result start mid last (file c.finish.new.certificates) old out new rest left c.in_ok-next.next c.finish.result
-    c.frames.invariant.so_far c.in-None.is (next_moved rows c.frames.judge.tuning asked before after rest left mid last out new (Ok c.in_ok-next.next) c.frames.invariant.tuning c.in_ok-next.ensures.judges) c.both-looks_hard.ensures c.finish.ensures.begun
+    finishes c.args.hard rows asked known words before after c.frames.judged c.frames.exit c.frames.bits c.both-looks_hard.result start mid last (file c.finish.new.certificates) old out new rest left c.in_ok-next.next c.finish.result
+    c.frames.invariant.so_far c.in-None.is (next_moved c.args.hard rows c.frames.judge.tuning asked before after rest left mid last out new (Ok c.in_ok-next.next) c.frames.invariant.tuning c.in_ok-next.ensures.judges) c.both-looks_hard.ensures c.finish.ensures.begun
 
 pub frames-preserved : goal.frames-preserved
 frames-preserved g c =
@@ -76,8 +76,8 @@ frames-preserved g c =
     let out = g.O.CountedWrite.contents c.frames.out in
     let new = g.O.CountedWrite.contents c.judge_next.new.out in
     record {
-      so_far = grows rows asked words before after c.frames.judged c.frames.exit c.worse-exit.result c.frames.bits c.both-bits.result start mid last old out new rest left c.in_ok-next.next c.in-Some.ran
-          c.frames.invariant.so_far c.in-Some.is (next_moved rows c.frames.judge.tuning asked before after rest left mid last out new (Ok c.in_ok-next.next) c.frames.invariant.tuning c.in_ok-next.ensures.judges) c.worse-exit.ensures c.both-bits.ensures;
+      so_far = grows c.args.hard rows asked words before after c.frames.judged c.frames.exit c.worse-exit.result c.frames.bits c.both-bits.result start mid last old out new rest left c.in_ok-next.next c.in-Some.ran
+          c.frames.invariant.so_far c.in-Some.is (next_moved c.args.hard rows c.frames.judge.tuning asked before after rest left mid last out new (Ok c.in_ok-next.next) c.frames.invariant.tuning c.in_ok-next.ensures.judges) c.worse-exit.ensures c.both-bits.ensures;
       spends = Spends-trans _ _ _ _ _ _ c.frames.invariant.spends c.in_ok-next.ensures.spends;
       rows = c.in_ok-next.ensures.same.0 ∙ c.frames.invariant.rows;
       tuning = c.in_ok-next.ensures.same.1 ∙ c.frames.invariant.tuning;
@@ -91,5 +91,5 @@ frames-preserved g c =
 pub returns-clause-judges : goal.returns-clause-judges
 returns-clause-judges g c = λ known spent.
     let file = written g.C.CountedWrite.contents g.C.Counted.count in
-    full c.args.matrix.now c.args.judge.now.tuning known (pending_in c.args.frames.now (g.R.CountedRead.remaining c.args.soft.now)) (pending_in c.frames.frames (g.R.CountedRead.remaining c.frames.soft)) c.frames.judged c.frames.exit c.frames.bits
+    full c.args.hard c.args.matrix.now c.args.judge.now.tuning known (pending_in c.args.frames.now (g.R.CountedRead.remaining c.args.soft.now)) (pending_in c.frames.frames (g.R.CountedRead.remaining c.frames.soft)) c.frames.judged c.frames.exit c.frames.bits
     (file c.args.certificates.now) (file c.frames.certificates) (g.O.CountedWrite.contents c.args.out.now) (g.O.CountedWrite.contents c.frames.out) c.frames.invariant.so_far (omega (arith, c.frames-test.false, c.frames.auto.judged-end))

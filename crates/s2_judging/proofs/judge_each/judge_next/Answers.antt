@@ -19,7 +19,7 @@ returns-in_err-found-clause-judges g c =
     let before = (pending_in c.args.frames.now (g.R.CountedRead.remaining c.args.soft.now)) in
     let after = (pending_in c.read.new.self (g.R.CountedRead.remaining c.read.new.reader)) in
     let p = err_from_is_err_and c.from_residual.result c.from_residual.ensures.1 in
-    rw (p.1, p.2) (next_refused c.args.matrix.now c.args.judge.now.tuning before after rest left (file c.args.certificates.now) (file c.args.certificates.now) out out [] f
+    rw (p.1, p.2) (next_refused c.args.hard c.args.matrix.now c.args.judge.now.tuning before after rest left (file c.args.certificates.now) (file c.args.certificates.now) out out [] f
     (refused_values n left before after c.read.new.self.values.items [] rest f (takes_moved c.args.frames.now.count n left before after c.read.new.self.values.items rest (Err f) c.requires.count c.in_err-found.ensures.takes)) refl refl)
 
 pub returns-then-not-found-clause-judges : goal.returns-then-not-found-clause-judges
@@ -36,8 +36,8 @@ returns-in_err-ran-clause-judges g c =
     let left = c.args.frames.now.reading.left in
     let p = err_from_is_err_and c.from_residual-in_err-ran.result c.from_residual-in_err-ran.ensures.1 in
     let long : length frame ≡ (code_of c.args.matrix.now).bits = search rules in
-    rw (p.1, p.2) (next_cut c.args.matrix.now c.args.judge.now.tuning before after rest left (file c.args.certificates.now) (file c.judge_frame.new.certificates) (g.O.CountedWrite.contents c.args.out.now) (g.O.CountedWrite.contents c.judge_frame.new.out)
-    frame c.in_err-ran.field-0.0 long (took_frame c.args.frames.now.count left before after frame rest c.in_ok-found.found (search rules) c.in_ok-found.ensures.takes) (subst (λ (values : List ℤ). JudgesOne c.args.matrix.now c.args.judge.now.tuning values (file c.args.certificates.now) (file c.judge_frame.new.certificates) (g.O.CountedWrite.contents c.args.out.now) (g.O.CountedWrite.contents c.judge_frame.new.out) (Err c.in_err-ran.field-0.0)) c.values.ensures c.in_err-ran.ensures.judges))
+    rw (p.1, p.2) (next_cut c.args.hard c.args.matrix.now c.args.judge.now.tuning before after rest left (file c.args.certificates.now) (file c.judge_frame.new.certificates) (g.O.CountedWrite.contents c.args.out.now) (g.O.CountedWrite.contents c.judge_frame.new.out)
+    frame c.in_err-ran.field-0.0 long (took_frame c.args.frames.now.count left before after frame rest c.in_ok-found.found (search rules) c.in_ok-found.ensures.takes) (subst (λ (values : List ℤ). JudgesOne c.args.hard c.args.matrix.now c.args.judge.now.tuning values (file c.args.certificates.now) (file c.judge_frame.new.certificates) (g.O.CountedWrite.contents c.args.out.now) (g.O.CountedWrite.contents c.judge_frame.new.out) (Err c.in_err-ran.field-0.0)) c.values.ensures c.in_err-ran.ensures.judges))
 
 pub returns-clause-judges : goal.returns-clause-judges
 returns-clause-judges g c =

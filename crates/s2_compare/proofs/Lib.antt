@@ -1,0 +1,4 @@
+pub mod AnswerLemmas
+pub mod SpellingLemmas
+pub mod CountLemmas
+pub mod EachLemmas

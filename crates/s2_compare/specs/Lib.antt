@@ -1,0 +1,9 @@
+pub mod Comparing
+pub mod Devices
+pub mod Readers
+pub mod Stepping
+pub mod Encoders
+pub mod Counting
+pub mod Lines
+pub mod Feeding
+pub mod ComparingEach
