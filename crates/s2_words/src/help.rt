@@ -143,7 +143,7 @@ macro_rules! report {
             "\
 The report, a line per frame as it is decided, and a line at the end:
   frame I at SYMBOL VERDICT fixed COUNT       delivered; the outer code corrected COUNT bits
-  frame I at SYMBOL VERDICT lost              not delivered: too much noise (try --rounds 200), or another --number or other ROWS than the sender's
+  frame I at SYMBOL VERDICT lost              not delivered: too much noise (try --tuned), or another --number or other ROWS than the sender's
   cut at SYMBOL symbols COUNT                 the symbols end inside a frame: only COUNT of its symbols are there
   end frames F delivered D packets P bad B    D of F frames were delivered, P packets were written, B packets had a wrong CRC-8
 ",
@@ -171,7 +171,7 @@ Verdicts:
   sole         proved: every other codeword is less likely
   most-likely  proved: no codeword is more likely
   parity       all parity checks hold, but no certificate was found (try --passes 96); with `fixed` the packets are good
-  broken       a parity check fails (try --rounds 200); with `fixed` the packets are good all the same
+  broken       a parity check fails (try --tuned); with `fixed` the packets are good all the same
 
 Exit status:
   0  every frame is delivered, and sole or most-likely
