@@ -110,7 +110,7 @@ def compare_effects(certificates, bbframes):
         words = TOY.replace(f"--{name} {usual}", "{}")
         lacks = ended("", 1, f"s2: missing: {missing[name]}; see s2 compare --help\n")
         # with another q the certificate has another shape, and a word has another size
-        yield Effect(f"--{name}", f"compare {words} {{}} toy c w", {"": lacks} | each(f"--{name}", (usual, other), (same, refused(text))), toy)
+        yield Effect(f"--{name}", f"compare {words} toy c w", {"": lacks} | each(f"--{name}", (usual, other), (same, refused(text))), toy)
     text = {"reads": {"c": STORED_MOVED, "w": b"10000000111100001111\n"}}
     yield Effect("--bits", f"compare {TOY} {{}} toy c w", {"": ended("frame 1 no-codeword checks 6 changed 9\n", 1, "s2: words: more than certificates\n"), "--bits": same}, text)
     yield Effect("--quiet", f"compare {TOY} {{}} toy c w", dict.fromkeys(("", "--quiet"), same), toy)
