@@ -112,7 +112,7 @@ def compare_effects(certificates, bbframes):
         # with another q the certificate has another shape, and a word has another size
         yield Effect(f"--{name}", f"compare {words} toy c w", {"": lacks} | each(f"--{name}", (usual, other), (same, refused(text))), toy)
     text = {"reads": {"c": STORED_MOVED, "w": b"10000000111100001111\n"}}
-    yield Effect("--bits", f"compare {TOY} {{}} toy c w", {"": ended("frame 1 no-codeword checks 6 changed 9\n", 1, "s2: words: more than certificates\n"), "--bits": same}, text)
+    yield Effect("--bits", f"compare {TOY} {{}} toy c w", {"": ended("frame 1 no-codeword checks 6 changed 8\n", 1, "s2: words: more than certificates\n"), "--bits": same}, text)
     yield Effect("--quiet", f"compare {TOY} {{}} toy c w", dict.fromkeys(("", "--quiet"), same), toy)
     none = {"reads": {"c": b"", "w": b""}}
     nothing, large = ended(comparing.printed([])), refused(OTHER_SHORT[0])
