@@ -15,7 +15,7 @@ numbers in an iterable.
 Each object takes one call at a time, and other threads wait meanwhile. Different objects work at the same time. What the library refuses
 raises `Error` with the library's text. Numbers that no C type can hold, and arrays of another type, raise `ValueError` and `TypeError`.
 """
-from ._library import Error, library
+from ._library import FOLDERS, Error, library
 from .code import NAMES, Code, Mode
 from .evidence import ANSWERS, Checked, Judge, Judgement, check, judge
 from .receiver import OUTCOMES, RECORDS, VERDICTS, Cut, Figures, Frame, Receiver, Totals
@@ -24,6 +24,6 @@ from .transmitter import SentFrame, Transmitter
 
 __version__ = "0.1"
 __all__ = [
-    *("ANSWERS", "Checked", "Code", "Cut", "Error", "Figures", "Frame", "Judge", "Judgement", "Mode", "NAMES", "OUTCOMES", "RECORDS", "Receiver"),
+    *("ANSWERS", "Checked", "Code", "Cut", "Error", "FOLDERS", "Figures", "Frame", "Judge", "Judgement", "Mode", "NAMES", "OUTCOMES", "RECORDS", "Receiver"),
     *("Scanner", "Seen", "SentFrame", "Totals", "Transmitter", "VERDICTS", "check", "judge", "library", "scan"),
 ]

@@ -2,6 +2,7 @@
 from __future__ import annotations
 
 import ctypes
+import functools
 import os
 import threading
 import weakref
@@ -10,8 +11,11 @@ from typing import Any
 
 from ._symbols import numbers_for
 
-HERE = os.path.dirname(os.path.abspath(__file__))
 FILE = "libs2.so"
+HERE = os.path.dirname(os.path.abspath(__file__))
+FOLDERS = [HERE, os.path.join(HERE, ".."), os.path.join(HERE, "../../build")]
+"""The folders in which the library is looked for."""
+
 VERSION = 1
 """The version of the header that this package is written for."""
 
@@ -167,12 +171,12 @@ CALLS: dict[str, list[Any]] = {
 
 
 def places() -> list[str]:
-    """Where the library is looked for: S2_LIBRARY in the environment, or else beside this package, in the build folder of the sources, and
-    where the system looks for libraries."""
+    """Where the library is looked for: S2_LIBRARY in the environment, which is its path or its folder. Without it, in `FOLDERS`, and where
+    the system looks for libraries."""
     given = os.environ.get("S2_LIBRARY")
     if given:
         return [os.path.join(given, FILE) if os.path.isdir(given) else given]
-    return [os.path.join(HERE, FILE), os.path.join(HERE, "..", FILE), os.path.join(HERE, "../../build", FILE), FILE]
+    return [*(os.path.join(folder, FILE) for folder in FOLDERS), FILE]
 
 
 def _opened() -> ctypes.CDLL:
@@ -227,17 +231,18 @@ class Library:
         self._loaded.s2_end(ctypes.byref(handle))
 
 
-_library: Library | None = None
+@functools.lru_cache(maxsize=None)
+def _loaded_once() -> Library:
+    return Library()
+
+
 _loading = threading.Lock()
 
 
 def library() -> Library:
     """The library, loaded at the first use."""
-    global _library
     with _loading:
-        if _library is None:
-            _library = Library()
-    return _library
+        return _loaded_once()
 
 
 class Held:

@@ -17,7 +17,8 @@ OUTCOMES = ("delivered", "no word", "bad crc", "other stream", "bad lengths")
 """What became of the data field of a frame, in the order of its numbers."""
 
 NONE, FRAME, CUT, END = range(4)
-PACKETS, CERTIFICATE = 7520, 1 << 18
+# The bytes of packets per frame, and room for a certificate.
+PACKETS, CERTIFICATE = 7520, 1 << 19
 RECORDS = ("soft", "word", "bbframe", "certificate")
 """The records of a frame that the receiver has until its next step."""
 

@@ -11,7 +11,7 @@
 #include <unistd.h>
 
 enum { CODE = 1, RECEIVER, TRANSMITTER, JUDGE, SCANNER };
-enum { ROOM = 40, FIELD = 100, BITS = 64800, CERTIFICATE = 300000 };
+enum { ROOM = 40, FIELD = 100, BITS = 64800, CERTIFICATE = 600000 };
 
 typedef struct {
     int kind;

@@ -190,7 +190,7 @@ def try_frames():
         judge(f"bits of frame {number}", [(number + place // 3) & 1 for place in range(64800)], plain(frame.word))
         is_there = frame.outcome == "delivered"
         judge(f"BBFRAME of frame {number}", bytes((3 * number + place) % 256 for place in range(6051)) if is_there else None, frame.bbframe)
-        certificate = bytes((5 * number + place) % 256 for place in range(300000))
+        certificate = bytes((5 * number + place) % 256 for place in range(600000))
         judge(f"certificate of frame {number}", certificate if frame.verdict in ("sole", "most-likely") else None, frame.certificate)
         judge(f"packets of frame {number}", bytes((number + place) % 256 for place in range(188 * number)), frame.packets)
         judge(f"figures of frame {number}", [number + it for it in range(1, 10)] + [-number - 10, -number - 11, number + 12, -number - 13, -number - 14], figures_in_order(frame.figures))
@@ -230,7 +230,7 @@ def try_receiver():
     judge("the last one's", soft_of(2), plain(second.soft))
     kept = sembarohy.Receiver(code_of(), 7, keep=["soft", "certificate"], figures=True)
     first, second = kept.feed(symbols_of([1, 3], [1, 0]))
-    judge("records that are kept", (soft_of(1), soft_of(2), 300000, None), (plain(first.soft), plain(second.soft), len(first.certificate), second.certificate))
+    judge("records that are kept", (soft_of(1), soft_of(2), 600000, None), (plain(first.soft), plain(second.soft), len(first.certificate), second.certificate))
     judge("one that is not", "RuntimeError", refusal(lambda: first.word).partition(":")[0])
     judge("sums", 1001, kept.sums.header)
     kept.end()
