@@ -8,8 +8,8 @@
         print(frame.number, frame.at, frame.verdict, len(frame.packets))
 
 The library does all the work: this package only passes arrays to it and takes arrays from it. It is found by S2_LIBRARY in the environment,
-which is its path or its folder. Otherwise it is found beside this package, or in `build/` of the sources, or where the system looks for
-libraries. numpy is optional: without it, arrays are those of the standard module `array`, and symbols are bytes, `array("h")` or complex
+which is its path or its folder. Otherwise it is found beside this package, in `build/` of the sources, or among the libraries of the system.
+numpy is optional: without it, arrays are those of the standard module `array`, and symbols are bytes, `array("h")` or complex
 numbers in an iterable.
 
 Each object takes one call at a time, and other threads wait meanwhile. Different objects work at the same time. What the library refuses

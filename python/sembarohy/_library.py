@@ -171,8 +171,8 @@ CALLS: dict[str, list[Any]] = {
 
 
 def places() -> list[str]:
-    """Where the library is looked for: S2_LIBRARY in the environment, which is its path or its folder. Without it, in `FOLDERS`, and where
-    the system looks for libraries."""
+    """The possible paths of the library: that of S2_LIBRARY in the environment, which is its path or its folder. Without it, those in `FOLDERS`,
+    and its name among the libraries of the system."""
     given = os.environ.get("S2_LIBRARY")
     if given:
         return [os.path.join(given, FILE) if os.path.isdir(given) else given]

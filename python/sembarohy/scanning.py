@@ -44,7 +44,7 @@ class Seen:
 
 
 class Scanner(Held):
-    """Finds the headers in symbols of which nothing is known. It keeps at most 2^24 symbols."""
+    """Finds the headers in unknown symbols. It keeps at most 2^24 symbols."""
 
     def __init__(self) -> None:
         super().__init__()
@@ -56,7 +56,7 @@ class Scanner(Held):
         self._call("scan_feed", data, len(data))
 
     def find(self) -> list[Seen]:
-        """The kinds of headers in what was fed so far, the most probable first."""
+        """The kinds of headers in the symbols so far, the most probable first."""
         count = c_size_t()
         with self._lock:
             self._call("scan_find", ctypes.byref(count))

@@ -73,7 +73,7 @@ def try_header():
 
 
 def try_symbols():
-    """Symbols in each form, and what is refused."""
+    """Symbols in each form, and other types."""
     bytes_of, numbers = sembarohy._symbols.bytes_of, [700, -700, 32767, -32768, 0, 1]
     wanted = struct.pack(">6h", *numbers)
     forms = {"bytes": wanted, "bytearray": bytearray(wanted), "memoryview": memoryview(wanted), "array": array.array("h", numbers)}
@@ -356,7 +356,7 @@ def try_ends():
 
 
 def try_places():
-    """Where the library is looked for."""
+    """The places of the library."""
     judge("S2_LIBRARY", [LIBRARY], _library.places())
     os.environ["S2_LIBRARY"] = os.path.dirname(LIBRARY)
     judge("its folder", [os.path.join(os.path.dirname(LIBRARY), "libs2.so")], _library.places())
