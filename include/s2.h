@@ -4,7 +4,7 @@
  *
  * Results    A call returns S2_OK (0), or a negative code of enum s2_result. After a negative code nothing was
  *            changed and nothing was written, unless the call says otherwise. s2_error_text has a text for each code.
- * Handles    A handle is a code, a receiver, a transmitter, a judge or a scanner. `s2_handle h = {0};` is an empty one.
+ * Handles    A handle is a code, a shelf, a receiver, a transmitter, a judge or a scanner. `s2_handle h = {0};` is an empty one.
  *            A call whose name ends with _new fills an empty handle. s2_end ends what is behind a handle, gives back
  *            its memory, and leaves it empty. An ended or empty handle is answered with S2_EMPTY, one of another kind with
  *            S2_OTHER_KIND. The members belong to the library. Do not use two copies of a handle.
@@ -97,19 +97,27 @@ int32_t s2_mode_of(uint32_t modcod, uint32_t is_short, uint32_t has_pilots, s2_m
 
 /* ---- Codes: an LDPC code of address rows ------------------------------------------------------------------------ */
 
-/* The code of a mode from the text of a row file. Its tables (3.3 MB for normal frames) stay until the process ends.
- * The same rows again take no more memory: their code is found again. Codes: S2_BAD_OPTION, S2_BAD_MODE, S2_BAD_ROWS,
- * S2_NO_MEMORY, S2_IN_USE. */
+/* The code of a mode from the text of a row file. Its tables (3.3 MB for normal frames) stay until the process ends, also
+ * after s2_end: receivers share them. If a program makes the same codes again and again, it keeps them on a shelf, below.
+ * Codes: S2_IN_USE, S2_BAD_OPTION, S2_BAD_MODE, S2_BAD_ROWS, S2_NO_MEMORY. */
 int32_t s2_code_new(const uint8_t *text, size_t length, uint32_t modcod, uint32_t is_short, s2_handle *code);
 
 /* The code of any shape, for s2_check and judges: `groups` rows, `group` information bits for each, group * q checks.
- * Codes: S2_BAD_SHAPE, S2_BAD_ROWS, S2_NO_MEMORY, S2_IN_USE. */
+ * Codes: S2_IN_USE, S2_BAD_SHAPE, S2_BAD_ROWS, S2_NO_MEMORY. */
 int32_t s2_code_of_shape(const uint8_t *text, size_t length, uint32_t group, uint32_t groups, uint32_t q,
                          s2_handle *code);
 
 /* n and k of a code, and whether its rows are those of the standard (EN 302 307-1, annexes B and C): *is_standard is 1
  * or 0. It is 0 for a code that s2_code_of_shape made. Codes: S2_EMPTY, S2_OTHER_KIND. */
 int32_t s2_code_facts(s2_handle *code, uint32_t *n, uint32_t *k, uint32_t *is_standard);
+
+/* An empty shelf of codes. Codes: S2_IN_USE, S2_NO_MEMORY. */
+int32_t s2_shelf_new(s2_handle *shelf);
+
+/* As s2_code_new; but if a code with the same rows is on the shelf, it is that one, and takes no more memory. Otherwise
+ * the new code is put on the shelf. Codes: S2_IN_USE (of `code`), S2_EMPTY, S2_OTHER_KIND (of `shelf`), and as there. */
+int32_t s2_shelf_code(s2_handle *shelf, const uint8_t *text, size_t length, uint32_t modcod, uint32_t is_short,
+                      s2_handle *code);
 
 /* ---- Options: a link, and the tuning of a receiver -------------------------------------------------------------- */
 
@@ -219,7 +227,7 @@ int32_t s2_receiver_room(s2_handle *receiver, size_t *bytes);
 
 /* Takes bytes of symbols: as many as s2_receiver_room says, or fewer if the stream ends with them. Fewer always mean
  * the end, so keep bytes until there are enough. Writes the step. After it the calls below give what belongs to it. After
- * S2_STREAM_END each further call gives S2_NONE. Codes: S2_EMPTY, S2_OTHER_KIND, S2_BAD_SIZE, S2_TOO_MANY. */
+ * S2_STREAM_END each further call gives S2_STREAM_END again. Codes: S2_EMPTY, S2_OTHER_KIND, S2_BAD_SIZE, S2_TOO_MANY. */
 int32_t s2_receiver_advance(s2_handle *receiver, const uint8_t *symbols, size_t length, s2_step *step);
 
 /* The packets that end in the last step's frame, 188 bytes each, in stream order. Less than 7520 bytes. */
@@ -339,7 +347,7 @@ typedef struct s2_seen {
     uint64_t reserved[3];
 } s2_seen;
 
-/* A scanner. Codes: S2_NO_MEMORY, S2_IN_USE. */
+/* A scanner. Codes: S2_IN_USE, S2_NO_MEMORY. */
 int32_t s2_scan_new(s2_handle *scanner);
 
 /* Takes bytes of symbols, in any pieces. It keeps them, 2^26 bytes (2^24 symbols) at most: else S2_TOO_MANY. Codes: also
