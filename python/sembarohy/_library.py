@@ -135,6 +135,8 @@ CALLS: dict[str, list[Any]] = {
     "mode_of": [c_uint32, c_uint32, c_uint32, POINTER(Mode)],
     "code_new": [*_TEXT, c_uint32, c_uint32, _HANDLE],
     "code_of_shape": [*_TEXT, c_uint32, c_uint32, c_uint32, _HANDLE],
+    "shelf_new": [_HANDLE],
+    "shelf_code": [_HANDLE, *_TEXT, c_uint32, c_uint32, _HANDLE],
     "code_facts": [_HANDLE, _WORD, _WORD, _WORD],
     "receiver_new": [_HANDLE, POINTER(Options), _HANDLE],
     "receiver_reset": [_HANDLE],

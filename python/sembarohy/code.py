@@ -2,7 +2,9 @@
 from __future__ import annotations
 
 import ctypes
+import functools
 import os
+import threading
 from ctypes import c_uint32
 from dataclasses import dataclass
 from typing import Any
@@ -91,6 +93,22 @@ class Mode:
         return NAMES[self.modcod]
 
 
+class _Shelf(Held):
+    """The codes of modes that this process has made: the same rows again take no more memory."""
+
+    def __init__(self) -> None:
+        super().__init__()
+        self._library.call("shelf_new", ctypes.byref(self._handle))
+
+    def put(self, data: bytes, modcod: int, is_short: bool, code: Held) -> None:
+        """Fills the handle of a code."""
+        self._call("shelf_code", data, len(data), modcod, is_short, ctypes.byref(code._handle))
+
+
+_making = threading.Lock()
+_shelf = functools.lru_cache(maxsize=None)(_Shelf)
+
+
 class Code(Held):
     """An LDPC code of address rows. Receivers, transmitters and judges are made on it; it may end before them.
 
@@ -120,8 +138,9 @@ class Code(Held):
         data = text.encode("utf-8") if isinstance(text, str) else bytes(text)
         self.short = bool(short)
         if shape is None:
-            numbers = modcod_of(mode), self.short  # type: ignore[arg-type]
-            self._library.call("code_new", data, len(data), *numbers, ctypes.byref(self._handle))
+            with _making:
+                shelf = _shelf()
+            shelf.put(data, modcod_of(mode), self.short, self)  # type: ignore[arg-type]
         else:
             group, groups, q = (_small("a number of a shape", it) for it in shape)
             self._library.call("code_of_shape", data, len(data), group, groups, q, ctypes.byref(self._handle))

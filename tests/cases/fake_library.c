@@ -10,7 +10,7 @@
 #include <string.h>
 #include <unistd.h>
 
-enum { CODE = 1, RECEIVER, TRANSMITTER, JUDGE, SCANNER };
+enum { CODE = 1, SHELF, RECEIVER, TRANSMITTER, JUDGE, SCANNER };
 enum { ROOM = 40, FIELD = 100, BITS = 64800, CERTIFICATE = 600000 };
 
 typedef struct {
@@ -110,6 +110,16 @@ int32_t s2_code_new(const uint8_t *text, size_t length, uint32_t modcod, uint32_
     fake->k = (uint32_t)length;
     fake->standard = is_short;
     return S2_OK;
+}
+
+int32_t s2_shelf_new(s2_handle *shelf) {
+    make(shelf, SHELF);
+    return S2_OK;
+}
+
+int32_t s2_shelf_code(s2_handle *shelf, const uint8_t *text, size_t length, uint32_t modcod, uint32_t is_short, s2_handle *code) {
+    ENTER(shelf, SHELF)
+    return leave(fake, s2_code_new(text, length, modcod, is_short, code));
 }
 
 int32_t s2_code_of_shape(const uint8_t *text, size_t length, uint32_t group, uint32_t groups, uint32_t q, s2_handle *code) {
