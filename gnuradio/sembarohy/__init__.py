@@ -22,8 +22,9 @@ def _package():
     return importlib.import_module("sembarohy")
 
 
-_package().FOLDERS.insert(0, HERE)
+sembarohy = _package()
+sembarohy.FOLDERS.insert(0, HERE)
 
 from .blocks import receiver, transmitter  # noqa: E402: the package is looked for first
 
-__all__ = ["receiver", "transmitter"]
+__all__ = ["receiver", "sembarohy", "transmitter"]
