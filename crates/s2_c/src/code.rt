@@ -14,8 +14,8 @@ pub extern "C" fn s2_version() -> u32 {
 
 /// Copies the text of a result.
 #[unsafe(no_mangle)]
-pub extern "C" fn s2_error_text(result: i32, out: &mut [u8], count: &mut usize) -> i32 {
-    result_number(copy_bytes(text_of(result).as_bytes(), out, count))
+pub extern "C" fn s2_error_text(number: i32, out: &mut [u8], count: &mut usize) -> i32 {
+    result_number(copy_bytes(text_of(number).as_bytes(), out, count))
 }
 
 /// Gives the numbers of a mode.
