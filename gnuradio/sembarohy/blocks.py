@@ -21,9 +21,14 @@ def told(frame):
 
 
 class Ending(gr.basic_block):
-    """A block that ends its stream at a fault, with a line on standard error: GNU Radio itself would wait for ever. `fault` has it then."""
+    """A block that ends its stream at a fault, with a line on standard error: GNU Radio itself would wait for ever, or end the process. `fault` has
+    it then."""
 
     fault = None
+
+    def report(self, fault):
+        self.fault = fault
+        print(f"{self.name()}: {fault}", file=sys.stderr, flush=True)
 
     def forecast(self, noutput_items, ninputs):
         return [1] * ninputs
@@ -31,9 +36,8 @@ class Ending(gr.basic_block):
     def general_work(self, input_items, output_items):
         try:
             return self.pass_on(input_items[0], output_items[0])
-        except (sembarohy.Error, ValueError) as fault:
-            self.fault = fault
-            print(f"{self.name()}: {fault}", file=sys.stderr, flush=True)
+        except Exception as fault:
+            self.report(fault)
             return DONE
 
 
@@ -63,8 +67,11 @@ class receiver(Ending):
         return True
 
     def stop(self):
-        self.modem.close()
-        self.totals, self.cut = self.modem.totals, self.modem.cut
+        try:
+            self.modem.close()
+            self.totals, self.cut = self.modem.totals, self.modem.cut
+        except Exception as fault:
+            self.report(fault)
         return True
 
     def pass_on(self, symbols, out):

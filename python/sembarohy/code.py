@@ -121,7 +121,7 @@ class Code(Held):
     >>> Code.from_text("0 4 8\\n", shape=(4, 2, 3))
     Traceback (most recent call last):
     ...
-    sembarohy.Error: the text is no row file of the shape
+    sembarohy.Error: the rows are no row file of the shape
     """
 
     n: int

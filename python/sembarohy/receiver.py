@@ -148,11 +148,11 @@ class Receiver(Held):
     >>> code = Code.from_file("normal_3_4.rows", "qpsk3/4")
     >>> with Receiver(code, "qpsk3/4", pilots=True, tuned=True) as receiver:
     ...     for frame in receiver.feed(open("symbols", "rb").read()):
-    ...         print(frame, len(frame.packets), sum(frame.word[:8]))
+    ...         print(frame, len(frame.packets))
     ...     _ = receiver.close()
     ...     print(receiver.totals)
-    frame 1 at 0 sole fixed 0 6016 4
-    frame 2 at 33282 sole fixed 0 1504 5
+    frame 1 at 0 sole fixed 0 6016
+    frame 2 at 33282 sole fixed 0 1504
     end frames 2 delivered 2 packets 40 bad 0
     """
 
