@@ -252,6 +252,7 @@ class Held:
 
     def __init__(self) -> None:
         self._library, self._handle, self._lock = library(), Handle(), threading.RLock()
+        self._rooms: dict[int, Any] = {}
         self._ended = weakref.finalize(self, self._library.end, self._handle)
 
     def end(self) -> None:
@@ -289,7 +290,7 @@ class Held:
         with self._lock:
             count = c_size_t()
             while True:
-                out = ctypes.create_string_buffer(room)
+                out = self._rooms.get(room) or self._rooms.setdefault(room, ctypes.create_string_buffer(room))
                 result = self._library.result(name, ctypes.byref(self._handle), out, room, ctypes.byref(count))
                 if result == NONE_THERE:
                     return None

@@ -84,20 +84,24 @@ def _of_array(symbols: Any) -> bytes:
     is_paired = symbols.ndim == 2 and symbols.shape[1] == 2 or symbols.ndim == 1 and len(symbols) % 2 == 0
     if symbols.dtype.newbyteorder("=") != numpy.int16 or not is_paired:
         raise TypeError(f"an array of symbols is complex, or int16 with I and Q, not {symbols.dtype} of shape {symbols.shape}")
-    return symbols.astype(">i2").tobytes()
+    return _big_endian(symbols.astype(numpy.int16))
+
+
+def _big_endian(numbers: Any) -> bytes:
+    return (numbers.byteswap() if sys.byteorder == "little" else numbers).tobytes()
 
 
 def _of_complex(symbols: Any) -> bytes:
     if symbols.ndim != 1:
         raise TypeError(f"an array of complex symbols has one dimension, not {symbols.ndim}")
     real = numpy.float32 if symbols.dtype.itemsize == 8 else numpy.float64
-    parts = numpy.ascontiguousarray(symbols, symbols.dtype.newbyteorder("=")).view(real).astype(numpy.float64)
-    parts *= AMPLITUDE
-    if not numpy.isfinite(parts).all():
+    parts = numpy.multiply(numpy.ascontiguousarray(symbols, symbols.dtype.newbyteorder("=")).view(real), AMPLITUDE, dtype=numpy.float64)
+    # a sum is faster than a test of all, and it is finite only if all are
+    if not (math.isfinite(parts.sum()) or numpy.isfinite(parts).all()):
         raise ValueError(f"symbol {int(numpy.flatnonzero(~numpy.isfinite(parts))[0]) // 2} is not finite")
     numpy.rint(parts, out=parts)
     numpy.clip(parts, _LEAST, _GREATEST, out=parts)
-    return parts.astype(">i2").tobytes()
+    return _big_endian(parts.astype(numpy.int16))
 
 
 def integers_of(data: bytes) -> Any:

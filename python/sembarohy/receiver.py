@@ -184,7 +184,7 @@ class Receiver(Held):
         flags = {"has_pilots": pilots, "tuned": tuned, "uncertified": uncertified, "figures": figures, "turns": turns, "equalize": equalize}
         self._make("receiver_new", code, options_of(code, mode, short, scrambling=scrambling, **tuning, **{name: int(it) for name, it in flags.items()}))
         self._waiting, self._step, self._last = bytearray(), _library.Step(), None  # type: bytearray, _library.Step, Frame | None
-        self._is_closed, self._n = False, code.n
+        self._is_closed, self._n, self._room = False, code.n, self._asked_room()
         self.cut: Cut | None = None
         """The frame that the end of the stream cut off, if there is one."""
 
@@ -215,13 +215,13 @@ class Receiver(Held):
             self._call("receiver_reset")
             self._waiting.clear()
             self._last = self.cut = None
-            self._is_closed = False
+            self._is_closed, self._room = False, self._asked_room()
 
     @property
     def missing(self) -> int:
         """How many more symbols the next step needs; 0 if it has them, or after the end."""
         with self._lock:
-            return max(0, self._room() - len(self._waiting) + _symbols.SYMBOL - 1) // _symbols.SYMBOL
+            return max(0, self._room - len(self._waiting) + _symbols.SYMBOL - 1) // _symbols.SYMBOL
 
     @property
     def totals(self) -> Totals:
@@ -244,7 +244,8 @@ class Receiver(Held):
         self._library.succeed(result)
         return Figures(**{it.name: getattr(told, it.name) for it in fields(Figures)})
 
-    def _room(self) -> int:
+    def _asked_room(self) -> int:
+        """The bytes that the next step takes."""
         room = c_size_t()
         self._call("receiver_room", ctypes.byref(room))
         return room.value
@@ -256,8 +257,8 @@ class Receiver(Held):
     def _next(self) -> Frame | None:
         """The next frame of the symbols that are kept."""
         with self._lock:
-            while 0 < (room := self._room()) <= len(self._waiting):
-                if self._advance(room) == FRAME:
+            while 0 < self._room <= len(self._waiting):
+                if self._advance(self._room) == FRAME:
                     return self._decided()
             return None
 
@@ -266,6 +267,7 @@ class Receiver(Held):
         self._last = None
         self._give("receiver_advance", self._waiting, length, ctypes.byref(self._step))
         del self._waiting[:length]
+        self._room = self._asked_room()
         if self._step.kind == CUT:
             self.cut = Cut(self._step.at, self._step.symbols)
         return self._step.kind

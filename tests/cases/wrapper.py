@@ -234,7 +234,7 @@ def try_receiver():
     judge("one that is not", "RuntimeError", refusal(lambda: first.word).partition(":")[0])
     judge("sums", 1001, kept.sums.header)
     kept.end()
-    judge("an ended receiver", ["Error: text of -2"] * 3, [refusal(lambda: kept.totals), refusal(kept.reset), refusal(lambda: list(kept.feed(b"")))])
+    judge("an ended receiver", ["Error: text of -2"] * 3, [refusal(lambda: kept.totals), refusal(kept.reset), refusal(lambda: list(kept.feed(bytes(40))))])
     line = "frame 1 at 0 sole fixed 4 header 2 changed 4 rounds 3 known 6 power 10 along -11 across -12 payload 8 power 13 along -14 across -15"
     judge("a line with figures", [line], [str(it) for it in sembarohy.Receiver(code_of(), 7, figures=True).feed(symbols_of([1, 3, 0, 4]))])
 
