@@ -3,28 +3,28 @@ _s2() {
   local now=${COMP_WORDS[COMP_CWORD]} before=${COMP_WORDS[COMP_CWORD-1]} words=""
   COMPREPLY=()
   if ((COMP_CWORD == 1)); then
-    COMPREPLY=($(compgen -W "modes rows table judge check mod noise demod run scan join audit help --help --version" -- "$now"))
+    COMPREPLY=($(compgen -W "demod scan mod run noise modes rows table judge check audit join help --help --version" -- "$now"))
     return
   fi
   case "$before" in
     --divisor) COMPREPLY=($(compgen -W "4096 8192 16384 32768 65536" -- "$now")); return ;;
     --exit-by) COMPREPLY=($(compgen -W "certainty delivery" -- "$now")); return ;;
-    --rate|--modcod|--group|--groups|--q|--weight|--seed|--passes|--factor|--number|--ro|--dummy|--level|--esn0|--rounds|--lock|--every|--seeds|--first) return ;;
+    --modcod|--number|--ro|--rounds|--passes|--factor|--lock|--every|--first|--dummy|--seed|--seeds|--level|--esn0|--rate|--group|--groups|--q|--weight) return ;;
   esac
   case "${COMP_WORDS[1]}" in
+    demod) words="--modcod --short --pilots --number --ro --rounds --passes --uncertified --divisor --factor --lock --tuned --figures --every --exit-by --strict --quiet --progress --certificates --values --codewords --bbframes --help" ;;
+    scan) words="--first --quiet --progress --help" ;;
+    mod) words="--modcod --short --pilots --number --ro --dummy --resync --quiet --progress --codewords --bbframes --help" ;;
+    run) words="--modcod --short --pilots --number --ro --dummy --resync --rounds --passes --uncertified --divisor --factor --lock --tuned --seed --seeds --level --esn0 --figures --every --exit-by --strict --quiet --progress --certificates --values --codewords --bbframes --help" ;;
+    noise) words="--seed --level --esn0 --quiet --progress --help" ;;
     modes) words="--rate --modcod --short --quiet --help" ;;
     rows) words="--group --groups --q --weight --seed --quiet --help" ;;
     table) words="--modcod --short --quiet --help" ;;
     judge) words="--group --groups --q --modcod --short --each --hard --cert --passes --uncertified --factor --quiet --help" ;;
     check) words="--each --quiet --help" ;;
-    mod) words="--modcod --short --pilots --number --ro --dummy --quiet --progress --codewords --bbframes --help" ;;
-    noise) words="--seed --level --esn0 --quiet --progress --help" ;;
-    demod) words="--modcod --short --pilots --number --ro --rounds --passes --uncertified --divisor --factor --lock --tuned --figures --every --exit-by --strict --quiet --progress --certificates --values --codewords --bbframes --help" ;;
-    run) words="--modcod --short --pilots --number --ro --dummy --rounds --passes --uncertified --divisor --factor --lock --tuned --seed --seeds --level --esn0 --figures --every --exit-by --strict --quiet --progress --certificates --values --codewords --bbframes --help" ;;
-    scan) words="--first --quiet --progress --help" ;;
-    join) words="--modcod --short --help" ;;
     audit) words="--modcod --short --pilots --number --ro --divisor --tuned --help" ;;
-    help) words="modes rows table judge check mod noise demod run scan join audit" ;;
+    join) words="--modcod --short --help" ;;
+    help) words="demod scan mod run noise modes rows table judge check audit join" ;;
   esac
   if [[ $now == -* || ${COMP_WORDS[1]} == help ]]; then
     COMPREPLY=($(compgen -W "$words" -- "$now"))

@@ -5,8 +5,8 @@
 //! - By a level L, each component of a symbol gains the sum of eight random bytes less its mean, times L over 256: nearly a normal
 //!   distribution, of standard deviation 209.0 L / 256.
 //! - By an Es/N0 (AWGN), each component gains the sum of 64 random bytes less its mean, times a fixed-point amplitude, to the nearest whole
-//!   number. This is a normal distribution to six standard deviations. Before it is rounded, its variance is N0/2 for symbols of
-//!   energy Es = 2 · 700². Rounding changes it by 0.014 % at 30 dB and by 0.173 % at 40 dB.
+//!   number. This is nearly a normal distribution, up to 13.8 standard deviations. Before it is rounded, its variance is N0/2 for
+//!   symbols of energy Es = 2 · 700². Rounding changes it by 0.014 % at 30 dB and by 0.173 % at 40 dB.
 //!
 //! The bytes are those of one `Pcg32` of the seed, so that any program draws the same ones. [`Noise::add`] promises exactly that
 //! symbol, [`add_to_all`] those symbols of a whole stream, [`laws::silent`] that level 0 changes nothing, and [`laws::gaussian`] that

@@ -93,6 +93,6 @@ impl EsN0 {
 pub enum Strength {
     /// Made of eight bytes for each component, of a standard deviation of 209.0 / 256 for each unit of this level.
     Level(u16),
-    /// Gaussian to six standard deviations: made of 64 bytes for each component.
+    /// Nearly Gaussian, up to 13.8 standard deviations: made of 64 bytes for each component.
     EsN0(EsN0),
 }

@@ -1,6 +1,6 @@
 //! Tests of both ends of a link together, over public calls alone, with the numbers of the standard.
 //!
-//! Shared helpers are in `hearing` (the reception of a stream), `samples` (the symbols of packets), and `streams` of
+//! Shared helpers are in `reception` (that of a stream), `samples` (the symbols of packets), and `streams` of
 //! `s2_stream_tests` (small links, readers and writers).
 #![tactic(auto)]
 

@@ -14,7 +14,7 @@ use s2_commands::{DemodOptions, LinkFiles, RunOptions, demod_command, mod_comman
 use s2_console::{Console, Exit, Fault};
 use s2_files::{Disk, Opener, Output, Truncating};
 use s2_link::{LinkSetup, RollOff};
-use s2_mode::{CountedRead, CountedWrite, FaultText, Mode, WriteFault};
+use s2_mode::{CountedRead, CountedWrite, FaultText, Mode};
 use s2_progress::{Pace, Show, Terminal};
 use s2_resync::LeftOut;
 use s2_scramble::ScramblingNumber;
@@ -227,11 +227,17 @@ fn run_request<I: CountedRead, W: Output, F: Output, O: CountedWrite, E: Counted
     }
 }
 
-/// A failed write at the end of a command, as the fault of the program.
-fn or_fault<'a>(ended: Result<Exit, WriteFault>) -> Result<Exit, Fault<'a>>
-    ensures { (p : Type 0) → OnErr ended p → OnErr result p }
+/// The end of a command on a link. A failed write is the program's fault.
+fn end_request<'a, F: Output + Drop>(
+    exit: Exit,
+    begun: bool,
+    records: Records<Truncating<F>>,
+) -> Result<Exit, Fault<'a>>
+    requires { wanted_count (λ t. F.count t.to) records.0 + (wanted_count (λ t. F.count t.to) records.1.0
+        + (wanted_count (λ t. F.count t.to) records.1.1.0 + wanted_count (λ b. F.count b.to.to) records.1.1.1)) ≤ 1 }
+    ensures { OnErr result (exit ≢ Exit.Fault) }
 {
-    match ended {
+    match finish_command(exit, begun, records) {
         Ok(exit) => Ok(exit),
         Err(_) => Err(Fault::Write),
     }
@@ -269,5 +275,5 @@ pub(crate) fn with_link<'a, R: Disk + Clock + AllocGlobal, O: CountedWrite, E: C
     show.finish();
     let left_out = files.from.left_out();
     let exit = conclude_packets(terminal, request.noted_packets(), left_out, exit);
-    or_fault(finish_command(exit, files.to.is_begun(), records))
+    end_request(exit, files.to.is_begun(), records)
 }
