@@ -35,8 +35,22 @@ static void put_records(s2_handle *rx, const s2_step *step, uint32_t kbch, FILE 
     fwrite(bytes, 1, count, files[4]);
 }
 
-static void put_figures(const s2_figures *f, const char *start) {
-    printf("%s changed %" PRIu64 " of %" PRIu64, start, f->changed, f->changed_of);
+static void put_figures(s2_handle *rx) {
+    s2_figures f = {.size = sizeof f};
+    must(s2_receiver_figures(rx, &f), "figures");
+    printf(" header %" PRIu32 " changed %" PRIu64 " rounds %" PRIu32, f.header, f.changed, f.rounds);
+    printf(" known %" PRIu64 " power %" PRIu64 " along %" PRId64 " across %" PRId64, f.known, f.known_power, f.known_along, f.known_across);
+    printf(" payload %" PRIu64 " power %" PRIu64 " along %" PRId64 " across %" PRId64, f.payload, f.payload_power, f.payload_along, f.payload_across);
+}
+
+static void put_sums(s2_handle *rx) {
+    s2_figures f = {.size = sizeof f};
+    int32_t result = s2_receiver_sums(rx, &f);
+    if (result == S2_NONE_THERE) return;
+    must(result, "sums");
+    printf(" changed %" PRIu64 " of %" PRIu64, f.changed, f.changed_of);
+    printf(" known %" PRIu64 " of %" PRIu64 " power %" PRIu64, f.known, f.known_of, f.known_power);
+    printf(" payload %" PRIu64 " of %" PRIu64 " power %" PRIu64, f.payload, f.payload_of, f.payload_power);
 }
 
 static void put_line(s2_handle *rx, const s2_step *step) {
@@ -44,12 +58,7 @@ static void put_line(s2_handle *rx, const s2_step *step) {
     printf("frame %" PRIu64 " at %" PRIu64 " %s", step->number, step->at, verdicts[step->verdict]);
     if (step->outcome == S2_DELIVERED) printf(" fixed %" PRIu32, step->fixed);
     else printf(" lost");
-    if (step->has_figures) {
-        s2_figures f = {.size = sizeof f};
-        must(s2_receiver_figures(rx, &f), "figures");
-        printf(" header %" PRIu32 " rounds %" PRIu32, f.header, f.rounds);
-        put_figures(&f, "");
-    }
+    if (step->has_figures) put_figures(rx);
     putchar('\n');
 }
 
@@ -84,7 +93,9 @@ int main(int argc, char **argv) {
     }
     s2_totals t = {.size = sizeof t};
     must(s2_receiver_totals(&rx, &t), "totals");
-    printf("end frames %" PRIu64 " delivered %" PRIu64 " packets %" PRIu64 " bad %" PRIu64 "\n", t.frames, t.delivered, t.packets, t.bad);
+    printf("end frames %" PRIu64 " delivered %" PRIu64 " packets %" PRIu64 " bad %" PRIu64, t.frames, t.delivered, t.packets, t.bad);
+    put_sums(&rx);
+    putchar('\n');
     s2_end(&rx);
     free(rows);
     fclose(in);

@@ -6,7 +6,7 @@ use crate::loose::Loose;
 use s2_library::{Refusal, Slot};
 use std::alloc::Global;
 
-/// What C holds: a pointer, and whether there is something behind it.
+/// A handle of C: a pointer, and whether it is in use.
 #[repr(C)]
 #[derive(Drop)]
 pub struct Handle {
@@ -16,7 +16,7 @@ pub struct Handle {
 }
 
 impl Handle {
-    /// Takes what is behind the handle, and leaves it empty. `None` if it is empty.
+    /// Takes the contents of the handle, and leaves it empty. `None` if it is empty.
     pub(crate) fn open(&mut self, alloc: Global) -> Option<Box<Slot>>
         ensures found { MatchOption result (self.old.cell.value ≡ None) (λ slot. self.old.cell.value ≡ Some slot.value) }
         ensures taken { self.new.cell.value ≡ None }
@@ -28,7 +28,7 @@ impl Handle {
         Some(self.cell.take(alloc).into_box())
     }
 
-    /// Puts a slot behind an empty handle.
+    /// Puts a slot into an empty handle.
     pub(crate) fn close(&mut self, slot: Box<Slot>)
         requires { self.old.cell.value ≡ None }
         ensures { self.new.cell.value ≡ Some slot.value }
@@ -38,7 +38,7 @@ impl Handle {
     }
 }
 
-/// Puts what was made behind an empty handle, and returns the number of the result.
+/// Puts a new slot into an empty handle, and returns the number of the result.
 pub(crate) fn fill(alloc: Global, made: Result<Slot, Refusal>, handle: &mut Handle) -> i32
     requires { handle.old.cell.value ≡ None }
 {
@@ -54,7 +54,7 @@ pub(crate) fn fill(alloc: Global, made: Result<Slot, Refusal>, handle: &mut Hand
     }
 }
 
-/// Ends what is behind a handle, and leaves it empty.
+/// Ends the contents of a handle, and leaves it empty.
 #[unsafe(no_mangle)]
 pub extern "C" fn s2_end(alloc: Global, handle: &mut Handle)
     ensures { handle.new.cell.value ≡ None }

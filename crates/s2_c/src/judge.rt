@@ -1,4 +1,10 @@
 //! The exports of judges, and of the checker.
+ghost use Rattle.std.specs.Prelude.{◌≡◌, ◌↔◌, None, Some, Err};
+ghost use Rattle.s2_library.specs.declared.slot.Slot.{Slot};
+ghost use Rattle.s2_library.specs.Results.{answer_of};
+ghost use Rattle.s2_library.specs.Copying.{digits_of};
+ghost use Rattle.s2_library.specs.Slots.{CopiesOf, DecidesOnOf, judge_in, listed};
+
 use crate::handle::{Handle, fill};
 use s2_library::{
     CheckedFields, Options, Refusal, check, judge_certificate, judge_decide, judge_word, new_judge,
@@ -32,7 +38,11 @@ pub extern "C" fn s2_judge_decide(
     judge: &mut Handle,
     soft: &[i16],
     verdict: &mut u32,
-) -> i32 {
+) -> i32
+    ensures empty { judge.old.cell.value ≡ None → (answer_of result ≡ Err Refusal.Empty) × (verdict.new ≡ verdict.old) }
+    ensures full { (s t : Slot) → judge.old.cell.value ≡ Some s → judge.new.cell.value ≡ Some t → DecidesOnOf s t soft.now verdict.old verdict.new (answer_of result) }
+    ensures kept { (judge.new.cell.value ≡ None) ↔ (judge.old.cell.value ≡ None) }
+{
     let Some(mut slot) = judge.open(alloc) else {
         return Refusal::Empty.number();
     };
@@ -48,7 +58,11 @@ pub extern "C" fn s2_judge_word(
     judge: &mut Handle,
     out: &mut [u8],
     count: &mut usize,
-) -> i32 {
+) -> i32
+    ensures empty { judge.old.cell.value ≡ None → (answer_of result ≡ Err Refusal.Empty) × (out.new ≡ out.old) × (count.new ≡ count.old) }
+    ensures full { (s : Slot) → judge.old.cell.value ≡ Some s → CopiesOf (listed (λ j. digits_of j.bits) (judge_in s)) out.old out.new count.old count.new (answer_of result) }
+    ensures kept { judge.new.cell.value ≡ judge.old.cell.value }
+{
     let Some(slot) = judge.open(alloc) else {
         return Refusal::Empty.number();
     };

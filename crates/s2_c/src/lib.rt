@@ -1,4 +1,4 @@
-//! The modem for C: `include/s2.h` declares what is exported here.
+//! The modem for C: `include/s2.h` declares the exports of this crate.
 //!
 //! A [`Handle`] has a pointer to a block with a slot of `s2_library`, or it is empty. An export takes the slot out, calls
 //! `s2_library`, and puts it back. Only [`Cell`] and `Loose` touch the pointer.

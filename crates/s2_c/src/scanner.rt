@@ -23,7 +23,7 @@ pub extern "C" fn s2_scan_feed(alloc: Global, scanner: &mut Handle, symbols: &[u
     result_number(answer)
 }
 
-/// Searches what was fed.
+/// Searches the bytes so far.
 #[unsafe(no_mangle)]
 pub extern "C" fn s2_scan_find(alloc: Global, scanner: &mut Handle, count: &mut usize) -> i32 {
     let Some(mut slot) = scanner.open(alloc) else {

@@ -1,4 +1,10 @@
 //! The exports of transmitters.
+ghost use Rattle.std.specs.Prelude.{◌≡◌, ◌↔◌, None, Some, Err};
+ghost use Rattle.s2_library.specs.declared.slot.Slot.{Slot};
+ghost use Rattle.s2_library.specs.Results.{answer_of};
+ghost use Rattle.s2_library.specs.Copying.{digits_of};
+ghost use Rattle.s2_library.specs.Slots.{ClosesStreamOf, CopiesOf, PutsPacketsOf, TakesFrameOf, listed, sender_in};
+
 use crate::handle::{Handle, fill};
 use s2_library::{
     Options, Refusal, new_transmitter, result_number, transmitter_close, transmitter_counts,
@@ -33,7 +39,11 @@ pub extern "C" fn s2_transmitter_put(
     transmitter: &mut Handle,
     bytes: &[u8],
     taken: &mut usize,
-) -> i32 {
+) -> i32
+    ensures empty { transmitter.old.cell.value ≡ None → (answer_of result ≡ Err Refusal.Empty) × (taken.new ≡ taken.old) }
+    ensures full { (s t : Slot) → transmitter.old.cell.value ≡ Some s → transmitter.new.cell.value ≡ Some t → PutsPacketsOf s t bytes.now taken.old taken.new (answer_of result) }
+    ensures kept { (transmitter.new.cell.value ≡ None) ↔ (transmitter.old.cell.value ≡ None) }
+{
     let Some(mut slot) = transmitter.open(alloc) else {
         return Refusal::Empty.number();
     };
@@ -44,7 +54,11 @@ pub extern "C" fn s2_transmitter_put(
 
 /// Ends the stream.
 #[unsafe(no_mangle)]
-pub extern "C" fn s2_transmitter_close(alloc: Global, transmitter: &mut Handle) -> i32 {
+pub extern "C" fn s2_transmitter_close(alloc: Global, transmitter: &mut Handle) -> i32
+    ensures empty { transmitter.old.cell.value ≡ None → answer_of result ≡ Err Refusal.Empty }
+    ensures full { (s t : Slot) → transmitter.old.cell.value ≡ Some s → transmitter.new.cell.value ≡ Some t → ClosesStreamOf s t (answer_of result) }
+    ensures kept { (transmitter.new.cell.value ≡ None) ↔ (transmitter.old.cell.value ≡ None) }
+{
     let Some(mut slot) = transmitter.open(alloc) else {
         return Refusal::Empty.number();
     };
@@ -75,7 +89,11 @@ pub extern "C" fn s2_transmitter_take(
     transmitter: &mut Handle,
     out: &mut [u8],
     count: &mut usize,
-) -> i32 {
+) -> i32
+    ensures empty { transmitter.old.cell.value ≡ None → (answer_of result ≡ Err Refusal.Empty) × (out.new ≡ out.old) × (count.new ≡ count.old) }
+    ensures full { (s t : Slot) → transmitter.old.cell.value ≡ Some s → transmitter.new.cell.value ≡ Some t → TakesFrameOf s t out.old out.new count.old count.new (answer_of result) }
+    ensures kept { (transmitter.new.cell.value ≡ None) ↔ (transmitter.old.cell.value ≡ None) }
+{
     let Some(mut slot) = transmitter.open(alloc) else {
         return Refusal::Empty.number();
     };
@@ -91,7 +109,11 @@ pub extern "C" fn s2_transmitter_symbols(
     transmitter: &mut Handle,
     out: &mut [u8],
     count: &mut usize,
-) -> i32 {
+) -> i32
+    ensures empty { transmitter.old.cell.value ≡ None → (answer_of result ≡ Err Refusal.Empty) × (out.new ≡ out.old) × (count.new ≡ count.old) }
+    ensures full { (s : Slot) → transmitter.old.cell.value ≡ Some s → CopiesOf (listed (λ t. t.unit) (sender_in s)) out.old out.new count.old count.new (answer_of result) }
+    ensures kept { transmitter.new.cell.value ≡ transmitter.old.cell.value }
+{
     let Some(slot) = transmitter.open(alloc) else {
         return Refusal::Empty.number();
     };
@@ -107,7 +129,11 @@ pub extern "C" fn s2_transmitter_word(
     transmitter: &mut Handle,
     out: &mut [u8],
     count: &mut usize,
-) -> i32 {
+) -> i32
+    ensures empty { transmitter.old.cell.value ≡ None → (answer_of result ≡ Err Refusal.Empty) × (out.new ≡ out.old) × (count.new ≡ count.old) }
+    ensures full { (s : Slot) → transmitter.old.cell.value ≡ Some s → CopiesOf (listed (λ t. digits_of t.codeword) (sender_in s)) out.old out.new count.old count.new (answer_of result) }
+    ensures kept { transmitter.new.cell.value ≡ transmitter.old.cell.value }
+{
     let Some(slot) = transmitter.open(alloc) else {
         return Refusal::Empty.number();
     };

@@ -3,7 +3,7 @@ use Rattle.std.specs.Prelude.{◌≡◌, ℕ, ◌<◌, ◌≤◌, List, ◌++◌
 use Rattle.s2_library.specs.declared.refusal.Refusal.{Refusal}
 use Rattle.s2_library.specs.declared.refusal.Refusal.TheVariants.{TooShort}
 
--- the list at the front of the buffer, and behind it what was there; or nothing, as the buffer is too short
+-- the list is at the front of the buffer, whose rest is unchanged; or the buffer is too short, and nothing changes
 abbrev pub Fits : {A T : Type 0} → (items old new : List A) → Result T Refusal → Type 0
 Fits items old new (Ok done) = (length items ≤ length old) × (new ≡ items ++ drop (length items) old)
 Fits items old new (Err refusal) = (refusal ≡ TooShort) × (length old < length items) × (new ≡ old)

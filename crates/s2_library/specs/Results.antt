@@ -1,5 +1,5 @@
 -- The numbers of results for C (own).
-use Rattle.std.specs.Prelude.{ℤ, pos, negsuc, Result, Ok, Err}
+use Rattle.std.specs.Prelude.{ℤ, pos, negsuc, List, [], ◌∷◌, get_or, Result, Ok, Err}
 use Rattle.s2_library.specs.declared.refusal.Refusal.{Refusal}
 use Rattle.s2_library.specs.declared.refusal.Refusal.TheVariants as refusals
 
@@ -33,3 +33,17 @@ refusal_number refusals.NoneThere = negsuc 22
 abbrev pub number_of : {T : Type 0} → Result T Refusal → ℤ
 number_of (Ok done) = pos 0
 number_of (Err refusal) = refusal_number refusal
+
+-- the refusals, in the order of their numbers
+abbrev pub all_refusals : List Refusal
+all_refusals =
+    refusals.NoMemory ∷ refusals.Empty ∷ refusals.OtherKind ∷ refusals.InUse ∷ refusals.BadSize ∷
+    refusals.BadMode ∷ refusals.BadShape ∷ refusals.BadRows ∷ refusals.OtherShape ∷ refusals.BadScrambling ∷
+    refusals.BadRollOff ∷ refusals.BadTuning ∷ refusals.BadOption ∷ refusals.NotDone ∷ refusals.TooMany ∷
+    refusals.TooShort ∷ refusals.NoSync ∷ refusals.CutPacket ∷ refusals.Closed ∷ refusals.Full ∷
+    refusals.BadSoft ∷ refusals.BadCertificate ∷ refusals.NoneThere ∷ []
+
+-- the result of a number: success of 0, the refusal of a negative one
+abbrev pub answer_of : ℤ → Result (Unit {0}) Refusal
+answer_of (pos n) = Ok tt
+answer_of (negsuc n) = Err (get_or all_refusals n refusals.NoneThere)

@@ -33,7 +33,7 @@ fn fields_of(answer: u32, is_sole: bool, check: u32, cost: i64) -> CheckedFields
     }
 }
 
-/// The fields of what was found.
+/// The fields of the checker's result.
 fn found_fields(found: Examined, cost: i64) -> CheckedFields {
     match found.answer {
         Answer::Yes => fields_of(0, found.strict, 0, cost),

@@ -1,5 +1,8 @@
 //! Codes, and a shelf on which they are found again.
-ghost use Rattle.std.specs.Prelude.{◌≡◌, IfOk};
+ghost use Rattle.std.specs.Prelude.{◌≡◌, false, IfOk, Some};
+ghost use Rattle.s2_mode.specs.Mode.{mode_of};
+ghost use Rattle.s2_library.specs.Asked.{is_set};
+ghost use Rattle.s2_library.specs.Codes.{AreRowsOf, HasCodeOf, IsCodeOf, code_in as code_in_slot};
 
 use crate::options::{flag, mode_by};
 use crate::refusal::Refusal;
@@ -7,6 +10,7 @@ use crate::slot::Slot;
 use s2_matrix::Matrix;
 use s2_mode::{Mode, Shape};
 use s2_rows::{RowFault, Rows, read_rows};
+use s2_table::is_standard;
 use std::alloc::Global;
 
 /// The code of a row file. Its tables stay until the process ends, as receivers share them.
@@ -28,7 +32,9 @@ impl Drop for Shelf {
 }
 
 /// The rows of a text.
-fn rows_of(alloc: Global, text: &[u8], shape: Shape) -> Result<Rows, Refusal> {
+fn rows_of(alloc: Global, text: &[u8], shape: Shape) -> Result<Rows, Refusal>
+    ensures { IfOk result (AreRowsOf text.now shape) }
+{
     match read_rows(alloc, text, shape) {
         Ok(rows) => Ok(rows),
         Err(RowFault::NoMemory) => Err(Refusal::NoMemory),
@@ -37,7 +43,9 @@ fn rows_of(alloc: Global, text: &[u8], shape: Shape) -> Result<Rows, Refusal> {
 }
 
 /// The matrix of a text's rows.
-fn matrix_of(alloc: Global, text: &[u8], shape: Shape) -> Result<Matrix, Refusal> {
+fn matrix_of(alloc: Global, text: &[u8], shape: Shape) -> Result<Matrix, Refusal>
+    ensures { IfOk result (AreRowsOf text.now shape) }
+{
     let rows = rows_of(alloc, text, shape)?;
     match Matrix::build(alloc, &rows) {
         Ok(matrix) => Ok(matrix),
@@ -56,14 +64,18 @@ fn keep(alloc: Global, matrix: Matrix) -> Result<&'static Matrix, Refusal>
 }
 
 /// The mode of a code, without pilots.
-fn mode_of_code(modcod: u32, is_short: u32) -> Result<Mode, Refusal> {
+fn mode_of_code(modcod: u32, is_short: u32) -> Result<Mode, Refusal>
+    ensures { IfOk result (λ mode. mode ≡ mode_of modcod (is_set is_short) false) }
+{
     mode_by(modcod, flag(is_short)?, false)
 }
 
 /// The code of a mode, from the text of a row file.
-fn code_of_mode(alloc: Global, text: &[u8], mode: Mode) -> Result<Code, Refusal> {
+fn code_of_mode(alloc: Global, text: &[u8], mode: Mode) -> Result<Code, Refusal>
+    ensures { IfOk result (IsCodeOf text.now mode) }
+{
     let matrix = matrix_of(alloc, text, mode.shape())?;
-    let is_standard = false;
+    let is_standard = is_standard(&mode, &matrix);
     Ok(Code {
         matrix: keep(alloc, matrix)?,
         is_standard,
@@ -71,7 +83,9 @@ fn code_of_mode(alloc: Global, text: &[u8], mode: Mode) -> Result<Code, Refusal>
 }
 
 /// The code of a mode, from the text of a row file.
-pub fn new_code(alloc: Global, text: &[u8], modcod: u32, is_short: u32) -> Result<Slot, Refusal> {
+pub fn new_code(alloc: Global, text: &[u8], modcod: u32, is_short: u32) -> Result<Slot, Refusal>
+    ensures { IfOk result (HasCodeOf text.now (mode_of modcod (is_set is_short) false)) }
+{
     let mode = mode_of_code(modcod, is_short)?;
     Ok(Slot::Code(code_of_mode(alloc, text, mode)?))
 }
@@ -95,7 +109,9 @@ pub fn shape_code(
 }
 
 /// The code in a slot.
-pub(crate) fn code_in(slot: &Slot) -> Result<Code, Refusal> {
+pub(crate) fn code_in(slot: &Slot) -> Result<Code, Refusal>
+    ensures { IfOk result (λ code. code_in_slot slot.now ≡ Some code) }
+{
     match slot {
         Slot::Code(code) => Ok(*code),
         _ => Err(Refusal::OtherKind),
@@ -184,6 +200,6 @@ pub fn shelf_code(
     };
     let mode = mode_of_code(modcod, is_short)?;
     let matrix = matrix_of(alloc, text, mode.shape())?;
-    let is_standard = false;
+    let is_standard = is_standard(&mode, &matrix);
     Ok(Slot::Code(shelf.code(alloc, matrix, is_standard)?))
 }

@@ -30,14 +30,26 @@ pub fn copy_values(items: &[i16], out: &mut [i16], count: &mut usize) -> Result<
     Ok(())
 }
 
+/// Writes a byte for each bit, 0 or 1.
+fn write_digits(bits: &[bool], out: &mut [u8])
+    requires { length out.old ≡ length bits.now }
+    ensures { out.new ≡ digits_of bits.now }
+{
+    for i in 0..bits.len() {
+        out[i] = u8::from(bits[i]);
+    }
+}
+
 /// Copies bits to the front of a buffer, a byte for each, if it has room for all of them, and gives their number.
-pub fn copy_bits(bits: &[bool], out: &mut [u8], count: &mut usize) -> Result<(), Refusal> {
+#[tactic(auto, using(crate::proofs::Digits::digits_long))]
+pub fn copy_bits(bits: &[bool], out: &mut [u8], count: &mut usize) -> Result<(), Refusal>
+    ensures { Copies (digits_of bits.now) out.old out.new count.new result }
+{
     *count = bits.len();
     if out.len() < bits.len() {
         return Err(Refusal::TooShort);
     }
-    for i in 0..bits.len() {
-        out[i] = u8::from(bits[i]);
-    }
+    let (front, _) = out.split_at_mut(bits.len());
+    write_digits(bits, front);
     Ok(())
 }

@@ -1,5 +1,7 @@
 //! Judges.
 ghost use Rattle.std.specs.Prelude.{All, IsTrue};
+ghost use Rattle.s2_library.specs.Copying.{digits_of};
+ghost use Rattle.s2_library.specs.Slots.{CopiesOf, DecidesOn, DecidesOnOf, judge_in, listed};
 ghost use Rattle.s2_check.specs.Views.{IsSoft};
 
 use crate::code::{Code, code_in};
@@ -67,10 +69,9 @@ fn are_soft(values: &[i16]) -> bool
 }
 
 /// Decides on soft values, and gives the number of the verdict.
-pub fn judge_decide(slot: &mut Slot, soft: &[i16], verdict: &mut u32) -> Result<(), Refusal> {
-    let Slot::Judge(judge) = slot else {
-        return Err(Refusal::OtherKind);
-    };
+fn decide(judge: &mut Judge<'static>, soft: &[i16], verdict: &mut u32) -> Result<(), Refusal>
+    ensures { DecidesOn judge.old judge.new soft.now verdict.old verdict.new result }
+{
     if soft.len() != judge.soft().len() || !are_soft(soft) {
         return Err(Refusal::BadSoft);
     }
@@ -78,8 +79,20 @@ pub fn judge_decide(slot: &mut Slot, soft: &[i16], verdict: &mut u32) -> Result<
     Ok(())
 }
 
+/// Has the judge of a slot decide on soft values, and gives the number of the verdict.
+pub fn judge_decide(slot: &mut Slot, soft: &[i16], verdict: &mut u32) -> Result<(), Refusal>
+    ensures { DecidesOnOf slot.old slot.new soft.now verdict.old verdict.new result }
+{
+    match slot {
+        Slot::Judge(judge) => decide(judge, soft, verdict),
+        _ => Err(Refusal::OtherKind),
+    }
+}
+
 /// Copies the bits that were decided last.
-pub fn judge_word(slot: &Slot, out: &mut [u8], count: &mut usize) -> Result<(), Refusal> {
+pub fn judge_word(slot: &Slot, out: &mut [u8], count: &mut usize) -> Result<(), Refusal>
+    ensures { CopiesOf (listed (λ j. digits_of j.bits) (judge_in slot.now)) out.old out.new count.old count.new result }
+{
     match slot {
         Slot::Judge(judge) => copy_bits(judge.word().truths(), out, count),
         _ => Err(Refusal::OtherKind),

@@ -1,4 +1,7 @@
 //! Figures, as C has them.
+ghost use Rattle.std.specs.Prelude.{◌≡◌};
+ghost use Rattle.s2_library.specs.Fields as fields;
+
 use s2_receive::{Figures, Sums};
 
 /// The size of [`FiguresFields`] in bytes.
@@ -27,7 +30,9 @@ pub struct FiguresFields {
 }
 
 /// The figures of a frame.
-pub(crate) fn figures_fields(figures: Figures) -> FiguresFields {
+pub(crate) fn figures_fields(figures: Figures) -> FiguresFields
+    ensures { result ≡ fields.figures_fields figures }
+{
     FiguresFields {
         size: SIZE,
         header: figures.header,
@@ -49,7 +54,9 @@ pub(crate) fn figures_fields(figures: Figures) -> FiguresFields {
 }
 
 /// The sums of figures. Those of header, rounds and correlations are not kept, and are 0.
-pub(crate) fn sums_fields(sums: Sums) -> FiguresFields {
+pub(crate) fn sums_fields(sums: Sums) -> FiguresFields
+    ensures { result ≡ fields.sums_fields sums }
+{
     FiguresFields {
         size: SIZE,
         header: 0,

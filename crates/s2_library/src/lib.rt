@@ -1,7 +1,7 @@
 //! What the modem offers to other languages, in safe Rust: the contents of a handle, and each call on them.
 //!
 //! A [`Slot`] is a code, a receiver, a transmitter, a judge or a scanner. Each call takes a slot, and is refused if it is of another
-//! kind. `s2_c` keeps slots behind handles, and exports the calls to C. A refusal has a number ([`result_number`]) and a
+//! kind. `s2_c` has handles with slots, and exports the calls to C. A refusal has a number ([`result_number`]) and a
 //! text ([`text_of`]). Structs that C shares begin with their size, and a call refuses another size.
 //!
 //! A call that copies a list out ([`copy_bytes`], [`copy_values`], [`copy_bits`]) writes all of it at the front of the caller's buffer, or

@@ -1,4 +1,8 @@
 //! The options of a link and of a receiver's tuning, as C has them.
+ghost use Rattle.std.specs.Prelude.{◌≡◌, IfOk, min};
+ghost use Rattle.s2_mode.specs.Mode.{mode_of};
+ghost use Rattle.s2_library.specs.Asked as asked;
+
 use crate::refusal::Refusal;
 use s2_link::Setup;
 use s2_mode::Mode;
@@ -13,8 +17,20 @@ const MOST_GIVEN: u32 = 31;
 /// The most frames between dummy frames.
 const MAX_DUMMY_EVERY: u32 = 65535;
 
-/// The default numbers of rounds and passes, the default divisor, factor, and limit of wrong header bits.
-const DEFAULTS: [u32; 5] = [50, 0, 4096, 12, 12];
+/// The default number of rounds.
+const ROUNDS: u32 = 50;
+
+/// The default number of passes.
+const PASSES: u32 = 0;
+
+/// The default divisor.
+const DIVISOR: u32 = 4096;
+
+/// The default factor.
+const FACTOR: u32 = 12;
+
+/// The default limit of wrong header bits.
+const MAX_HEADER_ERRORS: u32 = 12;
 
 /// The options of a link and of a receiver's tuning. The header for C says what each member is.
 #[repr(C)]
@@ -54,7 +70,9 @@ pub(crate) struct Flags {
 }
 
 /// A member for 0 or 1.
-pub(crate) fn flag(value: u32) -> Result<bool, Refusal> {
+pub(crate) fn flag(value: u32) -> Result<bool, Refusal>
+    ensures { IfOk result (λ truth. truth ≡ asked.is_set value) }
+{
     match value {
         0 => Ok(false),
         1 => Ok(true),
@@ -73,7 +91,9 @@ fn are_zero(words: &[u32]) -> bool {
 }
 
 /// The numbers that are not of the mode, the link or the tuning.
-fn read_numbers(options: &Options) -> Result<u16, Refusal> {
+fn read_numbers(options: &Options) -> Result<u16, Refusal>
+    ensures { IfOk result (λ every. every ≡ options.now.dummy_every) }
+{
     if options.given > MOST_GIVEN || options.dummy_every > MAX_DUMMY_EVERY {
         return Err(Refusal::BadOption);
     }
@@ -87,7 +107,9 @@ fn read_numbers(options: &Options) -> Result<u16, Refusal> {
 }
 
 /// The members that have few values. The first refusal is returned.
-pub(crate) fn read_flags(options: &Options) -> Result<Flags, Refusal> {
+pub(crate) fn read_flags(options: &Options) -> Result<Flags, Refusal>
+    ensures { IfOk result (λ flags. flags ≡ asked.flags_of options.now) }
+{
     if options.size != SIZE {
         return Err(Refusal::BadSize);
     }
@@ -108,7 +130,9 @@ pub(crate) fn read_flags(options: &Options) -> Result<Flags, Refusal> {
 }
 
 /// The mode of these numbers.
-pub(crate) fn mode_by(modcod: u32, is_short: bool, has_pilots: bool) -> Result<Mode, Refusal> {
+pub(crate) fn mode_by(modcod: u32, is_short: bool, has_pilots: bool) -> Result<Mode, Refusal>
+    ensures { IfOk result (λ mode. mode ≡ mode_of modcod is_short has_pilots) }
+{
     if modcod > 255 {
         return Err(Refusal::BadMode);
     }
@@ -119,7 +143,9 @@ pub(crate) fn mode_by(modcod: u32, is_short: bool, has_pilots: bool) -> Result<M
 }
 
 /// The setup of a link of this mode.
-pub(crate) fn setup_by(mode: Mode, options: &Options) -> Setup {
+pub(crate) fn setup_by(mode: Mode, options: &Options) -> Setup
+    ensures { result ≡ record { mode = mode; number = options.now.scrambling; roll_off = min options.now.roll_off 255 } }
+{
     Setup {
         mode,
         number: options.scrambling,
@@ -128,22 +154,30 @@ pub(crate) fn setup_by(mode: Mode, options: &Options) -> Setup {
 }
 
 /// A number that is given, or its default.
-fn number_by(is_given: bool, value: u32, default: u32) -> Number {
+fn number_by(is_given: bool, value: u32, default: u32) -> Number
+    ensures { result ≡ asked.number_by is_given value default }
+{
     Number {
         is_given,
         value: if is_given { value } else { default },
     }
 }
 
-/// What is asked of the tuning.
-pub(crate) fn wanted_by(flags: Flags, options: &Options) -> Wanted {
+/// The tuning that is requested.
+pub(crate) fn wanted_by(flags: Flags, options: &Options) -> Wanted
+    ensures { result ≡ asked.wanted_by flags options.now }
+{
     let given = options.given;
     Wanted {
-        rounds: number_by(given % 2 == 1, options.rounds, DEFAULTS[0]),
-        passes: number_by(given / 2 % 2 == 1, options.passes, DEFAULTS[1]),
-        divisor: number_by(given / 4 % 2 == 1, options.divisor, DEFAULTS[2]),
-        factor: number_by(given / 8 % 2 == 1, options.factor, DEFAULTS[3]),
-        max_header_errors: number_by(given / 16 % 2 == 1, options.max_header_errors, DEFAULTS[4]),
+        rounds: number_by(given % 2 == 1, options.rounds, ROUNDS),
+        passes: number_by(given / 2 % 2 == 1, options.passes, PASSES),
+        divisor: number_by(given / 4 % 2 == 1, options.divisor, DIVISOR),
+        factor: number_by(given / 8 % 2 == 1, options.factor, FACTOR),
+        max_header_errors: number_by(
+            given / 16 % 2 == 1,
+            options.max_header_errors,
+            MAX_HEADER_ERRORS,
+        ),
         tuned: flags.tuned,
         uncertified: flags.uncertified,
         figures: flags.figures,

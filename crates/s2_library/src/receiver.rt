@@ -1,12 +1,20 @@
 //! Receivers.
+ghost use Rattle.std.specs.Prelude.{◌≡◌, ◌≤◌, length, IfOk, IfSome, IsOkUnless, nat_eq};
+ghost use Rattle.s2_modem.specs.Reception.{IsNew};
+ghost use Rattle.s2_library.specs.Asked.{IsReceiverOf, flags_of, link_in};
+ghost use Rattle.s2_library.specs.Codes.{code_in as code_in_slot};
+ghost use Rattle.s2_library.specs.Copying.{digits_of};
+ghost use Rattle.s2_library.specs.Fields as fields;
+ghost use Rattle.s2_library.specs.Slots.{AdvancesReception, AdvancesSlot, CopiesOf, Gives, GivesFields, GivesFieldsIf, ResetsReception, ResetsSlot, figures_in, last_figures, listed, reception_in, receiver_in, room_in, sums_in, totals_in};
+
 use crate::code::{Code, code_in};
 use crate::copying::{copy_bits, copy_bytes, copy_values};
-use crate::figures::{FiguresFields, figures_fields};
-use crate::options::{Options, mode_by, read_flags, setup_by, wanted_by};
+use crate::figures::{FiguresFields, figures_fields, sums_fields};
+use crate::options::{Flags, Options, mode_by, read_flags, setup_by, wanted_by};
 use crate::refusal::Refusal;
 use crate::slot::Slot;
 use crate::step::{StepFields, step_fields};
-use crate::totals::TotalsFields;
+use crate::totals::{TotalsFields, totals_fields};
 use s2_bits::{Bits, bytes_from};
 use s2_check::CertView;
 use s2_link::{Link, SetupFault};
@@ -48,13 +56,11 @@ fn link_refusal(fault: SetupFault) -> Refusal {
 }
 
 /// The link of options on a code.
-pub(crate) fn link_by(
-    code: Code,
-    options: &Options,
-    is_short: bool,
-    has_pilots: bool,
-) -> Result<Link<'static>, Refusal> {
-    let mode = mode_by(options.modcod, is_short, has_pilots)?;
+pub(crate) fn link_by(code: Code, options: &Options, flags: Flags) -> Result<Link<'static>, Refusal>
+    requires { flags ≡ flags_of options.now }
+    ensures { IfOk result (λ link. link ≡ link_in options.now code.matrix.now) }
+{
+    let mode = mode_by(options.modcod, flags.is_short, flags.has_pilots)?;
     match Link::new(setup_by(mode, options), code.matrix) {
         Ok(link) => Ok(link),
         Err(fault) => Err(link_refusal(fault)),
@@ -66,7 +72,10 @@ fn receiver_on(
     alloc: Global,
     link: &Link<'static>,
     tuning: Tuning,
-) -> Result<Receiver<'static>, Refusal> {
+) -> Result<Receiver<'static>, Refusal>
+    ensures is { IfOk result (IsNew link.now tuning) }
+    ensures refused { IsOkUnless result Refusal.NoMemory }
+{
     match Receiver::on_link(alloc, link, tuning) {
         Ok(receiver) => Ok(receiver),
         Err(_) => Err(Refusal::NoMemory),
@@ -74,10 +83,12 @@ fn receiver_on(
 }
 
 /// A receiver on a code, by options. The first refusal is returned.
-pub fn new_receiver(alloc: Global, code: &Slot, options: &Options) -> Result<Slot, Refusal> {
+pub fn new_receiver(alloc: Global, code: &Slot, options: &Options) -> Result<Slot, Refusal>
+    ensures { IfOk result (λ slot. IfSome (code_in_slot code.now) (λ c. IsReceiverOf options.now c.matrix.now slot)) }
+{
     let code = code_in(code)?;
     let flags = read_flags(options)?;
-    let link = link_by(code, options, flags.is_short, flags.has_pilots)?;
+    let link = link_by(code, options, flags)?;
     let Some(tuning) = tuning_by(&link.mode(), wanted_by(flags, options)) else {
         return Err(Refusal::BadTuning);
     };
@@ -90,18 +101,29 @@ pub fn new_receiver(alloc: Global, code: &Slot, options: &Options) -> Result<Slo
     }))
 }
 
-/// Begins a new stream. The receiver is unchanged if it is refused.
-pub fn receiver_reset(alloc: Global, slot: &mut Slot) -> Result<(), Refusal> {
-    let Slot::Receiver(reception) = slot else {
-        return Err(Refusal::OtherKind);
-    };
+/// Begins a new stream. The receiver is unchanged if memory is refused.
+fn reset(alloc: Global, reception: &mut Reception) -> Result<(), Refusal>
+    ensures { ResetsReception reception.old reception.new result }
+{
     reception.receiver = receiver_on(alloc, &reception.link, reception.tuning)?;
     reception.step = None;
     Ok(())
 }
 
-/// How many bytes a receiver wants.
-pub fn receiver_room(slot: &Slot, bytes: &mut usize) -> Result<(), Refusal> {
+/// Begins a new stream of the receiver of a slot.
+pub fn receiver_reset(alloc: Global, slot: &mut Slot) -> Result<(), Refusal>
+    ensures { ResetsSlot slot.old slot.new result }
+{
+    match slot {
+        Slot::Receiver(reception) => reset(alloc, reception),
+        _ => Err(Refusal::OtherKind),
+    }
+}
+
+/// The number of bytes that a receiver takes next.
+pub fn receiver_room(slot: &Slot, bytes: &mut usize) -> Result<(), Refusal>
+    ensures { Gives (room_in (receiver_in slot.now)) bytes.old bytes.new result }
+{
     let Slot::Receiver(reception) = slot else {
         return Err(Refusal::OtherKind);
     };
@@ -109,15 +131,10 @@ pub fn receiver_room(slot: &Slot, bytes: &mut usize) -> Result<(), Refusal> {
     Ok(())
 }
 
-/// Gives a receiver bytes, at most as many as it wants.
-pub fn receiver_advance(
-    slot: &mut Slot,
-    bytes: &[u8],
-    step: &mut StepFields,
-) -> Result<(), Refusal> {
-    let Slot::Receiver(reception) = slot else {
-        return Err(Refusal::OtherKind);
-    };
+/// Gives a receiver bytes, no more than it takes next. The step is written and kept.
+fn advance(reception: &mut Reception, bytes: &[u8], step: &mut StepFields) -> Result<(), Refusal>
+    ensures { AdvancesReception reception.old reception.new bytes.now step.old step.new result }
+{
     if step.size != crate::step::SIZE {
         return Err(Refusal::BadSize);
     }
@@ -130,8 +147,20 @@ pub fn receiver_advance(
     Ok(())
 }
 
+/// Gives the receiver of a slot bytes, no more than it takes next.
+pub fn receiver_advance(slot: &mut Slot, bytes: &[u8], step: &mut StepFields) -> Result<(), Refusal>
+    ensures { AdvancesSlot slot.old slot.new bytes.now step.old step.new result }
+{
+    match slot {
+        Slot::Receiver(reception) => advance(reception, bytes, step),
+        _ => Err(Refusal::OtherKind),
+    }
+}
+
 /// Copies the packets that end in the frame of the last step.
-pub fn receiver_packets(slot: &Slot, out: &mut [u8], count: &mut usize) -> Result<(), Refusal> {
+pub fn receiver_packets(slot: &Slot, out: &mut [u8], count: &mut usize) -> Result<(), Refusal>
+    ensures { CopiesOf (listed (λ r. r.packets) (receiver_in slot.now)) out.old out.new count.old count.new result }
+{
     match slot {
         Slot::Receiver(reception) => copy_bytes(reception.receiver.packets(), out, count),
         _ => Err(Refusal::OtherKind),
@@ -139,7 +168,9 @@ pub fn receiver_packets(slot: &Slot, out: &mut [u8], count: &mut usize) -> Resul
 }
 
 /// Copies the soft values of the last frame.
-pub fn receiver_soft(slot: &Slot, out: &mut [i16], count: &mut usize) -> Result<(), Refusal> {
+pub fn receiver_soft(slot: &Slot, out: &mut [i16], count: &mut usize) -> Result<(), Refusal>
+    ensures { CopiesOf (listed (λ r. r.last.soft) (receiver_in slot.now)) out.old out.new count.old count.new result }
+{
     match slot {
         Slot::Receiver(reception) => copy_values(reception.receiver.soft(), out, count),
         _ => Err(Refusal::OtherKind),
@@ -147,7 +178,9 @@ pub fn receiver_soft(slot: &Slot, out: &mut [i16], count: &mut usize) -> Result<
 }
 
 /// Copies the decided bits of the last frame.
-pub fn receiver_word(slot: &Slot, out: &mut [u8], count: &mut usize) -> Result<(), Refusal> {
+pub fn receiver_word(slot: &Slot, out: &mut [u8], count: &mut usize) -> Result<(), Refusal>
+    ensures { CopiesOf (listed (λ r. digits_of r.last.bits) (receiver_in slot.now)) out.old out.new count.old count.new result }
+{
     match slot {
         Slot::Receiver(reception) => copy_bits(reception.receiver.word().truths(), out, count),
         _ => Err(Refusal::OtherKind),
@@ -228,7 +261,9 @@ pub fn receiver_certificate(
 }
 
 /// The figures of a step.
-fn figures_in(step: Option<Step>) -> Option<Figures> {
+fn figures_in(step: Option<Step>) -> Option<Figures>
+    ensures { result ≡ figures_in step }
+{
     match step {
         Some(Step::Frame(report)) => report.figures,
         _ => None,
@@ -236,16 +271,18 @@ fn figures_in(step: Option<Step>) -> Option<Figures> {
 }
 
 /// Gives the figures of the last step.
-pub fn receiver_figures(slot: &Slot, fields: &mut FiguresFields) -> Result<(), Refusal> {
+pub fn receiver_figures(slot: &Slot, out: &mut FiguresFields) -> Result<(), Refusal>
+    ensures { GivesFieldsIf fields.figures_fields (last_figures (reception_in slot.now)) (nat_eq out.old.size 112) out.old out.new result }
+{
     let Slot::Receiver(reception) = slot else {
         return Err(Refusal::OtherKind);
     };
-    if fields.size != crate::figures::SIZE {
+    if out.size != crate::figures::SIZE {
         return Err(Refusal::BadSize);
     }
     match figures_in(reception.step) {
         Some(figures) => {
-            *fields = figures_fields(figures);
+            *out = figures_fields(figures);
             Ok(())
         }
         None => Err(Refusal::NoneThere),
@@ -253,25 +290,34 @@ pub fn receiver_figures(slot: &Slot, fields: &mut FiguresFields) -> Result<(), R
 }
 
 /// Gives the sums of figures.
-pub fn receiver_sums(slot: &Slot, fields: &mut FiguresFields) -> Result<(), Refusal> {
+pub fn receiver_sums(slot: &Slot, out: &mut FiguresFields) -> Result<(), Refusal>
+    ensures { GivesFieldsIf fields.sums_fields (sums_in (receiver_in slot.now)) (nat_eq out.old.size 112) out.old out.new result }
+{
     let Slot::Receiver(reception) = slot else {
         return Err(Refusal::OtherKind);
     };
-    if fields.size != crate::figures::SIZE {
+    if out.size != crate::figures::SIZE {
         return Err(Refusal::BadSize);
     }
-    let _ = reception.receiver.room();
-    Err(Refusal::NotDone)
+    match reception.receiver.totals().sums {
+        Some(sums) => {
+            *out = sums_fields(sums);
+            Ok(())
+        }
+        None => Err(Refusal::NoneThere),
+    }
 }
 
 /// Gives the totals.
-pub fn receiver_totals(slot: &Slot, fields: &mut TotalsFields) -> Result<(), Refusal> {
+pub fn receiver_totals(slot: &Slot, out: &mut TotalsFields) -> Result<(), Refusal>
+    ensures { GivesFields fields.totals_fields (totals_in (receiver_in slot.now)) (nat_eq out.old.size 120) out.old out.new result }
+{
     let Slot::Receiver(reception) = slot else {
         return Err(Refusal::OtherKind);
     };
-    if fields.size != crate::totals::SIZE {
+    if out.size != crate::totals::SIZE {
         return Err(Refusal::BadSize);
     }
-    let _ = reception.receiver.room();
-    Err(Refusal::NotDone)
+    *out = totals_fields(reception.receiver.totals());
+    Ok(())
 }

@@ -1,6 +1,6 @@
 //! Why a call is refused, and the number of its result.
-ghost use Rattle.std.specs.Prelude.{◌≡◌};
-ghost use Rattle.s2_library.specs.Results.{refusal_number, number_of};
+ghost use Rattle.std.specs.Prelude.{◌≡◌, Err};
+ghost use Rattle.s2_library.specs.Results.{answer_of, refusal_number, number_of};
 
 /// Why a call is refused.
 #[derive(Clone, Copy, Debug, PartialEq, Eq)]
@@ -57,7 +57,8 @@ pub enum Refusal {
 impl Refusal {
     /// The number of the refusal for C: -1 to -23.
     pub fn number(self) -> i32
-        ensures { result ≡ refusal_number self }
+        ensures is { result ≡ refusal_number self }
+        ensures back { answer_of result ≡ Err self }
     {
         match self {
             Refusal::NoMemory => -1,
@@ -89,7 +90,8 @@ impl Refusal {
 
 /// The number of a result for C: 0, or that of its refusal.
 pub fn result_number(answer: Result<(), Refusal>) -> i32
-    ensures { result ≡ number_of answer }
+    ensures is { result ≡ number_of answer }
+    ensures back { answer_of result ≡ answer }
 {
     match answer {
         Ok(()) => 0,

@@ -1,11 +1,11 @@
-//! What lies behind a handle.
+//! The contents of a handle.
 use crate::code::{Code, Shelf};
 use crate::receiver::Reception;
 use crate::scanner::Scanner;
 use s2_modem::Judge;
 use s2_send::Sender;
 
-/// What lies behind a handle.
+/// The contents of a handle.
 pub enum Slot {
     Code(Code),
     Shelf(Shelf),

@@ -1,4 +1,7 @@
 //! The steps of a receiver, as C has them.
+ghost use Rattle.std.specs.Prelude.{◌≡◌};
+ghost use Rattle.s2_library.specs.Fields as fields;
+
 use s2_bbframe::HeaderFault;
 use s2_check::Verdict;
 use s2_receive::{Outcome, Report, Step};
@@ -25,7 +28,9 @@ pub struct StepFields {
 }
 
 /// The number of a verdict.
-pub(crate) fn verdict_number(verdict: Verdict) -> u32 {
+pub(crate) fn verdict_number(verdict: Verdict) -> u32
+    ensures { result ≡ fields.verdict_number verdict }
+{
     match verdict {
         Verdict::Broken => 0,
         Verdict::Parity => 1,
@@ -35,7 +40,9 @@ pub(crate) fn verdict_number(verdict: Verdict) -> u32 {
 }
 
 /// The number of an outcome.
-fn outcome_number(outcome: Outcome) -> u32 {
+fn outcome_number(outcome: Outcome) -> u32
+    ensures { result ≡ fields.outcome_number outcome }
+{
     match outcome {
         Outcome::Delivered { fixed: _ } => 0,
         Outcome::NoWord => 1,
@@ -46,7 +53,9 @@ fn outcome_number(outcome: Outcome) -> u32 {
 }
 
 /// The bits that the outer code changed, 0 if the frame was not delivered.
-fn fixed_in(outcome: Outcome) -> u32 {
+fn fixed_in(outcome: Outcome) -> u32
+    ensures { result ≡ fields.fixed_in outcome }
+{
     match outcome {
         Outcome::Delivered { fixed } => fixed,
         Outcome::NoWord | Outcome::BadHeader(_) => 0,
@@ -54,7 +63,9 @@ fn fixed_in(outcome: Outcome) -> u32 {
 }
 
 /// A step of this kind, at this symbol.
-fn step_of_kind(kind: u32, at: u64, symbols: u64) -> StepFields {
+fn step_of_kind(kind: u32, at: u64, symbols: u64) -> StepFields
+    ensures { result ≡ fields.step_of_kind kind at symbols }
+{
     StepFields {
         size: SIZE,
         kind,
@@ -72,7 +83,9 @@ fn step_of_kind(kind: u32, at: u64, symbols: u64) -> StepFields {
 }
 
 /// The step of a frame.
-fn frame_fields(report: Report) -> StepFields {
+fn frame_fields(report: Report) -> StepFields
+    ensures { result ≡ fields.frame_fields report }
+{
     StepFields {
         size: SIZE,
         kind: 1,
@@ -90,7 +103,9 @@ fn frame_fields(report: Report) -> StepFields {
 }
 
 /// A step, or that there is none yet.
-pub(crate) fn step_fields(step: Option<Step>) -> StepFields {
+pub(crate) fn step_fields(step: Option<Step>) -> StepFields
+    ensures { result ≡ fields.step_fields step }
+{
     match step {
         None => step_of_kind(0, 0, 0),
         Some(Step::Frame(report)) => frame_fields(report),

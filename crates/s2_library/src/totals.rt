@@ -1,4 +1,7 @@
 //! The totals of a receiver, as C has them.
+ghost use Rattle.std.specs.Prelude.{◌≡◌};
+ghost use Rattle.s2_library.specs.Fields as fields;
+
 use s2_receive::Totals;
 
 /// The size of [`TotalsFields`] in bytes.
@@ -24,7 +27,9 @@ pub struct TotalsFields {
 }
 
 /// The totals.
-pub(crate) fn totals_fields(totals: Totals) -> TotalsFields {
+pub(crate) fn totals_fields(totals: Totals) -> TotalsFields
+    ensures { result ≡ fields.totals_fields totals }
+{
     TotalsFields {
         size: SIZE,
         cut: u32::from(totals.cut),

@@ -1,4 +1,10 @@
 //! Transmitters.
+ghost use Rattle.std.specs.Prelude.{IfOk, IfSome};
+ghost use Rattle.s2_library.specs.Asked.{IsSenderOf};
+ghost use Rattle.s2_library.specs.Codes.{code_in as code_in_slot};
+ghost use Rattle.s2_library.specs.Copying.{digits_of};
+ghost use Rattle.s2_library.specs.Slots.{ClosesStream, ClosesStreamOf, CopiesOf, PutsPackets, PutsPacketsOf, TakesFrame, TakesFrameOf, listed, sender_in};
+
 use crate::code::code_in;
 use crate::copying::{copy_bits, copy_bytes};
 use crate::options::{Options, read_flags};
@@ -8,20 +14,13 @@ use crate::slot::Slot;
 use s2_send::{SendFault, Sender};
 use std::alloc::Global;
 
-/// The refusal of a stream.
-fn stream_refusal(fault: SendFault) -> Refusal {
-    match fault {
-        SendFault::NotWholePacket => Refusal::CutPacket,
-        SendFault::NoSync { .. } => Refusal::NoSync,
-        SendFault::Read | SendFault::Write => Refusal::Full,
-    }
-}
-
 /// A transmitter on a code, by options. The first refusal is returned.
-pub fn new_transmitter(alloc: Global, code: &Slot, options: &Options) -> Result<Slot, Refusal> {
+pub fn new_transmitter(alloc: Global, code: &Slot, options: &Options) -> Result<Slot, Refusal>
+    ensures { IfOk result (λ slot. IfSome (code_in_slot code.now) (λ c. IsSenderOf options.now c.matrix.now slot)) }
+{
     let code = code_in(code)?;
     let flags = read_flags(options)?;
-    let link = link_by(code, options, flags.is_short, flags.has_pilots)?;
+    let link = link_by(code, options, flags)?;
     match Sender::on_link(alloc, &link) {
         Ok(mut sender) => {
             sender.dummy_every(flags.dummy_every);
@@ -31,11 +30,10 @@ pub fn new_transmitter(alloc: Global, code: &Slot, options: &Options) -> Result<
     }
 }
 
-/// Gives a transmitter bytes of packets, and tells how many it took.
-pub fn transmitter_put(slot: &mut Slot, bytes: &[u8], taken: &mut usize) -> Result<(), Refusal> {
-    let Slot::Transmitter(sender) = slot else {
-        return Err(Refusal::OtherKind);
-    };
+/// Gives a transmitter bytes of packets, and gives the number of those that it took.
+fn put(sender: &mut Sender<'static>, bytes: &[u8], taken: &mut usize) -> Result<(), Refusal>
+    ensures { PutsPackets sender.old sender.new bytes.now taken.old taken.new result }
+{
     if sender.is_closed() {
         return Err(Refusal::Closed);
     }
@@ -44,21 +42,44 @@ pub fn transmitter_put(slot: &mut Slot, bytes: &[u8], taken: &mut usize) -> Resu
             *taken = count;
             Ok(())
         }
-        Err(fault) => Err(stream_refusal(fault)),
+        Err(SendFault::NotWholePacket) => Err(Refusal::CutPacket),
+        Err(SendFault::NoSync { .. }) => Err(Refusal::NoSync),
+        Err(SendFault::Read) | Err(SendFault::Write) => Err(Refusal::Full),
     }
 }
 
-/// Ends the stream.
-pub fn transmitter_close(slot: &mut Slot) -> Result<(), Refusal> {
-    let Slot::Transmitter(sender) = slot else {
-        return Err(Refusal::OtherKind);
-    };
+/// Gives the transmitter of a slot bytes of packets, and gives the number of those that it took.
+pub fn transmitter_put(slot: &mut Slot, bytes: &[u8], taken: &mut usize) -> Result<(), Refusal>
+    ensures { PutsPacketsOf slot.old slot.new bytes.now taken.old taken.new result }
+{
+    match slot {
+        Slot::Transmitter(sender) => put(sender, bytes, taken),
+        _ => Err(Refusal::OtherKind),
+    }
+}
+
+/// Ends a stream.
+fn close(sender: &mut Sender<'static>) -> Result<(), Refusal>
+    ensures { ClosesStream sender.old sender.new result }
+{
     if sender.is_closed() {
         return Err(Refusal::Closed);
     }
     match sender.close() {
         Ok(()) => Ok(()),
-        Err(fault) => Err(stream_refusal(fault)),
+        Err(SendFault::NotWholePacket) => Err(Refusal::CutPacket),
+        Err(SendFault::NoSync { .. }) => Err(Refusal::NoSync),
+        Err(SendFault::Read) | Err(SendFault::Write) => Err(Refusal::Full),
+    }
+}
+
+/// Ends the stream of the transmitter of a slot.
+pub fn transmitter_close(slot: &mut Slot) -> Result<(), Refusal>
+    ensures { ClosesStreamOf slot.old slot.new result }
+{
+    match slot {
+        Slot::Transmitter(sender) => close(sender),
+        _ => Err(Refusal::OtherKind),
     }
 }
 
@@ -72,10 +93,9 @@ pub fn transmitter_ready(slot: &Slot, is_ready: &mut u32) -> Result<(), Refusal>
 }
 
 /// Makes the next frame, and copies its symbols.
-pub fn transmitter_take(slot: &mut Slot, out: &mut [u8], count: &mut usize) -> Result<(), Refusal> {
-    let Slot::Transmitter(sender) = slot else {
-        return Err(Refusal::OtherKind);
-    };
+fn take(sender: &mut Sender<'static>, out: &mut [u8], count: &mut usize) -> Result<(), Refusal>
+    ensures { TakesFrame sender.old sender.new out.old out.new count.old count.new result }
+{
     if sender.take() {
         copy_bytes(sender.symbols(), out, count)
     } else {
@@ -83,8 +103,20 @@ pub fn transmitter_take(slot: &mut Slot, out: &mut [u8], count: &mut usize) -> R
     }
 }
 
+/// Makes the next frame of the transmitter of a slot, and copies its symbols.
+pub fn transmitter_take(slot: &mut Slot, out: &mut [u8], count: &mut usize) -> Result<(), Refusal>
+    ensures { TakesFrameOf slot.old slot.new out.old out.new count.old count.new result }
+{
+    match slot {
+        Slot::Transmitter(sender) => take(sender, out, count),
+        _ => Err(Refusal::OtherKind),
+    }
+}
+
 /// Copies the symbols of the frame that was made last.
-pub fn transmitter_symbols(slot: &Slot, out: &mut [u8], count: &mut usize) -> Result<(), Refusal> {
+pub fn transmitter_symbols(slot: &Slot, out: &mut [u8], count: &mut usize) -> Result<(), Refusal>
+    ensures { CopiesOf (listed (λ s. s.unit) (sender_in slot.now)) out.old out.new count.old count.new result }
+{
     match slot {
         Slot::Transmitter(sender) => copy_bytes(sender.symbols(), out, count),
         _ => Err(Refusal::OtherKind),
@@ -92,7 +124,9 @@ pub fn transmitter_symbols(slot: &Slot, out: &mut [u8], count: &mut usize) -> Re
 }
 
 /// Copies the codeword of the frame that was made last.
-pub fn transmitter_word(slot: &Slot, out: &mut [u8], count: &mut usize) -> Result<(), Refusal> {
+pub fn transmitter_word(slot: &Slot, out: &mut [u8], count: &mut usize) -> Result<(), Refusal>
+    ensures { CopiesOf (listed (λ s. digits_of s.codeword) (sender_in slot.now)) out.old out.new count.old count.new result }
+{
     match slot {
         Slot::Transmitter(sender) => copy_bits(sender.codeword().truths(), out, count),
         _ => Err(Refusal::OtherKind),
