@@ -82,7 +82,7 @@ def prepare(modcod, is_short, has_pilots, ratio):
     put("rows", "\n".join(run("rows", "--group", 360, "--groups", mode.groups, "--q", mode.q, "--weight", 6, "--seed", 1)).encode() + b"\n")
     draw = random.Random(modcod)
     put("sent.ts", b"".join(b"G" + draw.randbytes(187) for _ in range(PACKETS)))
-    run("mod", *options_of(modcod, is_short, has_pilots), "--number", 5, "--ro", 1, "--dummy", 2, "rows", "sent.ts", "symbols")
+    run("mod", *options_of(modcod, is_short, has_pilots), "--number", 5, "--ro", 1, "--dummy", 3, "rows", "sent.ts", "symbols")
     symbols = contents("symbols")
     lost = slice(4 * mode.symbols + 800, 8 * mode.symbols - 400)
     put("clean", bytes(444) + symbols[: lost.start] + bytes(lost.stop - lost.start) + symbols[lost.stop : -1002])
@@ -102,8 +102,8 @@ def try_modes():
 
 def try_sent(modcod, is_short, has_pilots):
     """The symbols and codewords of the transmitter."""
-    how = {"pilots": has_pilots, "roll_off": 1, "scrambling": 5, "dummy_every": 2}
-    mode = *options_of(modcod, is_short, has_pilots), "--number", 5, "--ro", 1, "--dummy", 2
+    how = {"pilots": has_pilots, "roll_off": 1, "scrambling": 5, "dummy_every": 3}
+    mode = *options_of(modcod, is_short, has_pilots), "--number", 5, "--ro", 1, "--dummy", 3
     lines = run("mod", *mode, "--codewords", "words", "rows", "sent.ts", "symbols")
     code = sembarohy.Code.from_file(place("rows"), modcod, short=is_short)
     made, symbols, words = sembarohy.Transmitter(code, modcod, **how), [], []
@@ -139,7 +139,8 @@ def try_received(modcod, is_short, has_pilots, **options):
             got["certificate"].append(frame.certificate or b"")
     judge("frames after the end", [], made.close())
     what, cut = f"MODCOD {modcod} {options}", [str(made.cut)] if made.cut else []
-    judge(f"{what}, lines", [*got["lines"], *cut, str(made.totals)], [line.partition(" changed ")[0] if line.startswith("end") else line for line in lines])
+    written = [line.partition(" changed ")[0] if line.startswith("end") else line for line in lines]
+    judge(f"{what}, lines", written, [*got["lines"], *cut, str(made.totals)])
     judge(f"{what}, packets", contents("received.ts"), b"".join(got["packets"]))
     judge(f"{what}, certificates", contents("certificates"), b"".join(got["certificate"]))
     judge(f"{what}, soft values", contents("values"), "".join(got["soft"]).encode())
