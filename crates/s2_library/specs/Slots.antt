@@ -25,15 +25,17 @@ use Rattle.s2_library.specs.declared.receiver.Reception.{Reception}
 use Rattle.s2_library.specs.declared.slot.Slot.{Slot}
 use Rattle.s2_library.specs.declared.slot.Slot.TheVariants as slots
 
--- the receiver of a slot, its transmitter, its judge
+-- the receiver of a slot
 abbrev pub receiver_in : Slot → Option Receiver
 receiver_in (slots.Receiver r) = Some r.receiver
 receiver_in slot = None
 
+-- the transmitter of a slot
 abbrev pub sender_in : Slot → Option Sender
 sender_in (slots.Transmitter s) = Some s
 sender_in slot = None
 
+-- the judge of a slot
 abbrev pub judge_in : Slot → Option Judging
 judge_in (slots.Judge j) = Some j
 judge_in slot = None
@@ -68,15 +70,17 @@ abbrev pub figures_in : Option Step → Option Figures
 figures_in (Some (steps.Frame report)) = report.figures
 figures_in step = None
 
--- the figures of the last step, the sums of figures, and the totals, each if the slot has a receiver
+-- the figures of the last step of a receiver
 abbrev pub last_figures : Option Reception → Option (Option Figures)
 last_figures None = None
 last_figures (Some r) = Some (figures_in r.step)
 
+-- the sums of a receiver's figures
 abbrev pub sums_in : Option Receiver → Option (Option Sums)
 sums_in None = None
 sums_in (Some r) = Some r.state.standing.totals.sums
 
+-- the totals of a receiver
 abbrev pub totals_in : Option Receiver → Option Totals
 totals_in None = None
 totals_in (Some r) = Some r.state.standing.totals
