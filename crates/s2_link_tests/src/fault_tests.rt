@@ -1,4 +1,4 @@
-//! A receiver whose reads and writes fail in turn: the results of its calls from then on, and what was written before.
+//! A receiver whose reads and writes fail in turn: the results of its calls from then on, and the bytes written before.
 use super::receiver_tests::frame;
 use super::reception::{assert_received, hear, receive};
 use super::samples::{Sample, two_frames, two_packets};

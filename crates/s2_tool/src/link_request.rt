@@ -173,14 +173,14 @@ fn note_packets<R: Disk + AllocGlobal>(
     }
 }
 
-/// The exit of a command of which bytes of a packet file were left out. Notes on the file of this name are written.
+/// The exit of a command that left out these bytes of its packet file. Notes on the file of this name are written.
 fn conclude_packets<R: Disk + AllocGlobal>(
     terminal: &Terminal<'_, R>,
     packets: Option<&str>,
     left_out: LeftOut,
     exit: Exit,
 ) -> Exit
-    ensures { exit ≡ Exit.Fault → result ≡ Exit.Fault }
+    ensures { result ≢ Exit.Fault → exit ≢ Exit.Fault }
 {
     note_packets(terminal, packets, exit);
     if packets.is_some() {
@@ -190,7 +190,7 @@ fn conclude_packets<R: Disk + AllocGlobal>(
 }
 
 /// Runs the command of a request on its opened files. `notes` takes the notes before a report.
-fn run_request<I: CountedRead, W: Output, F: Output, O: CountedWrite, E: CountedWrite>(
+fn run_on_files<I: CountedRead, W: Output, F: Output, O: CountedWrite, E: CountedWrite>(
     setup: LinkSetup,
     request: LinkRequest<'_, '_>,
     files: &mut LinkFiles<I, W>,
@@ -227,22 +227,6 @@ fn run_request<I: CountedRead, W: Output, F: Output, O: CountedWrite, E: Counted
     }
 }
 
-/// The end of a command on a link. A failed write is the program's fault.
-fn end_request<'a, F: Output + Drop>(
-    exit: Exit,
-    begun: bool,
-    records: Records<Truncating<F>>,
-) -> Result<Exit, Fault<'a>>
-    requires { wanted_count (λ t. F.count t.to) records.0 + (wanted_count (λ t. F.count t.to) records.1.0
-        + (wanted_count (λ t. F.count t.to) records.1.1.0 + wanted_count (λ b. F.count b.to.to) records.1.1.1)) ≤ 1 }
-    ensures { OnErr result (exit ≢ Exit.Fault) }
-{
-    match finish_command(exit, begun, records) {
-        Ok(exit) => Ok(exit),
-        Err(_) => Err(Fault::Write),
-    }
-}
-
 /// Opens the files of a request on a link, and runs its command on them. `notes` takes the notes before a report.
 pub(crate) fn with_link<'a, R: Disk + Clock + AllocGlobal, O: CountedWrite, E: CountedWrite>(
     rt: &R,
@@ -263,7 +247,7 @@ pub(crate) fn with_link<'a, R: Disk + Clock + AllocGlobal, O: CountedWrite, E: C
     let mut opener = Opener::new(rt);
     let mut files = open_link(&mut opener, terminal, &show, &unseen, names, reading)?;
     let mut records = open_records(&mut opener, terminal, setup.mode, request.records())?;
-    let exit = run_request(
+    let exit = run_on_files(
         setup,
         request,
         &mut files,
@@ -275,5 +259,8 @@ pub(crate) fn with_link<'a, R: Disk + Clock + AllocGlobal, O: CountedWrite, E: C
     show.finish();
     let left_out = files.from.left_out();
     let exit = conclude_packets(terminal, request.noted_packets(), left_out, exit);
-    end_request(exit, files.to.is_begun(), records)
+    match finish_command(exit, files.to.is_begun(), records) {
+        Ok(exit) => Ok(exit),
+        Err(_) => Err(Fault::Write),
+    }
 }

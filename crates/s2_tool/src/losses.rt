@@ -1,5 +1,5 @@
 //! The bytes of a packet file that `--resync` left out: the note on them, and the exit. This is plain code.
-ghost use Rattle.std.specs.Prelude.{◌≡◌, ◌+◌, ◌≤◌, length};
+ghost use Rattle.std.specs.Prelude.{◌≢◌, ◌+◌, ◌≤◌, length};
 ghost use Rattle.s2_console.specs.Lines.{line_room};
 
 use crate::opening::errors_of;
@@ -39,7 +39,7 @@ pub(crate) fn note_left_out<R: Disk>(terminal: &Terminal<'_, R>, left_out: LeftO
 
 /// The exit of a command that ended so: that of a loss, if all went well but bytes were left out.
 pub(crate) fn exit_after(left_out: LeftOut, exit: Exit) -> Exit
-    ensures { exit ≡ Exit.Fault → result ≡ Exit.Fault }
+    ensures { result ≢ Exit.Fault → exit ≢ Exit.Fault }
 {
     if exit == Exit::Fine && left_out.bytes > 0 {
         Exit::No
