@@ -1,10 +1,8 @@
 //! The windows of the last symbols in the four rotations, and the tests over all of them.
-ghost use Rattle.std.specs.Prelude.{◌≡◌, ℕ, ◌<◌, ◌%◌, ◌^◌, IsTrue};
-ghost use Rattle.std.specs.Int.RustNames.{bit_xor};
+ghost use Rattle.std.specs.Prelude.{◌≡◌, ◌<◌, ◌%◌, ◌^◌, true};
 ghost use Rattle.s2_mode.specs.Limits.{header_symbols};
-ghost use Rattle.s2_plframe.specs.Constants.{header_threshold};
 ghost use Rattle.s2_plframe.specs.Turns.{first_least, found_of, least_of};
-ghost use Rattle.s2_plframe.specs.Inside.{AreApart, AreWindows, IsFar, in_turn, is_between, sides_list, wrong_in, wrong_in_dummy};
+ghost use Rattle.s2_plframe.specs.Inside.{AreApart, AreWindows, IsFar, in_turn, is_between, is_far, sides_list, wrong_in, wrong_in_dummy};
 
 use crate::constants::HEADER_THRESHOLD;
 use crate::receive::found::Found;
