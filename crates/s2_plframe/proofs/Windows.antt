@@ -132,6 +132,15 @@ pub behind_is : (m : Mode) (coded d0 d1 d2 d3 lock : ℕ) (seen : List Decision)
 behind_is m coded d0 d1 d2 d3 lock seen w are is =
     λ t. nearest_of (wrong_is (header_bit m) seen coded w are.coded_is is t) (dummy_wrong_is coded d0 d1 d2 d3 m seen w are is t) lock
 
+-- one symbol more in the four registers of a search
+pub seen_after : (turns : Bool) (symbol : Symbol) (odd even odd' even' next_odd next_even next_odd' next_even' count next : ℕ) → count ≤ 90
+    → held next_odd next_even 0 ≡ decision symbol → ((j : ℕ) → j < 127 → held next_odd next_even (j + 1) ≡ held odd even j)
+    → held next_odd' next_even' 0 ≡ (sides turns symbol).opposite → ((j : ℕ) → j < 127 → held next_odd' next_even' (j + 1) ≡ held odd' even' j)
+    → next ≡ min (count + 1) 90 → sides_list next_odd next_even next_odd' next_even' next ≡ recent (sides_list odd even odd' even' count ++ sides turns symbol ∷ [])
+seen_after turns symbol odd even odd' even' next_odd next_even next_odd' next_even' count next few first others first' others' is =
+    seen_next (held_sides odd even odd' even') (held_sides next_odd next_even next_odd' next_even') count next (sides turns symbol) few
+    (λ t. record { straight = first t; opposite = first' t }) (λ j lt t. record { straight = others j lt t; opposite = others' j lt t }) is
+
 pub found_early : (s : Sought) (seen : List Sides) → length seen < 90 → founds.Nothing ≡ found_in s seen
 found_early s seen few = by s.turns
   where
@@ -140,6 +149,9 @@ found_early s seen few = by s.turns
     by false = rw (ap (λ n. ltb n 90) (length-map seen (λ x. x.straight)) ∙ lt-ltb (length seen) 90 few) refl
 
 -- ---- in all rotations
+
+pub length-held : (odd even count : ℕ) → length (held_list odd even count) ≡ count
+length-held odd even count = length-map-range_with_len (λ k. held odd even (count - 1 - k)) 0 count
 
 pub length-sides : (odd even odd' even' count : ℕ) → length (sides_list odd even odd' even' count) ≡ count
 length-sides odd even odd' even' count = length-map-range_with_len (λ k. held_sides odd even odd' even' (count - 1 - k)) 0 count
@@ -162,17 +174,17 @@ turned_3 odd even odd' even' count = map-map _ _ (range_with_len 0 count)
 
 module _ (m : Mode) (coded d0 d1 d2 d3 : ℕ) (are : AreHeaders m coded d0 d1 d2 d3) (seen : List Sides) (w_0 w_1 w_2 w_3 : ℕ) (is : AreWindows seen w_0 w_1 w_2 w_3) where
   pub wrong_each : (t : ℕ) → t < 4 → wrong_in coded (in_turn w_0 w_1 w_2 w_3 t) ≡ wrong_at m seen t
-  wrong_each 0 lt = wrong_is (header_bit m) (turned_window 0 seen) coded w_0 are.coded_is is.first
-  wrong_each 1 lt = wrong_is (header_bit m) (turned_window 1 seen) coded w_1 are.coded_is is.second
-  wrong_each 2 lt = wrong_is (header_bit m) (turned_window 2 seen) coded w_2 are.coded_is is.third
-  wrong_each 3 lt = wrong_is (header_bit m) (turned_window 3 seen) coded w_3 are.coded_is is.fourth
+  wrong_each zero lt = wrong_is (header_bit m) (turned_window 0 seen) coded w_0 are.coded_is is.first
+  wrong_each (suc zero) lt = wrong_is (header_bit m) (turned_window 1 seen) coded w_1 are.coded_is is.second
+  wrong_each (suc (suc zero)) lt = wrong_is (header_bit m) (turned_window 2 seen) coded w_2 are.coded_is is.third
+  wrong_each (suc (suc (suc zero))) lt = wrong_is (header_bit m) (turned_window 3 seen) coded w_3 are.coded_is is.fourth
   wrong_each (suc (suc (suc (suc t)))) lt = absurd (omega arith)
 
   pub dummy_each : (t : ℕ) → t < 4 → wrong_in_dummy d0 d1 d2 d3 (in_turn w_0 w_1 w_2 w_3 t) ≡ wrong_dummy_at seen t
-  dummy_each 0 lt = dummy_wrong_is coded d0 d1 d2 d3 m (turned_window 0 seen) w_0 are is.first
-  dummy_each 1 lt = dummy_wrong_is coded d0 d1 d2 d3 m (turned_window 1 seen) w_1 are is.second
-  dummy_each 2 lt = dummy_wrong_is coded d0 d1 d2 d3 m (turned_window 2 seen) w_2 are is.third
-  dummy_each 3 lt = dummy_wrong_is coded d0 d1 d2 d3 m (turned_window 3 seen) w_3 are is.fourth
+  dummy_each zero lt = dummy_wrong_is coded d0 d1 d2 d3 m (turned_window 0 seen) w_0 are is.first
+  dummy_each (suc zero) lt = dummy_wrong_is coded d0 d1 d2 d3 m (turned_window 1 seen) w_1 are is.second
+  dummy_each (suc (suc zero)) lt = dummy_wrong_is coded d0 d1 d2 d3 m (turned_window 2 seen) w_2 are is.third
+  dummy_each (suc (suc (suc zero))) lt = dummy_wrong_is coded d0 d1 d2 d3 m (turned_window 3 seen) w_3 are is.fourth
   dummy_each (suc (suc (suc (suc t)))) lt = absurd (omega arith)
 
   pub least_each : least_of (λ t. wrong_in coded (in_turn w_0 w_1 w_2 w_3 t)) ≡ least_of (wrong_at m seen)

@@ -1,6 +1,6 @@
 -- Symbols that came turned by quarters, as after a slip of a carrier loop: the search in all four rotations, the rotation
 -- of a frame, and its symbols turned back (own).
-use Rattle.std.specs.Prelude.{ℕ, zero, suc, ◌-◌, min, Bool, true, false, List, length, drop, map, take, neg_ℤ, nat_eq, nat_lt, nat_le, if◌then◌else◌}
+use Rattle.std.specs.Prelude.{ℕ, zero, suc, ◌-◌, min, Bool, true, false, List, length, drop, map, take, pos, ◌+ℤ◌, ◌-ℤ◌, neg_ℤ, int_lt, nat_eq, nat_lt, nat_le, if◌then◌else◌}
 use Rattle.s2_mode.specs.declared.symbols.Symbol.{Symbol}
 use Rattle.s2_mode.specs.Symbols.{symbol}
 use Rattle.s2_mode.specs.Limits.{header_symbols}
@@ -27,6 +27,10 @@ turned_back (suc zero) s = symbol s.q (neg_ℤ s.i)
 turned_back (suc (suc zero)) s = symbol (neg_ℤ s.i) (neg_ℤ s.q)
 turned_back _ s = symbol (neg_ℤ s.q) s.i
 
+-- the decisions on a symbol turned by two quarters: I + Q and Q - I change their signs
+abbrev pub opposite_decision : Symbol → Decision
+opposite_decision s = record { odd = int_lt (pos 0) (s.i +ℤ s.q); even = int_lt (pos 0) (s.q -ℤ s.i) }
+
 -- the decisions on a symbol, and on the symbol turned by two quarters
 pub record Sides : Type 0 where
   pub straight : Decision
@@ -38,7 +42,7 @@ undecided = record { odd = false; even = false }
 
 -- the decisions on a symbol for a search, in one rotation or in all four
 abbrev pub sides : Bool → Symbol → Sides
-sides turns s = record { straight = decision s; opposite = if turns then decision (turned_back 2 s) else undecided }
+sides turns s = record { straight = decision s; opposite = if turns then opposite_decision s else undecided }
 
 -- the decisions on the symbol turned back by quarters (`laws::rotations`): a quarter makes Q - I of I + Q, and -(I + Q)
 -- of Q - I

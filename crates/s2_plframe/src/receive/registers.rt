@@ -6,7 +6,7 @@ ghost use Rattle.s2_mode.specs.Mode.{mode_of};
 ghost use Rattle.s2_bits.specs.Bits.{number};
 ghost use Rattle.s2_plframe.specs.Header.{header_bit};
 ghost use Rattle.s2_plframe.specs.Search.{decision};
-ghost use Rattle.s2_plframe.specs.Turns.{turned_back};
+ghost use Rattle.s2_plframe.specs.Turns.{opposite_decision};
 ghost use Rattle.s2_plframe.specs.Inside.{held, held_list, IsHeader, IsWindow, is_near, wrong_in};
 
 use crate::constants::HEADER_THRESHOLD;
@@ -62,7 +62,7 @@ impl Signs {
     /// The signs after one more symbol, which is turned by two quarters.
     #[inline(always)]
     pub(crate) fn with_opposite(self, symbol: Symbol) -> Signs
-        ensures newest { held result.odd result.even 0 ≡ decision (turned_back 2 symbol) }
+        ensures newest { held result.odd result.even 0 ≡ opposite_decision symbol }
         ensures others { (j : ℕ) → j < 127 → held result.odd result.even (j + 1) ≡ held self.odd self.even j }
     {
         let odd = pushed(self.odd, opposite_odd(symbol));

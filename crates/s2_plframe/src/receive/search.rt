@@ -3,7 +3,7 @@ ghost use Rattle.std.specs.Prelude.{◌≡◌, ℕ, ◌+◌, ◌<◌, ◌%◌, �
 ghost use Rattle.s2_mode.specs.Limits.{header_symbols};
 ghost use Rattle.s2_plframe.specs.Header.{header_bit};
 ghost use Rattle.s2_plframe.specs.Search.{decision, matches_header};
-ghost use Rattle.s2_plframe.specs.Turns.{sides, turned_back, found_in, behind_in, first_least, wrong_at};
+ghost use Rattle.s2_plframe.specs.Turns.{sides, opposite_decision, found_in, behind_in, first_least, wrong_at};
 ghost use Rattle.s2_plframe.specs.declared.receive.found.Found.TheVariants as founds;
 ghost use Rattle.s2_plframe.specs.Inside.{held};
 
@@ -36,17 +36,17 @@ pub(crate) fn says_even(symbol: Symbol) -> bool
 /// A symbol's bit as the first, third and so on of a header, after a turn by two quarters.
 #[inline(always)]
 pub(crate) fn opposite_odd(symbol: Symbol) -> bool
-    ensures { result ≡ (decision (turned_back 2 symbol)).odd }
+    ensures { result ≡ (opposite_decision symbol).odd }
 {
-    -i32::from(symbol.i) + -i32::from(symbol.q) < 0
+    i32::from(symbol.i) + i32::from(symbol.q) > 0
 }
 
 /// A symbol's bit as one of the others, after a turn by two quarters.
 #[inline(always)]
 pub(crate) fn opposite_even(symbol: Symbol) -> bool
-    ensures { result ≡ (decision (turned_back 2 symbol)).even }
+    ensures { result ≡ (opposite_decision symbol).even }
 {
-    -i32::from(symbol.q) - -i32::from(symbol.i) < 0
+    i32::from(symbol.q) - i32::from(symbol.i) > 0
 }
 
 /// A symbol's bit as symbol `k` of a header.
