@@ -93,7 +93,7 @@ module _ (coded d0 d1 d2 d3 opposite apart : ℕ) (are : AreApart d0 d1 d2 d3 op
         × ((12 < count_ones (bit_xor (d1 % 2 ^ 64) (w % 2 ^ 64))) × (count_ones (bit_xor (d1 % 2 ^ 64) (w % 2 ^ 64)) + 12 < apart))
     three =
         let all = all_parts (is_between apart (wrong_in (coded % 2 ^ 64) (w % 2 ^ 64))) (is_between apart (wrong_in (d0 % 2 ^ 64) (w % 2 ^ 64))) (is_between apart (wrong_in (d1 % 2 ^ 64) (w % 2 ^ 64))) passes in
-        (parts apart (wrong_in (coded % 2 ^ 64) (w % 2 ^ 64)) all.0, parts apart (wrong_in (d0 % 2 ^ 64) (w % 2 ^ 64)) all.1.0, parts apart (wrong_in (d1 % 2 ^ 64) (w % 2 ^ 64)) all.1.1)
+        (parts apart (wrong_in (coded % 2 ^ 64) (w % 2 ^ 64)) all.0, parts apart (wrong_in (d0 % 2 ^ 64) (w % 2 ^ 64)) all.1, parts apart (wrong_in (d1 % 2 ^ 64) (w % 2 ^ 64)) all.2)
 
     pub far_itself : IsFar coded d0 d1 d2 d3 w
     far_itself =

@@ -13,4 +13,4 @@ pub use payload::payload_of;
 pub use registers::{Signs, header_number, wrong_in};
 pub use search::{Search, header_matches};
 pub use tolerance::HeaderTolerance;
-pub use turns::{derotate_into, turn_of};
+pub use turns::{derotate, derotate_into, turn_of};

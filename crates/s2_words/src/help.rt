@@ -149,6 +149,9 @@ The report, a line per frame as it is decided, and a line at the end:
             $last,
             "  Frames are counted from 1, symbols from 0. Dummy frames have no line.
 
+With --turns, at the end of the line of a frame that came rotated:
+  turn T       its symbols were T times 90 degrees ahead of those that were sent, 1 to 3
+
 With --every N, only every N-th frame and each lost frame have a line, and there are these:
   every N                                     the first line
   sum frames F delivered D certified C        after every N frames: of F frames so far D were delivered, C of them sole or most-likely
@@ -187,6 +190,7 @@ Notes, on standard error:
   frames again from symbol S                           printed when the next frame is found
   N symbols skipped in M places, the first at S        they are part of no frame: symbols were inserted, or headers were lost
   no frame of MODE in N symbols: try s2 scan           the recording may have another mode, byte order, sample format or rotation
+  frames stand turned by T from symbol S: try --turns  in the skipped symbols are headers rotated by T times 90 degrees
   N packets incomplete                                 they began, but a frame with the rest is missing or was not delivered
   of N lost frames M had a BCH word whose header is refused    decoded, but not a transport stream (a generic stream? another format?)
   the headers' amplitude, noise included, is A, not 990: use --gain G of tools/convert    no frame is delivered, and the amplitude is off by 1.5 dB or more

@@ -72,3 +72,25 @@ pub fn derotate_into(mode: Mode, frame: &[Symbol], out: &mut [Symbol]) -> u8
     rotate_back_into(turn, frame, out);
     turn
 }
+
+/// Turns symbols back by quarters, in their place.
+fn rotate_back(turn: u8, symbols: &mut [Symbol])
+    requires { turn < 4 }
+    ensures { symbols.new ≡ map (rotated_back turn) symbols.old }
+{
+    for k in 0..symbols.len() {
+        symbols[k] = rotated_back(turn, symbols[k]);
+    }
+}
+
+/// Turns a frame's symbols back by its rotation, in their place, and returns the rotation, as [`derotate_into`].
+pub fn derotate(mode: Mode, frame: &mut [Symbol]) -> u8
+    requires { header_symbols ≤ length frame.old }
+    ensures turn { result ≡ turn_of mode frame.old }
+    ensures few { result < 4 }
+    ensures is { frame.new ≡ derotated mode frame.old }
+{
+    let turn = turn_of(mode, frame);
+    rotate_back(turn, frame);
+    turn
+}
