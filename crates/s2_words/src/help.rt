@@ -190,7 +190,6 @@ Notes, on standard error:
   frames again from symbol S                           printed when the next frame is found
   N symbols skipped in M places, the first at S        they are part of no frame: symbols were inserted, or headers were lost
   no frame of MODE in N symbols: try s2 scan           the recording may have another mode, byte order, sample format or rotation
-  frames stand turned by T from symbol S: try --turns  in the skipped symbols are headers rotated by T times 90 degrees
   N packets incomplete                                 they began, but a frame with the rest is missing or was not delivered
   of N lost frames M had a BCH word whose header is refused    decoded, but not a transport stream (a generic stream? another format?)
   the headers' amplitude, noise included, is A, not 990: use --gain G of tools/convert    no frame is delivered, and the amplitude is off by 1.5 dB or more
