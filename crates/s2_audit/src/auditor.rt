@@ -85,7 +85,7 @@ fn read_at<R: CountedRead>(
     Ok(true)
 }
 
-/// Turns a frame's symbols back, if that is wanted.
+/// Rotates a frame's symbols back, if that is wanted.
 fn turn_back(mode: Mode, turns: bool, symbols: &mut [Symbol])
     requires { length symbols.old ≡ symbols_in mode }
     requires header { header_symbols ≤ length symbols.old }

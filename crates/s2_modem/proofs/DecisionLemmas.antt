@@ -79,7 +79,7 @@ figures_are link tuning symbols upright held soft bits rounds meter figures foun
     by_want true f is = ap Some is
     by_want false f is = refl
 
--- the symbols that are decided, by what turned them back
+-- the symbols that are decided, by what rotated them back
 pub upright_by : (old new : Derotating) (turns : Bool) (frame : List Symbol) → new.turns ≡ old.turns → old.turns ≡ turns → (old.turns ≡ true → new.symbols ≡ derotated old.mode frame)
     → upright new frame ≡ (if turns then derotated old.mode frame else frame)
 upright_by old new true frame same is wrote = ap (λ b. if b then new.symbols else frame) (same ∙ is) ∙ wrote is

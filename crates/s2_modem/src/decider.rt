@@ -18,7 +18,7 @@ use s2_tuning::Tuning;
 use std::alloc::{AllocError, Global};
 use std::marker::Model;
 
-/// Decides the frames of a link, in its own buffers. It has a finder of figures, and turns frames back, only if the tuning
+/// Decides the frames of a link, in its own buffers. It has a finder of figures, and rotates frames back, only if the tuning
 /// asks for it.
 pub(crate) struct Decider<'a> {
     mode: Mode,
@@ -144,7 +144,7 @@ impl<'a> Decide for Decider<'a> {
 
     ghost last = { λ d. d.last };
 
-    /// Decides a frame, exactly as the definition says for its symbols: turned back, if they came turned and the tuning has
+    /// Decides a frame, exactly as the definition says for its symbols: rotated back, if they arrived rotated and the tuning has
     /// turns.
     fn decide(&mut self, symbols: &[Symbol]) {
         let turn = self.derotator.derotate(symbols);
