@@ -144,8 +144,7 @@ impl<'a> Decide for Decider<'a> {
 
     ghost last = { λ d. d.last };
 
-    /// Decides a frame, exactly as the definition says for its symbols: rotated back, if they arrived rotated and the tuning has
-    /// turns.
+    /// Decides a frame, exactly as the definition says for its symbols, after rotating them back if the tuning says so.
     fn decide(&mut self, symbols: &[Symbol]) {
         let turn = self.derotator.derotate(symbols);
         let upright = self.derotator.upright(symbols);

@@ -17,6 +17,7 @@ pub record Sought : Type 0 where
   pub mode : Mode
   pub turns : Bool
 
+-- these frames of a mode
 abbrev pub sought_of : Mode → Bool → Sought
 sought_of mode turns = record { mode = mode; turns = turns }
 
