@@ -85,7 +85,7 @@ fn read_at<R: CountedRead>(
     Ok(true)
 }
 
-/// Rotates a frame's symbols back, if that is wanted.
+/// Rotates a frame's symbols back, or leaves them unchanged.
 fn turn_back(mode: Mode, turns: bool, symbols: &mut [Symbol])
     requires frame { length symbols.old ≡ symbols_in mode }
     requires header { header_symbols ≤ length symbols.old }

@@ -94,7 +94,7 @@ figures_found None symbols soft bits rounds = None
 figures_found (Some f) symbols soft bits rounds = Some (figures_of f.mode f.number symbols soft bits rounds)
 
 -- the stages of a decider are of its mode, the divisor is that of its tuning, and the joiner can take the last
--- delivered field. There is a finder of figures, and frames are rotated back, exactly if the tuning asks for it
+-- delivered field. There is a finder of figures, and frames are rotated back, exactly if the tuning says so
 pub record IsDeciderState (mode : Mode) (rows : Rows) (tuning : Tuning) (demodulates : Demodulating) (corrects : Mode) (reads : Reading) (derotates : Derotating) (meter : Option FigureMeter) (last : Decided) : Type 0 where
   pub valid : IsMode mode
   pub sizes : HasCodeSizes mode

@@ -19,7 +19,7 @@ use std::alloc::{AllocError, Global};
 use std::marker::Model;
 
 /// Decides the frames of a link, in its own buffers. It has a finder of figures, and rotates frames back, only if the tuning
-/// asks for it.
+/// says so.
 pub(crate) struct Decider<'a> {
     mode: Mode,
     roll_off: RollOff,

@@ -10,7 +10,7 @@ use s2_plframe::derotate_into;
 use std::alloc::{AllocError, Global};
 use std::marker::Model;
 
-/// Rotates the frames of a mode back, if the tuning asks for it, into a buffer of its own. Otherwise it takes no memory.
+/// Rotates the frames of a mode back, if the tuning says so, into its own buffer. Otherwise it takes no memory.
 pub(crate) struct Derotator {
     mode: Mode,
     turns: bool,
