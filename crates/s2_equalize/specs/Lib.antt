@@ -1,0 +1,4 @@
+pub mod Complex
+pub mod Gains
+pub mod Equalizer
+pub mod Bounds
