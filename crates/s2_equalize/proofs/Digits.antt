@@ -1,12 +1,12 @@
 -- The numbers of binary digits, and the divisors that they give.
-use Rattle.std.proofs.Common.{◌≡◌, ℕ, zero, suc, ◌+◌, ◌-◌, ◌*◌, ◌/◌, ◌%◌, ◌^◌, ◌≤◌, ◌<◌, max, ℤ, pos, neg_ℤ, unsigned_abs, inl, inr, ap, ◌∙◌, refl, arith, mul-le-mul}
+use Rattle.std.proofs.Common.{◌≡◌, ℕ, zero, suc, ◌+◌, ◌-◌, ◌*◌, ◌/◌, ◌%◌, ◌^◌, ◌≤◌, ◌<◌, ℤ, pos, neg_ℤ, unsigned_abs, inl, inr, ap, ◌∙◌, arith, mul-le-mul}
 use Rattle.std.specs.Int.{w64, leading_zeros}
 use Rattle.std.proofs.lemmas.Bool.{cases_lt}
 use Rattle.std.proofs.lemmas.Nat.{leading_length, one_shl, pow_below, pow-add}
 use Rattle.std.proofs.Math.Nat.{pow-suc, pow-le-pow_right}
 use Rattle.std.proofs.lemmas.Int.{ints, unsigned_abs-mul}
 use Rattle.s2_equalize.specs.declared.complex.Complex.{Complex}
-use Rattle.s2_equalize.specs.Complex.{conjugate, energy, over, scaled, IsWithin}
+use Rattle.s2_equalize.specs.Complex.{conjugate, energy, scaled, IsWithin}
 use Rattle.s2_equalize.specs.Equalizer.{divisor, reciprocal}
 use Rattle.s2_equalize.proofs.Sizes.{over_within}
 
@@ -14,10 +14,10 @@ digits_from : (n zeros m : ℕ) → zeros + m ≡ 64 → 2 ^ m ≤ 2 * n + 1 →
 digits_from n zeros m sum size small =
     elim (cases_lt 23 m) [
       | inl more ↦
-      let power : 2 ^ 23 < 2 ^ m = pow_below 23 m more in
-      let most : 2 ^ m ≤ 2 ^ 23 + 1 = omega (arith, size, small) in
-      let odd : 2 ^ m ≡ 2 * 2 ^ (m - 1) = ap (λ (k : ℕ). 2 ^ k) (omega (arith, more)) ∙ (pow-suc 2 (m - 1) ∙ omega arith) in
-      absurd (omega (arith, power, most, odd))
+          let power : 2 ^ 23 < 2 ^ m = pow_below 23 m more in
+          let most : 2 ^ m ≤ 2 ^ 23 + 1 = omega (arith, size, small) in
+          let odd : 2 ^ m ≡ 2 * 2 ^ (m - 1) = ap (λ (k : ℕ). 2 ^ k) (omega (arith, more)) ∙ (pow-suc 2 (m - 1) ∙ omega arith) in
+          absurd (omega (arith, power, most, odd))
       | inr le ↦ omega (arith, sum, le)
     ]
 
@@ -33,14 +33,14 @@ product_le : (x y d : ℕ) → x * x ≤ d → y * y ≤ d → x * y ≤ d
 product_le x y d p q =
     elim (cases_lt x y) [
       | inl less ↦
-      let le : x ≤ y = omega (arith, less) in
-      let same : y ≤ y = omega arith in
-      let product : x * y ≤ y * y = mul-le-mul le same in
-      omega (arith, product, q)
+          let le : x ≤ y = omega (arith, less) in
+          let same : y ≤ y = omega arith in
+          let product : x * y ≤ y * y = mul-le-mul le same in
+          omega (arith, product, q)
       | inr more ↦
-      let same : x ≤ x = omega arith in
-      let product : x * y ≤ x * x = mul-le-mul same more in
-      omega (arith, product, p)
+          let same : x ≤ x = omega arith in
+          let product : x * y ≤ x * x = mul-le-mul same more in
+          omega (arith, product, p)
     ]
 
 -- a number below a quarter of 2^b counts as that quarter

@@ -1,7 +1,6 @@
 -- The components of the symbols that are known.
-use Rattle.std.proofs.Common.{◌≡◌, ℕ, zero, suc, ◌+◌, ◌-◌, ◌*◌, ◌≤◌, ◌<◌, Bool, true, false, cond, ℤ, pos, neg_ℤ, unsigned_abs, [], length, subst, sym, ap, refl, arith, ltb, ◌%◌, ◌/◌}
-use Rattle.std.specs.Prelude.{nat_lt, ◌==◌, if◌then◌else◌}
-use Rattle.std.specs.Int.{int_min}
+use Rattle.std.proofs.Common.{◌≡◌, ℕ, zero, suc, ◌+◌, ◌-◌, ◌*◌, ◌≤◌, ◌<◌, Bool, true, false, cond, ℤ, pos, neg_ℤ, unsigned_abs, [], length, subst, sym, arith, ◌%◌, ◌/◌}
+use Rattle.std.specs.Prelude.{nat_lt, ◌==◌}
 use Rattle.std.proofs.lemmas.Int.{ints, clamps}
 use Rattle.std.proofs.lemmas.List.FromFn.{get_or-map-range_with_len, length-map-range_with_len}
 use Rattle.s2_mode.specs.declared.symbols.Symbol.{Symbol}

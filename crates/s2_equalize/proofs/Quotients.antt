@@ -1,5 +1,5 @@
 -- Whole numbers divided to the nearest whole number, and square roots.
-use Rattle.std.proofs.Common.{◌≡◌, ℕ, zero, suc, ◌+◌, ◌*◌, ◌/◌, ◌≤◌, ◌<◌, Bool, true, false, cond, ℤ, pos, negsuc, ◌+ℤ◌, unsigned_abs, refl, ap, ◌∙◌, sym, arith, mul-le-mul, inl, inr}
+use Rattle.std.proofs.Common.{◌≡◌, ℕ, zero, suc, ◌+◌, ◌*◌, ◌/◌, ◌≤◌, ◌<◌, Bool, true, false, cond, ℤ, pos, negsuc, ◌+ℤ◌, unsigned_abs, refl, arith, mul-le-mul, inl, inr}
 use Rattle.std.specs.Prelude.{nat_le}
 use Rattle.std.specs.Int.{int_div_euclid}
 use Rattle.std.proofs.lemmas.Bool.{leb-true, leb-false, cases_lt}
@@ -51,10 +51,10 @@ pub part_below : (n r k : ℕ) → IsRoot n r → k * k ≤ n → k ≤ r
 part_below n r k is small =
     elim (cases_lt r k) [
       | inl more ↦
-      let next : r + 1 ≤ k = omega (arith, more) in
-      let square = mul-le-mul next next in
-      let above = is.above in
-      absurd (omega (arith, square, above, small))
+          let next : r + 1 ≤ k = omega (arith, more) in
+          let square = mul-le-mul next next in
+          let above = is.above in
+          absurd (omega (arith, square, above, small))
       | inr le ↦ le
     ]
 

@@ -1,5 +1,5 @@
 -- How large the parts of sums, products and quotients are.
-use Rattle.std.proofs.Common.{◌≡◌, ℕ, zero, suc, ◌+◌, ◌*◌, ◌/◌, ◌≤◌, ◌<◌, ℤ, pos, ◌+ℤ◌, ◌-ℤ◌, ◌*ℤ◌, neg_ℤ, unsigned_abs, ◌^◌, to_z, of_z, w64, ap, ap₂, ◌∙◌, sym, add-one, arith, mul-le-mul, refl}
+use Rattle.std.proofs.Common.{◌≡◌, ℕ, ◌+◌, ◌*◌, ◌≤◌, ◌<◌, ℤ, pos, ◌+ℤ◌, ◌-ℤ◌, ◌*ℤ◌, unsigned_abs, ◌^◌, to_z, of_z, w64, ap, ap₂, ◌∙◌, add-one, arith, mul-le-mul, refl}
 use Rattle.std.proofs.lemmas.Int.{ints, unsigned_abs-mul}
 use Rattle.s2_equalize.specs.declared.complex.Complex.{Complex}
 use Rattle.s2_equalize.specs.Complex.{complex, conjugate, energy, over, plus, scaled, sum_from, times, times_conjugate, root, IsWithin}

@@ -1,5 +1,5 @@
 -- The bounds of the equalizer's numbers (own). The code's numbers of 64 and 32 bits hold all of them.
-use Rattle.std.specs.Prelude.{◌≡◌, ℕ, ◌+◌, ◌*◌, ◌<◌, ◌≤◌, ◌^◌, unsigned_abs, List, length}
+use Rattle.std.specs.Prelude.{◌≡◌, ℕ, ◌<◌, ◌≤◌, ◌^◌, unsigned_abs, List, length}
 use Rattle.s2_mode.specs.declared.symbols.Symbol.{Symbol}
 use Rattle.s2_mode.specs.Symbols.{symbol_at}
 use Rattle.s2_equalize.specs.declared.complex.Complex.{Complex}

@@ -9,7 +9,7 @@ use Rattle.s2_mode.specs.Limits.{header_symbols}
 use Rattle.s2_mode.specs.Mode.{Mode, pilot_blocks_of, symbols_in}
 use Rattle.s2_plframe.specs.Constants.{pilot_block}
 use Rattle.s2_equalize.specs.declared.complex.Complex.{Complex}
-use Rattle.s2_equalize.specs.Complex.{complex, complex_at, conjugate, energy, number_of, over, plus, scaled, times}
+use Rattle.s2_equalize.specs.Complex.{complex_at, conjugate, energy, number_of, over, plus, scaled, times}
 use Rattle.s2_equalize.specs.Gains.{known_frame, gains_of, smoothed}
 
 -- the number of binary digits of the larger part of a number

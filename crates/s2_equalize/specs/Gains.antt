@@ -1,6 +1,6 @@
 -- The gain of a received frame at each block of symbols that are known before anything is decided (own). The blocks are the
 -- header, and the pilot blocks (EN 302 307-1, 5.5.2 and 5.5.3).
-use Rattle.std.specs.Prelude.{ℕ, zero, suc, ◌+◌, ◌-◌, ◌*◌, ◌==◌, ◌<◌, ◌≤◌, pos, unsigned_abs, List, [], length, map, nat_le, min, if◌then◌else◌}
+use Rattle.std.specs.Prelude.{ℕ, zero, suc, ◌+◌, ◌-◌, ◌*◌, ◌==◌, pos, List, [], length, map, nat_le, min, if◌then◌else◌}
 use Rattle.std.specs.List.{range_with_len}
 use Rattle.s2_mode.specs.declared.symbols.Symbol.{Symbol}
 use Rattle.s2_mode.specs.Symbols.{symbol_at}
@@ -9,7 +9,7 @@ use Rattle.s2_mode.specs.Mode.{Mode}
 use Rattle.s2_plframe.specs.Constants.{pilot_block, pilot_period, pilot_spacing}
 use Rattle.s2_plframe.specs.Frame.{frame_symbols}
 use Rattle.s2_equalize.specs.declared.complex.Complex.{Complex}
-use Rattle.s2_equalize.specs.Complex.{complex, complex_at, energy, number_of, over, plus, root, scaled, sum_from, times, times_conjugate}
+use Rattle.s2_equalize.specs.Complex.{complex, complex_at, energy, number_of, over, root, scaled, sum_from, times, times_conjugate}
 
 -- the frame without a payload: what is known of it, and the origin at all other places
 unfoldable pub known_frame : Mode → ℕ → List Symbol

@@ -54,7 +54,11 @@ impl Model for Equalizer {
 }
 
 /// The symbols of a mode's frames that are known, and the origin at all other places.
-fn known_frame(alloc: Global, mode: Mode, number: ScramblingNumber) -> Result<Vec<Symbol>, AllocError>
+fn known_frame(
+    alloc: Global,
+    mode: Mode,
+    number: ScramblingNumber,
+) -> Result<Vec<Symbol>, AllocError>
     ensures { IfOk result (λ v. v.items ≡ known_frame mode number) }
 {
     let origin = Symbol { i: 0, q: 0 };
@@ -95,11 +99,7 @@ impl Equalizer {
 
     /// The equalizer of a mode and a scrambling number (EN 302 307-1, 5.5.4), with all the memory that it needs.
     /// `AllocError` only if it is out of memory.
-    pub fn new(
-        alloc: Global,
-        mode: Mode,
-        number: ScramblingNumber,
-    ) -> Result<Equalizer, AllocError>
+    pub fn new(alloc: Global, mode: Mode, number: ScramblingNumber) -> Result<Equalizer, AllocError>
         ensures { IfOk result (λ e. e ≡ equalizer_of mode number) }
     {
         let blocks = mode.pilot_blocks();

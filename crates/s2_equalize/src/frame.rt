@@ -109,7 +109,12 @@ fn factor_of(factors: &[Complex], fineness: u32, stretch: usize) -> Factor
 }
 
 /// Multiplies the symbols of a frame by its factors. They change after the header's first stretch with each 36 symbols.
-pub(crate) fn multiply_frame(factors: &[Complex], fineness: u32, symbols: &[Symbol], out: &mut [Symbol])
+pub(crate) fn multiply_frame(
+    factors: &[Complex],
+    fineness: u32,
+    symbols: &[Symbol],
+    out: &mut [Symbol],
+)
     requires some { 2 ≤ length factors.now }
     requires most { AreWithin factor_bound factors.now }
     requires fineness { fineness ≤ 23 }
@@ -120,7 +125,13 @@ pub(crate) fn multiply_frame(factors: &[Complex], fineness: u32, symbols: &[Symb
         → symbol_at out.new i ≡ multiplied fineness (factor_at factors.now (stretch i)) (symbol_at symbols.now i) }
 {
     let stretches = (symbols.len() - HEADER_SYMBOLS).div_ceil(PILOT_BLOCK);
-    multiply_each(symbols, 0, HEADER_SYMBOLS, factor_of(factors, fineness, 0), out);
+    multiply_each(
+        symbols,
+        0,
+        HEADER_SYMBOLS,
+        factor_of(factors, fineness, 0),
+        out,
+    );
     for stretch in 0..stretches {
         let factor = factor_of(factors, fineness, stretch);
         let at = HEADER_SYMBOLS + PILOT_BLOCK * stretch;

@@ -6,8 +6,8 @@ ghost use Rattle.s2_equalize.specs.Complex as by;
 ghost use Rattle.s2_equalize.specs.Gains.{mean_gain, smoothed, turned, weight, weights};
 ghost use Rattle.s2_equalize.specs.Gains as gains_by;
 
-use crate::complex::{Complex, ORIGIN, over, plus, scaled, times, times_conjugate};
 use crate::carrier::{turn, turned_once, turns};
+use crate::complex::{Complex, ORIGIN, over, plus, scaled, times, times_conjugate};
 
 /// How much a block counts.
 #[inline(always)]
@@ -45,7 +45,14 @@ struct NearSum {
 }
 
 /// The gains from `at` on, below `end`, turned to block `k`, weighted and summed.
-fn weighted(gains: &[Complex], turn: Complex, turns: &[Complex; 5], k: usize, at: usize, end: usize) -> NearSum
+fn weighted(
+    gains: &[Complex],
+    turn: Complex,
+    turns: &[Complex; 5],
+    k: usize,
+    at: usize,
+    end: usize,
+) -> NearSum
     requires order { at ≤ end }
     requires inside { end ≤ length gains.now }
     requires after { k ≤ at + 4 }

@@ -1,9 +1,9 @@
-use Rattle.std.proofs.Common.{◌≡◌, ◌≢◌, ◌≤◌, ◌<◌, ◌^◌, cond, true, false, eqb, refl, sym, ap, ap₂, subst, ◌∙◌, arith}
+use Rattle.std.proofs.Common.{◌≡◌, ◌≢◌, ◌<◌, cond, sym, ap, ap₂, subst, ◌∙◌, arith}
 use Rattle.std.proofs.lemmas.Bool.{eq-eqb, ne_eqb}
 use Rattle.s2_equalize.specs.declared.complex.Complex.{Complex}
 use Rattle.s2_equalize.specs.Complex.{IsWithin, energy, over, root, scaled}
 use Rattle.s2_equalize.specs.Gains.{no_turn, turn_of}
-use Rattle.s2_equalize.proofs.Sizes.{turn_within, within_more}
+use Rattle.s2_equalize.proofs.Sizes.{turn_within}
 use Rattle.s2_equalize.proofs.carrier.turn_of.Goals as goal
 
 none : (a : Complex) → root (energy a) ≡ 0 → no_turn ≡ turn_of a

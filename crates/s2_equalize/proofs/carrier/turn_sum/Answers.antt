@@ -1,6 +1,6 @@
-use Rattle.std.proofs.Common.{◌≡◌, ◌+◌, ◌-◌, ◌*◌, ◌^◌, ◌≤◌, ◌<◌, length, sym, ap₂, ap, subst, ◌∙◌, arith}
+use Rattle.std.proofs.Common.{◌≡◌, ◌+◌, ◌-◌, ◌*◌, ◌^◌, length, sym, ap, subst, ◌∙◌, arith}
 use Rattle.s2_equalize.specs.Bounds.{gain_bound, turn_bound, turn_sum_bound}
-use Rattle.s2_equalize.specs.Complex.{IsWithin, complex_at, over, plus, sum_from, times_conjugate}
+use Rattle.s2_equalize.specs.Complex.{IsWithin, complex_at, over, plus, sum_from}
 use Rattle.s2_equalize.specs.Gains.{turn_at, turn_sum}
 use Rattle.s2_equalize.proofs.Sizes.{origin_within, over_within, plus_within, sum_more_first, sum_none, times_conjugate_within, within_more}
 use Rattle.s2_equalize.proofs.carrier.turn_sum.Goals as goal
@@ -34,7 +34,7 @@ loop-k-preserved c =
     let here = c.requires.most k (omega arith) in
     let next = c.requires.most (k + 1) (omega arith) in
     let one = within_more (2 * (gain_bound * gain_bound)) (turn_bound) (turn_at gains k) (omega arith)
-        (times_conjugate_within gain_bound gain_bound (complex_at gains (k + 1)) (complex_at gains k) next here) in
+    (times_conjugate_within gain_bound gain_bound (complex_at gains (k + 1)) (complex_at gains k) next here) in
     let is = c.plus-sum.ensures ∙ ap (plus c.loop-k.sum) c.times_conjugate.ensures in
     let more : turn_bound * k + turn_bound ≡ turn_bound * (k + 1) = omega arith in
     record {

@@ -1,4 +1,4 @@
-use Rattle.std.proofs.Common.{◌≡◌, ◌*◌, ◌≤◌, ◌<◌, ◌^◌, sym, ap, subst, ◌∙◌, arith}
+use Rattle.std.proofs.Common.{◌*◌, ◌^◌, sym, ap, subst, ◌∙◌, arith}
 use Rattle.s2_equalize.specs.Complex.{IsWithin, over, times}
 use Rattle.s2_equalize.proofs.Sizes.{over_within, times_within, within_more}
 use Rattle.s2_equalize.proofs.carrier.turned_once.Goals as goal

@@ -1,7 +1,7 @@
-use Rattle.std.proofs.Common.{◌≡◌, ℕ, zero, suc, ◌*◌, ◌≤◌, ◌<◌, ◌^◌, sym, ap, subst, ◌∙◌, refl, arith}
+use Rattle.std.proofs.Common.{◌≡◌, ℕ, zero, suc, ◌*◌, ◌<◌, ◌^◌, ap, ◌∙◌, refl, arith}
 use Rattle.std.proofs.lemmas.Int.{ints}
 use Rattle.s2_equalize.specs.declared.complex.Complex.{Complex}
-use Rattle.s2_equalize.specs.Complex.{IsWithin, complex_at, over, times}
+use Rattle.s2_equalize.specs.Complex.{IsWithin, over, times}
 use Rattle.s2_equalize.specs.Gains.{no_turn, turns}
 use Rattle.s2_equalize.proofs.Sizes.{within_more}
 use Rattle.s2_equalize.proofs.carrier.turns.Goals as goal

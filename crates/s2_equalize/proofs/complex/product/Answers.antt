@@ -1,4 +1,4 @@
-use Rattle.std.proofs.Common.{◌≡◌, ℕ, ◌*◌, ◌^◌, ◌≤◌, ℤ, ◌*ℤ◌, SFits, to_z, of_z, w64, unsigned_abs, ap, ap₂, ◌∙◌, arith}
+use Rattle.std.proofs.Common.{◌≡◌, ◌^◌, ◌≤◌, ℤ, ◌*ℤ◌, SFits, to_z, of_z, w64, unsigned_abs, ap, ap₂, ◌∙◌, arith}
 use Rattle.std.proofs.lemmas.Int.{ints, to_z-of_z, fits_signed_from_abs}
 use Rattle.s2_equalize.proofs.Sizes.{product_within}
 use Rattle.s2_equalize.proofs.complex.product.Goals as goal

@@ -1,4 +1,4 @@
-use Rattle.std.proofs.Common.{◌≡◌, ◌∙◌, ◌*ℤ◌}
+use Rattle.std.proofs.Common.{◌∙◌, ◌*ℤ◌}
 use Rattle.s2_equalize.proofs.Sizes.{difference_held, factors_held, sum_held}
 use Rattle.s2_equalize.proofs.complex.times.Goals as goal
 

@@ -1,4 +1,4 @@
-use Rattle.std.proofs.Common.{◌≡◌, ◌∙◌, ◌*ℤ◌, w64, arith}
+use Rattle.std.proofs.Common.{◌∙◌, ◌*ℤ◌, w64, arith}
 use Rattle.std.proofs.lemmas.Int.{ints, fits_signed_from_abs}
 use Rattle.s2_equalize.proofs.Sizes.{difference_held, factors_held, sum_held}
 use Rattle.s2_equalize.proofs.complex.times_conjugate.Goals as goal

@@ -1,6 +1,5 @@
-use Rattle.std.proofs.Common.{◌≡◌, ◌*◌, length, replicate, drop, pos, ap, ap₂, ◌∙◌, sym, arith}
+use Rattle.std.proofs.Common.{◌≡◌, ◌*◌, length, drop, ap₂, ◌∙◌, arith}
 use Rattle.std.proofs.lemmas.List.{take_at}
-use Rattle.s2_mode.specs.Symbols.{symbol}
 use Rattle.s2_plframe.specs.Frame.{frame_symbols}
 use Rattle.s2_equalize.proofs.Payloadless.{origins_known}
 use Rattle.s2_equalize.proofs.equalizer.known_frame.Goals as goal

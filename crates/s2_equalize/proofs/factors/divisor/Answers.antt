@@ -1,4 +1,4 @@
-use Rattle.std.proofs.Common.{◌≡◌, ◌+◌, ◌*◌, ◌^◌, ◌≤◌, ◌%◌, arith}
+use Rattle.std.proofs.Common.{◌^◌, arith}
 use Rattle.s2_equalize.proofs.Digits.{shifted_most}
 use Rattle.s2_equalize.proofs.Sizes.{energy_within}
 use Rattle.s2_equalize.proofs.factors.divisor.Goals as goal

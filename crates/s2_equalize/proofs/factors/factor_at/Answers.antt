@@ -1,4 +1,4 @@
-use Rattle.std.proofs.Common.{◌≡◌, ℕ, ◌+◌, ◌-◌, ◌*◌, ◌/◌, ◌^◌, ◌≤◌, ◌<◌, ◌%◌, min, length, List, sym, ap, ap₂, subst, ◌∙◌, arith}
+use Rattle.std.proofs.Common.{◌≡◌, ℕ, ◌+◌, ◌-◌, ◌*◌, ◌/◌, ◌%◌, min, length, List, sym, ap, ap₂, subst, ◌∙◌, arith}
 use Rattle.s2_equalize.specs.declared.complex.Complex.{Complex}
 use Rattle.s2_equalize.specs.Bounds.{factor_bound}
 use Rattle.s2_equalize.specs.Complex.{IsWithin, complex_at, over, plus, scaled}

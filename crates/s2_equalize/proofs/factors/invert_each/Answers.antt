@@ -1,4 +1,4 @@
-use Rattle.std.proofs.Common.{◌≡◌, ◌<◌, length, arith}
+use Rattle.std.proofs.Common.{◌≡◌, length, arith}
 use Rattle.s2_equalize.specs.Equalizer.{reciprocal}
 use Rattle.s2_equalize.proofs.Lists.{map_by_all}
 use Rattle.s2_equalize.proofs.factors.invert_each.Goals as goal

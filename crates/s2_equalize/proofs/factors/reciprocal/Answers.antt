@@ -1,10 +1,10 @@
-use Rattle.std.proofs.Common.{◌≡◌, ℕ, ◌+◌, ◌*◌, ◌^◌, ◌≤◌, ◌<◌, ◌%◌, unsigned_abs, sym, ap, ap₂, subst, ◌∙◌, arith, mul-le-mul}
+use Rattle.std.proofs.Common.{◌≡◌, ℕ, ◌+◌, ◌*◌, ◌^◌, ◌≤◌, ◌%◌, unsigned_abs, sym, ap, ap₂, subst, ◌∙◌, arith, mul-le-mul}
 use Rattle.s2_equalize.specs.declared.complex.Complex.{Complex}
 use Rattle.s2_equalize.specs.Bounds.{factor_bound}
 use Rattle.s2_equalize.specs.Complex.{IsWithin, conjugate, over, scaled}
 use Rattle.s2_equalize.specs.Equalizer.{divisor, reciprocal}
 use Rattle.s2_equalize.proofs.Sizes.{within_more}
-use Rattle.s2_equalize.proofs.Digits.{conjugate_small, divisor_most, negated, reciprocal_within, shifted_is, shifted_power}
+use Rattle.s2_equalize.proofs.Digits.{conjugate_small, negated, reciprocal_within, shifted_is, shifted_power}
 use Rattle.s2_equalize.proofs.factors.reciprocal.Goals as goal
 
 scaled_is : (b : ℕ) (a conjugated out : Complex) → b ≤ 23 → conjugated ≡ conjugate a → out ≡ scaled (1 * 2 ^ (b + 12) % 18446744073709551616) conjugated → out ≡ scaled (2 ^ (b + 12)) (conjugate a)

@@ -1,4 +1,4 @@
-use Rattle.std.proofs.Common.{◌≡◌, ◌∙◌, ◌*ℤ◌, SFits, w16, rules}
+use Rattle.std.proofs.Common.{◌∙◌, ◌*ℤ◌, SFits, w16, rules}
 use Rattle.s2_equalize.proofs.Components.{sum_held, part_held}
 use Rattle.s2_equalize.proofs.frame.imaginary.Goals as goal
 

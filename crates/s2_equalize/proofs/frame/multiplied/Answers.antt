@@ -1,4 +1,4 @@
-use Rattle.std.proofs.Common.{◌≡◌, ℕ, ◌+◌, ◌-◌, ◌^◌, ℤ, ◌∙◌, SFits, w16, rules, sym, ap, ap₂, arith}
+use Rattle.std.proofs.Common.{◌≡◌, ℕ, ◌+◌, ◌-◌, ◌^◌, ◌∙◌, SFits, w16, rules, ap, ap₂, arith}
 use Rattle.s2_mode.specs.declared.symbols.Symbol.{Symbol}
 use Rattle.s2_mode.specs.Symbols.{symbol}
 use Rattle.s2_equalize.specs.declared.complex.Complex.{Complex}

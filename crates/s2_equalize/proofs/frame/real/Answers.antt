@@ -1,4 +1,4 @@
-use Rattle.std.proofs.Common.{◌≡◌, ◌∙◌, ◌*ℤ◌, SFits, w16, rules}
+use Rattle.std.proofs.Common.{◌∙◌, ◌*ℤ◌, SFits, w16, rules}
 use Rattle.s2_equalize.proofs.Components.{difference_held, difference_most, part_held}
 use Rattle.s2_equalize.proofs.frame.real.Goals as goal
 

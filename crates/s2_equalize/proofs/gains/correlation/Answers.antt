@@ -1,4 +1,4 @@
-use Rattle.std.proofs.Common.{◌≡◌, ◌+◌, ◌*◌, ◌^◌, ◌≤◌, ◌<◌, length, sym, ap₂, ap, subst, ◌∙◌, arith}
+use Rattle.std.proofs.Common.{◌≡◌, ◌+◌, ◌*◌, ◌^◌, sym, ap₂, ap, subst, ◌∙◌, arith}
 use Rattle.s2_equalize.specs.Bounds.{correlation_bound}
 use Rattle.s2_equalize.specs.Complex.{IsWithin, plus, sum_from}
 use Rattle.s2_equalize.specs.Gains.{correlation_at}

@@ -1,4 +1,4 @@
-use Rattle.std.proofs.Common.{◌≡◌, ◌^◌, ◌≤◌, sym, subst, ◌∙◌, arith, ap₂}
+use Rattle.std.proofs.Common.{◌^◌, sym, subst, ◌∙◌, arith, ap₂}
 use Rattle.s2_equalize.specs.Bounds.{correlation_bound}
 use Rattle.s2_equalize.specs.Complex.{IsWithin, number_of, times_conjugate}
 use Rattle.s2_equalize.proofs.Sizes.{times_conjugate_within, within_more}

@@ -1,4 +1,4 @@
-use Rattle.std.proofs.Common.{◌≡◌, ◌*◌, ◌^◌, ◌≤◌, ◌<◌, sym, ap, subst, ◌∙◌, arith}
+use Rattle.std.proofs.Common.{◌*◌, ◌^◌, sym, ap, subst, ◌∙◌, arith}
 use Rattle.s2_equalize.specs.Bounds.{correlation_bound, gain_bound}
 use Rattle.s2_equalize.specs.Complex.{IsWithin, over, scaled}
 use Rattle.s2_equalize.specs.Gains.{gain_of}
@@ -26,5 +26,5 @@ pub returns-clause-most : goal.returns-clause-most
 returns-clause-most c =
     let n = c.args.n in
     let all = within_more (1024 * (correlation_bound * n)) (gain_bound * (980000 * n)) (scaled 1024 c.correlation.result) (omega arith)
-        (scaled_within 1024 (correlation_bound * n) c.correlation.result c.correlation.ensures.most) in
+    (scaled_within 1024 (correlation_bound * n) c.correlation.result c.correlation.ensures.most) in
     subst (IsWithin gain_bound) (sym (c.over.ensures ∙ ap (over (980000 * n)) c.scaled.ensures)) (over_within (980000 * n) gain_bound (scaled 1024 c.correlation.result) (omega arith) all)

@@ -1,9 +1,9 @@
-use Rattle.std.proofs.Common.{◌≡◌, ◌≢◌, ℕ, ◌+◌, ◌-◌, ◌*◌, ◌^◌, ◌≤◌, ◌<◌, List, length, set, pos, inl, inr, get_or-set_other, get_or-set_same, sym, ap, ap₂, subst, ◌∙◌, arith}
+use Rattle.std.proofs.Common.{◌≡◌, ◌≢◌, ℕ, ◌+◌, ◌-◌, ◌<◌, List, length, set, pos, inl, inr, get_or-set_other, get_or-set_same, ap, ap₂, subst, ◌∙◌, arith}
 use Rattle.std.proofs.lemmas.Bool.{cases_lt}
 use Rattle.std.proofs.lemmas.List.{length-set}
 use Rattle.std.proofs.lemmas.List.FromFn.{fill_by_all}
 use Rattle.s2_equalize.specs.declared.complex.Complex.{Complex}
-use Rattle.s2_equalize.specs.Bounds.{AreWithin, mean_bound, smoothed_bound}
+use Rattle.s2_equalize.specs.Bounds.{mean_bound, smoothed_bound}
 use Rattle.s2_equalize.specs.Complex.{IsWithin, complex, complex_at, over, times}
 use Rattle.s2_equalize.specs.Gains.{mean_gain, smoothed, smoothed_gain, turn}
 use Rattle.s2_equalize.proofs.Sizes.{within_more}
@@ -16,12 +16,12 @@ written : (xs : List Complex) (n : ℕ) (x : Complex) (P : ℕ → Complex → T
 written xs n x P long before last k lt =
     elim (cases_lt k n) [
       | inl less ↦
-      let ne : k ≢ n = omega (arith, less) in
-      rw get_or-set_other (before k less)
+          let ne : k ≢ n = omega (arith, less) in
+          rw get_or-set_other (before k less)
       | inr more ↦
-      let same : n ≡ k = omega (arith, more, lt) in
-      let inside : n < length xs = omega (arith, long) in
-      subst (λ j. P j (complex_at (set xs n x) j)) same (rw get_or-set_same last)
+          let same : n ≡ k = omega (arith, more, lt) in
+          let inside : n < length xs = omega (arith, long) in
+          subst (λ j. P j (complex_at (set xs n x) j)) same (rw get_or-set_same last)
     ]
 
 pub returns-clause-is : goal.returns-clause-is
@@ -33,7 +33,7 @@ returns-clause-is c =
     let turning = c.turn-turn.ensures.is in
     let mean = c.loop-k.invariant.done in
     let last = c.turned_once.ensures.is
-        ∙ (ap₂ (λ (a : Complex) (b : Complex). over 32768 (times a b)) (mean (n - 1) (omega arith) ∙ ap (λ (x : Complex). mean_gain gains x (n - 1)) turning) turning ∙ behind_is gains (turn gains)) in
+    ∙ (ap₂ (λ (a : Complex) (b : Complex). over 32768 (times a b)) (mean (n - 1) (omega arith) ∙ ap (λ (x : Complex). mean_gain gains x (n - 1)) turning) turning ∙ behind_is gains (turn gains)) in
     fill_by_all (smoothed_gain gains (turn gains)) (set c.loop-k.smoothed n c.turned_once.result) (n + 1) (complex (pos 0) (pos 0)) (simp length-set long)
     (written c.loop-k.smoothed n c.turned_once.result (λ k x. x ≡ smoothed_gain gains (turn gains) k) long
     (λ k lt. mean k (omega arith) ∙ (ap (λ (x : Complex). mean_gain gains x k) turning ∙ inside_is gains (turn gains) k lt)) last)

@@ -1,4 +1,4 @@
-use Rattle.std.proofs.Common.{◌≡◌, ℕ, ◌<◌, length}
+use Rattle.std.proofs.Common.{◌≡◌, ℕ, ◌<◌}
 use Rattle.s2_equalize.specs.Bounds.{mean_bound}
 use Rattle.s2_equalize.specs.Complex.{IsWithin, complex_at}
 use Rattle.s2_equalize.specs.Gains.{mean_gain}

@@ -1,4 +1,4 @@
-use Rattle.std.proofs.Common.{◌≡◌, ℕ, ◌+◌, ◌-◌, ◌*◌, ◌^◌, ◌≤◌, ◌<◌, sym, ap, ap₂, subst, ◌∙◌, arith}
+use Rattle.std.proofs.Common.{◌≡◌, ℕ, ◌+◌, ◌-◌, ◌*◌, ◌≤◌, sym, ap, ap₂, subst, ◌∙◌, arith}
 use Rattle.s2_equalize.specs.declared.complex.Complex.{Complex}
 use Rattle.s2_equalize.specs.Bounds.{turned_bound}
 use Rattle.s2_equalize.specs.Complex.{IsWithin, plus, scaled, sum_from}

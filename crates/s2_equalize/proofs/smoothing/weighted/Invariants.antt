@@ -1,4 +1,4 @@
-use Rattle.std.proofs.Common.{◌≡◌, ◌*◌, ◌-◌, ◌≤◌, ◌+◌}
+use Rattle.std.proofs.Common.{◌≡◌, ◌*◌, ◌-◌, ◌≤◌}
 use Rattle.s2_equalize.specs.Bounds.{turned_bound}
 use Rattle.s2_equalize.specs.Complex.{IsWithin, scaled, sum_from}
 use Rattle.s2_equalize.specs.Gains.{turned, weight, weights}

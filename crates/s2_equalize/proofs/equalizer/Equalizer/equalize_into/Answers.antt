@@ -1,9 +1,9 @@
-use Rattle.std.proofs.Common.{◌≡◌, ◌+◌, ◌-◌, ◌*◌, ◌≤◌, ◌<◌, length, map, ap, sym, subst, ◌∙◌, arith}
+use Rattle.std.proofs.Common.{◌≡◌, ◌-◌, length, map, ap, sym, subst, ◌∙◌, arith}
 use Rattle.std.specs.List.{range_with_len}
 use Rattle.s2_mode.specs.Mode.{pilot_blocks_of, symbols_in}
 use Rattle.s2_equalize.specs.Bounds.{AreSmall}
 use Rattle.s2_equalize.specs.Equalizer.{Equalizer, equalized, equalized_symbol}
-use Rattle.s2_equalize.specs.Gains.{gains_of, known_frame, smoothed}
+use Rattle.s2_equalize.specs.Gains.{gains_of, smoothed}
 use Rattle.s2_equalize.proofs.Known.{known_length, known_small}
 use Rattle.s2_equalize.proofs.equalizer.Equalizer.equalize_into.Goals as goal
 
