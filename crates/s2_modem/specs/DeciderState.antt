@@ -71,7 +71,18 @@ decision_held m soft bits certificate bch_word d field = record {
   delivered = delivered_of d.header field;
   figures = d.figures;
   energy = d.energy;
+  turn = d.turn;
 }
+
+-- what turns frames back: their mode, whether it does, and the symbols that it wrote last
+pub record Derotating : Type 0 where
+  pub mode : Mode
+  pub turns : Bool
+  pub symbols : List Symbol
+
+-- the symbols that are decided of a frame: those written last, if it turns frames back
+abbrev pub upright : Derotating → List Symbol → List Symbol
+upright d symbols = if d.turns then d.symbols else symbols
 
 -- the finder of figures, if the tuning asks for them
 abbrev pub meter_by : Tuning → Mode → ℕ → Option FigureMeter
@@ -83,8 +94,8 @@ figures_found None symbols soft bits rounds = None
 figures_found (Some f) symbols soft bits rounds = Some (figures_of f.mode f.number symbols soft bits rounds)
 
 -- the stages of a decider are of its mode, the divisor is that of its tuning, and the joiner can take the last
--- delivered field. There is a finder of figures exactly if the tuning asks for them
-pub record IsDeciderState (mode : Mode) (rows : Rows) (tuning : Tuning) (demodulates : Demodulating) (corrects : Mode) (reads : Reading) (meter : Option FigureMeter) (last : Decided) : Type 0 where
+-- delivered field. There is a finder of figures, and frames are turned back, exactly if the tuning asks for it
+pub record IsDeciderState (mode : Mode) (rows : Rows) (tuning : Tuning) (demodulates : Demodulating) (corrects : Mode) (reads : Reading) (derotates : Derotating) (meter : Option FigureMeter) (last : Decided) : Type 0 where
   pub valid : IsMode mode
   pub sizes : HasCodeSizes mode
   pub shape : rows.shape ≡ shape_in mode
@@ -92,5 +103,7 @@ pub record IsDeciderState (mode : Mode) (rows : Rows) (tuning : Tuning) (demodul
   pub divisor : demodulates.divisor ≡ tuning.divisor
   pub corrector : corrects ≡ mode
   pub reader : reads.mode ≡ mode
+  pub derotator : derotates.mode ≡ mode
+  pub turns : derotates.turns ≡ tuning.turns
   pub figures : meter ≡ meter_by tuning mode demodulates.number
   pub place : IfSome last.header (HasPlace reads.field)

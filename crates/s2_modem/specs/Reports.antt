@@ -9,6 +9,7 @@ use Rattle.s2_bbframe.specs.declared.header.HeaderFault.{HeaderFault}
 use Rattle.s2_bbframe.specs.Headers.{header_of_bytes}
 use Rattle.s2_scramble.specs.Baseband.{scrambled}
 use Rattle.s2_plframe.specs.Payload.{received_payload}
+use Rattle.s2_plframe.specs.Turns.{derotated, turn_of}
 use Rattle.s2_soft.specs.Soft.{soft_values}
 use Rattle.s2_receive.specs.Receiving.{Decision}
 use Rattle.s2_receive.specs.declared.figures.Figures.{Figures}
@@ -21,9 +22,17 @@ use Rattle.s2_judge.specs.Deciding.{Decided, decided, rounds_run}
 use Rattle.s2_tuning.specs.Tuning.{Tuning}
 use Rattle.s2_bch.specs.Decoding.{nearest}
 
+-- the symbols that are decided: those of a frame, turned back by its rotation if the tuning has turns
+abbrev pub decided_symbols : Link → Tuning → List Symbol → List Symbol
+decided_symbols link tuning symbols = if tuning.turns then derotated link.setup.mode symbols else symbols
+
+-- by how many quarters they came turned
+abbrev pub frame_turn : Link → Tuning → List Symbol → ℕ
+frame_turn link tuning symbols = if tuning.turns then turn_of link.setup.mode symbols else 0
+
 -- the soft values of a frame's codeword, by the divisor of a tuning
 abbrev pub frame_soft : Link → Tuning → List Symbol → List ℤ
-frame_soft link tuning symbols = soft_values tuning.divisor link.setup.mode (received_payload link.setup.mode link.setup.number symbols)
+frame_soft link tuning symbols = soft_values tuning.divisor link.setup.mode (received_payload link.setup.mode link.setup.number (decided_symbols link tuning symbols))
 
 -- the first Nbch of the decided bits, which BCH decoding takes
 abbrev pub received_word : Mode → List Bool → List Bool
@@ -51,7 +60,7 @@ delivered_by frame (Ok header) = Some (header, field_in header frame)
 delivered_by frame (Err fault) = None
 
 -- the decision with or without a BCH word: NoWord without one; BadHeader if its header is refused; else Delivered, with
--- the number of places in which decided bits and word differ. It has neither figures nor the header's energy
+-- the number of places in which decided bits and word differ. It has neither figures nor the header's energy nor a turn
 abbrev pub decision_by : Mode → List ℤ → Decided → Option (List Bool) → Decision
 decision_by m soft d (Some bch_word) = record {
   soft = soft;
@@ -63,6 +72,7 @@ decision_by m soft d (Some bch_word) = record {
   delivered = delivered_by (scrambled (message_of m bch_word)) (header_of_bytes m (header_in (scrambled (message_of m bch_word))));
   figures = None;
   energy = 0;
+  turn = 0;
 }
 decision_by m soft d None = record {
   soft = soft;
@@ -74,6 +84,7 @@ decision_by m soft d None = record {
   delivered = None;
   figures = None;
   energy = 0;
+  turn = 0;
 }
 
 -- the decision before the first frame: zeros, and no certificate
@@ -91,15 +102,15 @@ decision_on m soft d = decision_by m soft d (nearest m (received_word m d.bits))
 abbrev pub figures_by : Link → Tuning → List Symbol → Option Figures
 figures_by link tuning symbols =
     if tuning.figures
-    then Some (figures_of link.setup.mode link.setup.number symbols (frame_soft link tuning symbols) (decided link.rows tuning (frame_soft link tuning symbols)).bits (rounds_run link.rows tuning (frame_soft link tuning symbols)))
+    then Some (figures_of link.setup.mode link.setup.number (decided_symbols link tuning symbols) (frame_soft link tuning symbols) (decided link.rows tuning (frame_soft link tuning symbols)).bits (rounds_run link.rows tuning (frame_soft link tuning symbols)))
     else None
 
--- a decision with these figures, and this energy of its header
-abbrev pub measured : Decision → Option Figures → ℕ → Decision
-measured d figures energy = record d { figures = figures; energy = energy }
+-- a decision with these figures, this energy of its header, and this turn
+abbrev pub measured : Decision → Option Figures → (energy turn : ℕ) → Decision
+measured d figures energy turn = record d { figures = figures; energy = energy; turn = turn }
 
 -- the decision on a frame's symbols: soft values, bits, verdict, certificate, message, outcome, header and data field. The
--- figures, if they are wanted, and the energy of the header's symbols
+-- figures, if they are wanted, the energy of the header's symbols, and by how many quarters they came turned
 unfoldable pub frame_decision : Link → Tuning → List Symbol → Decision
 frame_decision link tuning symbols =
-    measured (decision_on link.setup.mode (frame_soft link tuning symbols) (decided link.rows tuning (frame_soft link tuning symbols))) (figures_by link tuning symbols) (energy_of (take header_symbols symbols))
+    measured (decision_on link.setup.mode (frame_soft link tuning symbols) (decided link.rows tuning (frame_soft link tuning symbols))) (figures_by link tuning symbols) (energy_of (take header_symbols symbols)) (frame_turn link tuning symbols)

@@ -4,6 +4,7 @@ ghost use Rattle.s2_modem.specs.Reports.{IsUndecided};
 
 use crate::corrector::Corrector;
 use crate::demodulator::Demodulator;
+use crate::derotator::Derotator;
 use crate::figures::{find_figures, meter_for};
 use crate::message::MessageReader;
 use s2_bits::Bits;
@@ -17,7 +18,8 @@ use s2_tuning::Tuning;
 use std::alloc::{AllocError, Global};
 use std::marker::Model;
 
-/// Decides the frames of a link, in its own buffers. It has a finder of figures only if the tuning asks for them.
+/// Decides the frames of a link, in its own buffers. It has a finder of figures, and turns frames back, only if the tuning
+/// asks for it.
 pub(crate) struct Decider<'a> {
     mode: Mode,
     roll_off: RollOff,
@@ -25,6 +27,7 @@ pub(crate) struct Decider<'a> {
     judge: Judge<'a>,
     corrector: Corrector,
     reader: MessageReader,
+    derotator: Derotator,
     meter: Option<FigureMeter>,
     last: Decided,
 }
@@ -38,6 +41,7 @@ impl<'a> Drop for Decider<'a> {
             judge: _,
             corrector: _,
             reader: _,
+            derotator: _,
             meter: _,
             last: _,
         } = self;
@@ -56,7 +60,7 @@ impl<'a> Model for Decider<'a> {
       field = d.reader.field;
     } };
 
-    ghost invariant = { λ d. IsDeciderState d.mode d.judge.rows d.judge.tuning d.demodulator d.corrector.mode d.reader d.meter d.last };
+    ghost invariant = { λ d. IsDeciderState d.mode d.judge.rows d.judge.tuning d.demodulator d.corrector.mode d.reader d.derotator d.meter d.last };
 }
 
 impl<'a> Decider<'a> {
@@ -79,10 +83,12 @@ impl<'a> Decider<'a> {
             header: None,
             figures: None,
             energy: 0,
+            turn: 0,
         };
         let demodulator = Demodulator::new(alloc, link, tuning.divisor())?;
         let corrector = Corrector::new(alloc, mode)?;
         let reader = MessageReader::new(alloc, mode)?;
+        let derotator = Derotator::new(alloc, mode, tuning.has_turns())?;
         let meter = meter_for(alloc, link, tuning)?;
         Ok(Decider {
             mode,
@@ -91,6 +97,7 @@ impl<'a> Decider<'a> {
             judge: Judge::new(alloc, link.matrix(), tuning)?,
             corrector,
             reader,
+            derotator,
             meter,
             last,
         })
@@ -137,19 +144,23 @@ impl<'a> Decide for Decider<'a> {
 
     ghost last = { λ d. d.last };
 
-    /// Decides a frame, exactly as the definition says for its symbols.
+    /// Decides a frame, exactly as the definition says for its symbols: turned back, if they came turned and the tuning has
+    /// turns.
     fn decide(&mut self, symbols: &[Symbol]) {
-        self.demodulator.find_soft(symbols, self.judge.soft_mut());
+        let turn = self.derotator.derotate(symbols);
+        let upright = self.derotator.upright(symbols);
+        self.demodulator.find_soft(upright, self.judge.soft_mut());
         let verdict = self.judge.decide();
         let found = self.corrector.correct(self.judge.word());
         let (outcome, header) = self.reader.read_outcome(found, self.corrector.word());
-        let figures = find_figures(&mut self.meter, symbols, &self.judge);
+        let figures = find_figures(&mut self.meter, upright, &self.judge);
         self.last = Decided {
             verdict,
             outcome,
             header,
             figures,
             energy: header_energy(symbols),
+            turn,
         };
     }
 

@@ -45,6 +45,7 @@ mod corrector;
 mod decider;
 mod demodulation;
 mod demodulator;
+mod derotator;
 mod figures;
 pub mod laws;
 mod message;

@@ -25,7 +25,7 @@ pub const MAX_PASSES: u32 = 1000;
 /// values. The factor of min-sum's messages is in sixteenths of the least magnitude. The lock is how many bits of a
 /// header may be wrong right after a frame. If it is uncertified, there are no passes, and no certificate is looked for
 /// when min-sum finds a codeword. With figures a receiver measures each frame that it decides; what it decides is
-/// unchanged.
+/// unchanged. With turns it also receives frames whose symbols came turned by quarters, and turns them back.
 #[derive(Clone, Copy, Debug, PartialEq, Eq)]
 pub struct Tuning {
     rounds: u32,
@@ -35,6 +35,7 @@ pub struct Tuning {
     max_header_errors: HeaderTolerance,
     uncertified: bool,
     figures: bool,
+    turns: bool,
 }
 
 impl Model for Tuning {
@@ -50,6 +51,7 @@ impl Model for Tuning {
       max_header_errors = t.max_header_errors;
       uncertified = t.uncertified;
       figures = t.figures;
+      turns = t.turns;
     } };
 
     ghost invariant = { λ t. IsTuning (record {
@@ -60,6 +62,7 @@ impl Model for Tuning {
       max_header_errors = t.max_header_errors;
       uncertified = t.uncertified;
       figures = t.figures;
+      turns = t.turns;
     }) };
 
     ghost inverse = { λ v. record {
@@ -70,13 +73,14 @@ impl Model for Tuning {
       max_header_errors = v.max_header_errors;
       uncertified = v.uncertified;
       figures = v.figures;
+      turns = v.turns;
     } };
 }
 
 impl Tuning {
     /// These rounds and passes, the usual divisor, 4096, and the usual factor, 12. At most 12 bits of a header may be
-    /// wrong right after a frame. Certificates are looked for, and there are no figures. If there are two refusals, it
-    /// returns the first: `BadRounds` if the rounds are not 1 to 200, `BadPasses` if the passes are over 1000.
+    /// wrong right after a frame. Certificates are looked for, there are no figures, and frames are received only as they
+    /// were sent. If there are two refusals, it returns the first: `BadRounds` if the rounds are not 1 to 200, `BadPasses` if the passes are over 1000.
     pub fn new(rounds: u32, passes: u32) -> Result<Tuning, SetupFault>
         ensures is { IfOk result (λ t. t ≡ tuning_of rounds passes) }
         ensures tuned { IfOk result (λ _. IsTuning (tuning_of rounds passes)) }
@@ -96,6 +100,7 @@ impl Tuning {
             max_header_errors: HeaderTolerance::usual(),
             uncertified: false,
             figures: false,
+            turns: false,
         })
     }
 
@@ -111,6 +116,7 @@ impl Tuning {
             max_header_errors: self.max_header_errors,
             uncertified: self.uncertified,
             figures: self.figures,
+            turns: self.turns,
         }
     }
 
@@ -126,6 +132,7 @@ impl Tuning {
             max_header_errors: self.max_header_errors,
             uncertified: self.uncertified,
             figures: self.figures,
+            turns: self.turns,
         }
     }
 
@@ -141,6 +148,7 @@ impl Tuning {
             max_header_errors,
             uncertified: self.uncertified,
             figures: self.figures,
+            turns: self.turns,
         }
     }
 
@@ -156,6 +164,7 @@ impl Tuning {
             max_header_errors: self.max_header_errors,
             uncertified: true,
             figures: self.figures,
+            turns: self.turns,
         }
     }
 
@@ -171,6 +180,23 @@ impl Tuning {
             max_header_errors: self.max_header_errors,
             uncertified: self.uncertified,
             figures: true,
+            turns: self.turns,
+        }
+    }
+
+    /// The same, but frames are also received whose symbols came turned by quarters.
+    pub fn with_turns(self) -> Tuning
+        ensures { result ≡ record self { turns = true } }
+    {
+        Tuning {
+            rounds: self.rounds,
+            passes: self.passes,
+            divisor: self.divisor,
+            factor: self.factor,
+            max_header_errors: self.max_header_errors,
+            uncertified: self.uncertified,
+            figures: self.figures,
+            turns: true,
         }
     }
 
@@ -233,5 +259,11 @@ impl Tuning {
         ensures { result ≡ self.figures }
     {
         self.figures
+    }
+    /// Whether frames are also received whose symbols came turned by quarters.
+    pub fn has_turns(self) -> bool
+        ensures { result ≡ self.turns }
+    {
+        self.turns
     }
 }

@@ -7,7 +7,7 @@ use crate::arguments::{
     NOISY_SYMBOLS, NUMBER, PACKETS, PACKETS_MADE, PACKETS_RECEIVED, PASSES, PILOTS, PROGRESS, Q,
     Q_OR_MODE, QUIET, QUIET_AND_STILL, RATE, RECORDING, REPORT, RESYNC, ROLL_OFF, ROLL_OFF_READ,
     ROUNDS, ROWS, SEED, SEED_OR_SEEDS, SEEDS, SENT_BBFRAMES, SENT_CODEWORDS, SHORT, SOFT_VALUES,
-    STRICT, SYMBOLS, SYMBOLS_MADE, TUNED, TUNED_REPORT, UNCERTIFIED, VALUES, WEIGHT,
+    STRICT, SYMBOLS, SYMBOLS_MADE, TUNED, TUNED_REPORT, TURNS, TURNS_REPORT, UNCERTIFIED, VALUES, WEIGHT,
 };
 
 /// The commands.
@@ -165,7 +165,7 @@ static NOISE_ARGUMENTS: [Argument; 7] = [
 ];
 
 /// The arguments of `demod`, in order.
-static DEMOD_ARGUMENTS: [Argument; 25] = [
+static DEMOD_ARGUMENTS: [Argument; 26] = [
     MODCOD,
     SHORT,
     PILOTS,
@@ -177,6 +177,7 @@ static DEMOD_ARGUMENTS: [Argument; 25] = [
     DIVISOR,
     FACTOR,
     LOCK,
+    TURNS,
     TUNED,
     FIGURES,
     EVERY,
@@ -194,7 +195,7 @@ static DEMOD_ARGUMENTS: [Argument; 25] = [
 ];
 
 /// The arguments of `run`, in order.
-static RUN_ARGUMENTS: [Argument; 31] = [
+static RUN_ARGUMENTS: [Argument; 32] = [
     MODCOD,
     SHORT,
     PILOTS,
@@ -208,6 +209,7 @@ static RUN_ARGUMENTS: [Argument; 31] = [
     DIVISOR,
     FACTOR,
     LOCK,
+    TURNS,
     TUNED,
     SEED_OR_SEEDS,
     SEEDS,
@@ -235,13 +237,14 @@ static SCAN_ARGUMENTS: [Argument; 4] = [FIRST, QUIET_AND_STILL, PROGRESS, RECORD
 static JOIN_ARGUMENTS: [Argument; 4] = [MODCOD, SHORT, BBFRAMES_READ, PACKETS_MADE];
 
 /// The arguments of `audit`, in order.
-static AUDIT_ARGUMENTS: [Argument; 11] = [
+static AUDIT_ARGUMENTS: [Argument; 12] = [
     MODCOD,
     SHORT,
     PILOTS,
     NUMBER,
     ROLL_OFF_READ,
     DIVISOR_OF_REPORT,
+    TURNS_REPORT,
     TUNED_REPORT,
     ROWS,
     SYMBOLS,

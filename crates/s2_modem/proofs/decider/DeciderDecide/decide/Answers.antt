@@ -1,12 +1,12 @@
-use Rattle.s2_modem.proofs.Names.{◌≡◌, ◌≤◌, length, Rows, sym, refl, ap, subst, ◌∙◌, IfSome, n_of, symbols_in, code_of, refilled, Link, received_payload, soft_values, symbols_least, Decision, FigureMeter, meter_of, frame_soft, frame_decision, received_word, FindsWord, Reads, DeciderState, decides, decision_held}
-use Rattle.s2_modem.proofs.DecisionLemmas.{code_is, figures_are, frame_decided, if_wanted}
+use Rattle.s2_modem.proofs.Names.{◌≡◌, ◌≤◌, length, Rows, sym, refl, ap, subst, ◌∙◌, IfSome, n_of, symbols_in, code_of, refilled, Link, received_payload, soft_values, symbols_least, Decision, FigureMeter, meter_of, frame_soft, frame_decision, received_word, FindsWord, Reads, DeciderState, decides, decision_held, decided_symbols, frame_turn, derotated, turn_of, if◌then◌else◌}
+use Rattle.s2_modem.proofs.DecisionLemmas.{code_is, figures_are, frame_decided, if_wanted, upright_by}
 use Rattle.s2_modem.proofs.decider.DeciderDecide.decide.Goals as goal
 use Rattle.s2_modem.proofs.decider.DeciderDecide.decide.Goals.{After-header_energy}
 
 pub find_figures-figures-requires-clause-symbols : goal.find_figures-figures-requires-clause-symbols
 find_figures-figures-requires-clause-symbols c =
     let so = c.self.invariant in
-    let holds : FigureMeter → Type 0 = λ f. length c.args.symbols.now ≡ symbols_in f.mode in
+    let holds : FigureMeter → Type 0 = λ f. length c.upright-upright.result.now ≡ symbols_in f.mode in
     subst (λ o. IfSome o holds) (sym so.figures) (if_wanted holds c.self.inside.judge.tuning.figures (meter_of c.self.inside.mode c.self.inside.demodulator.number) (c.requires ∙ sym (ap (λ (l : DeciderState). symbols_in l.link.setup.mode) c.self.view_is)))
 
 pub find_figures-figures-requires-clause-word : goal.find_figures-figures-requires-clause-word
@@ -24,15 +24,29 @@ module _ (c : After-header_energy) where
   abbrev link : Link
   link = record { setup = record { mode = c.self.inside.mode; number = c.self.inside.demodulator.number; roll_off = c.self.inside.roll_off }; rows = c.self.inside.judge.rows }
 
+  -- the symbols that are decided
+  upright_is : c.upright-upright.result.now ≡ decided_symbols link c.self.inside.judge.tuning c.args.symbols.now
+  upright_is =
+      let so = c.self.invariant in
+      let d = c.self.inside.derotator in
+      let old = c.derotate-turn.new.self in
+      let turns : old.turns ≡ c.self.inside.judge.tuning.turns = c.derotate-turn.ensures.turns ∙ so.turns in
+      c.upright-upright.ensures ∙ upright_by d old c.self.inside.judge.tuning.turns c.args.symbols.now c.derotate-turn.ensures.turns so.turns c.derotate-turn.ensures.is ∙ ap (λ m. if c.self.inside.judge.tuning.turns then derotated m c.args.symbols.now else c.args.symbols.now) so.derotator
+
+  turn_is : c.derotate-turn.result ≡ frame_turn link c.self.inside.judge.tuning c.args.symbols.now
+  turn_is =
+      let so = c.self.invariant in
+      c.derotate-turn.ensures.turn ∙ (λ i. if so.turns i then turn_of (so.derotator i) c.args.symbols.now else 0)
+
   soft_is : c.decide-verdict.new.self.soft ≡ frame_soft link c.self.inside.judge.tuning c.args.symbols.now
   soft_is =
       let so = c.self.invariant in
       let before = c.self.inside.judge.soft in
       let values = refilled (length before) c.find_soft.new.soft before refl (c.find_soft.auto.soft ∙ ap length c.soft_mut.ensures.is) in
-      c.decide-verdict.ensures.soft ∙ values ∙ c.find_soft.ensures.is ∙ (λ i. soft_values (so.divisor i) (so.demodulator i) (received_payload (so.demodulator i) c.self.inside.demodulator.number c.args.symbols.now))
+      c.decide-verdict.ensures.soft ∙ values ∙ c.find_soft.ensures.is ∙ (λ i. soft_values (so.divisor i) (so.demodulator i) (received_payload (so.demodulator i) c.self.inside.demodulator.number (upright_is i)))
 
   abbrev decision : Decision
-  decision = decision_held c.self.inside.mode c.decide-verdict.new.self.soft c.decide-verdict.new.self.bits c.decide-verdict.new.self.certificate c.correct-found.new.self.word (record { verdict = c.decide-verdict.result; outcome = c.read_outcome-outcome.result.0; header = c.read_outcome-outcome.result.1; figures = c.find_figures-figures.result; energy = c.header_energy.result }) c.read_outcome-outcome.new.self.field
+  decision = decision_held c.self.inside.mode c.decide-verdict.new.self.soft c.decide-verdict.new.self.bits c.decide-verdict.new.self.certificate c.correct-found.new.self.word (record { verdict = c.decide-verdict.result; outcome = c.read_outcome-outcome.result.0; header = c.read_outcome-outcome.result.1; figures = c.find_figures-figures.result; energy = c.header_energy.result; turn = c.derotate-turn.result }) c.read_outcome-outcome.new.self.field
 
   finds : FindsWord c.self.inside.mode (received_word c.self.inside.mode c.decide-verdict.new.self.bits) c.correct-found.new.self.word c.correct-found.result
   finds = rw (c.self.invariant.corrector, c.word.ensures.is) at c.correct-found.ensures.nearest
@@ -44,11 +58,11 @@ module _ (c : After-header_energy) where
   is_decided =
       let was = c.decide-verdict in
       let soft = sym was.ensures.soft ∙ soft_is in
-      let figures = figures_are link c.self.inside.judge.tuning c.args.symbols.now was.new.self.soft _ was.new.self.bits was.new.self.rounds c.self.inside.meter c.find_figures-figures.result
-      c.find_figures-figures.ensures.is c.self.invariant.figures was.ensures.soft soft was.ensures.bits was.ensures.rounds in
+      let figures = figures_are link c.self.inside.judge.tuning c.args.symbols.now c.upright-upright.result.now was.new.self.soft _ was.new.self.bits was.new.self.rounds c.self.inside.meter c.find_figures-figures.result
+      c.find_figures-figures.ensures.is c.self.invariant.figures upright_is was.ensures.soft soft was.ensures.bits was.ensures.rounds in
       frame_decided link c.self.inside.judge.tuning c.args.symbols.now was.new.self.soft _ was.new.self.bits was.result was.new.self.certificate
-      c.correct-found.new.self.word c.correct-found.result decision.outcome decision.delivered decision.figures decision.energy
-      was.ensures.soft soft was.ensures.verdict was.ensures.bits was.ensures.certificate finds reads figures c.header_energy.ensures
+      c.correct-found.new.self.word c.correct-found.result decision.outcome decision.delivered decision.figures decision.energy decision.turn
+      was.ensures.soft soft was.ensures.verdict was.ensures.bits was.ensures.certificate finds reads figures c.header_energy.ensures turn_is
       ∙ ap (λ (l : DeciderState). frame_decision l.link l.tuning c.args.symbols.now) c.self.view_is
 
 pub returns-clause-last : goal.returns-clause-last

@@ -1,0 +1,11 @@
+//! How the soft values of a report were made.
+
+use s2_soft::Divisor;
+
+/// How the soft values of a report were made: their divisor, and whether frames whose symbols came turned by quarters were
+/// turned back.
+#[derive(Clone, Copy)]
+pub struct Demodulation {
+    pub divisor: Divisor,
+    pub turns: bool,
+}
