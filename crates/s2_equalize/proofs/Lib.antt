@@ -6,3 +6,9 @@ pub mod Components
 pub mod Lists
 pub mod Weights
 pub mod Payloadless
+pub mod Exact
+pub mod Axes
+pub mod Corners
+pub mod Arriving
+pub mod Inverse
+pub mod ExactFrames

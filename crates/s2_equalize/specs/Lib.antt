@@ -2,3 +2,4 @@ pub mod Complex
 pub mod Gains
 pub mod Equalizer
 pub mod Bounds
+pub mod Laws

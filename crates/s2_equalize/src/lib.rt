@@ -18,6 +18,7 @@ mod equalizer;
 mod factors;
 mod frame;
 mod gains;
+pub mod laws;
 mod smoothing;
 
 pub use complex::Complex;

@@ -10,6 +10,7 @@ use Rattle.s2_bbframe.specs.Headers.{header_of_bytes}
 use Rattle.s2_scramble.specs.Baseband.{scrambled}
 use Rattle.s2_plframe.specs.Payload.{received_payload}
 use Rattle.s2_plframe.specs.Turns.{derotated, turn_of}
+use Rattle.s2_equalize.specs.Equalizer.{equalized}
 use Rattle.s2_soft.specs.Soft.{soft_values}
 use Rattle.s2_receive.specs.Receiving.{Decision}
 use Rattle.s2_receive.specs.declared.figures.Figures.{Figures}
@@ -22,9 +23,14 @@ use Rattle.s2_judge.specs.Deciding.{Decided, decided, rounds_run}
 use Rattle.s2_tuning.specs.Tuning.{Tuning}
 use Rattle.s2_bch.specs.Decoding.{nearest}
 
--- the symbols that are decided: those of a frame, turned back by its rotation if the tuning has turns
+-- the symbols of a frame, turned back by its rotation if the tuning has turns
+abbrev pub upright_symbols : Link → Tuning → List Symbol → List Symbol
+upright_symbols link tuning symbols = if tuning.turns then derotated link.setup.mode symbols else symbols
+
+-- the symbols that are decided: these, each divided by the gain of the channel if the tuning has the equalizer
 abbrev pub decided_symbols : Link → Tuning → List Symbol → List Symbol
-decided_symbols link tuning symbols = if tuning.turns then derotated link.setup.mode symbols else symbols
+decided_symbols link tuning symbols =
+    if tuning.equalize then equalized link.setup.mode link.setup.number (upright_symbols link tuning symbols) else upright_symbols link tuning symbols
 
 -- by how many quarters they came turned
 abbrev pub frame_turn : Link → Tuning → List Symbol → ℕ
@@ -98,11 +104,11 @@ pub record IsUndecided (m : Mode) (d : Decision) : Type 0 where
 abbrev pub decision_on : Mode → List ℤ → Decided → Decision
 decision_on m soft d = decision_by m soft d (nearest m (received_word m d.bits))
 
--- the figures of a frame's symbols and its decided bits, if the tuning asks for them
+-- the figures of a frame's symbols, before the equalizer, and of its decided bits, if the tuning asks for them
 abbrev pub figures_by : Link → Tuning → List Symbol → Option Figures
 figures_by link tuning symbols =
     if tuning.figures
-    then Some (figures_of link.setup.mode link.setup.number (decided_symbols link tuning symbols) (frame_soft link tuning symbols) (decided link.rows tuning (frame_soft link tuning symbols)).bits (rounds_run link.rows tuning (frame_soft link tuning symbols)))
+    then Some (figures_of link.setup.mode link.setup.number (upright_symbols link tuning symbols) (frame_soft link tuning symbols) (decided link.rows tuning (frame_soft link tuning symbols)).bits (rounds_run link.rows tuning (frame_soft link tuning symbols)))
     else None
 
 -- a decision with these figures, this energy of its header, and this turn

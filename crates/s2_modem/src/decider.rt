@@ -5,6 +5,7 @@ ghost use Rattle.s2_modem.specs.Reports.{IsUndecided};
 use crate::corrector::Corrector;
 use crate::demodulator::Demodulator;
 use crate::derotator::Derotator;
+use crate::equalization::FrameEqualizer;
 use crate::figures::{find_figures, meter_for};
 use crate::message::MessageReader;
 use s2_bits::Bits;
@@ -18,8 +19,8 @@ use s2_tuning::Tuning;
 use std::alloc::{AllocError, Global};
 use std::marker::Model;
 
-/// Decides the frames of a link, in its own buffers. It has a finder of figures, and turns frames back, only if the tuning
-/// asks for it.
+/// Decides the frames of a link, in its own buffers. It has a finder of figures and an equalizer, and turns frames back,
+/// only if the tuning asks for it.
 pub(crate) struct Decider<'a> {
     mode: Mode,
     roll_off: RollOff,
@@ -28,6 +29,7 @@ pub(crate) struct Decider<'a> {
     corrector: Corrector,
     reader: MessageReader,
     derotator: Derotator,
+    equalizer: FrameEqualizer,
     meter: Option<FigureMeter>,
     last: Decided,
 }
@@ -42,6 +44,7 @@ impl<'a> Drop for Decider<'a> {
             corrector: _,
             reader: _,
             derotator: _,
+            equalizer: _,
             meter: _,
             last: _,
         } = self;
@@ -60,7 +63,7 @@ impl<'a> Model for Decider<'a> {
       field = d.reader.field;
     } };
 
-    ghost invariant = { λ d. IsDeciderState d.mode d.judge.rows d.judge.tuning d.demodulator d.corrector.mode d.reader d.derotator d.meter d.last };
+    ghost invariant = { λ d. IsDeciderState d.mode d.judge.rows d.judge.tuning d.demodulator d.corrector.mode d.reader d.derotator d.equalizer d.meter d.last };
 }
 
 impl<'a> Decider<'a> {
@@ -89,6 +92,7 @@ impl<'a> Decider<'a> {
         let corrector = Corrector::new(alloc, mode)?;
         let reader = MessageReader::new(alloc, mode)?;
         let derotator = Derotator::new(alloc, mode, tuning.has_turns())?;
+        let equalizer = FrameEqualizer::new(alloc, link, tuning)?;
         let meter = meter_for(alloc, link, tuning)?;
         Ok(Decider {
             mode,
@@ -98,6 +102,7 @@ impl<'a> Decider<'a> {
             corrector,
             reader,
             derotator,
+            equalizer,
             meter,
             last,
         })
@@ -145,11 +150,14 @@ impl<'a> Decide for Decider<'a> {
     ghost last = { λ d. d.last };
 
     /// Decides a frame, exactly as the definition says for its symbols: turned back, if they came turned and the tuning has
-    /// turns.
+    /// turns, and then equalized, if the tuning has the equalizer. The figures are those before it.
     fn decide(&mut self, symbols: &[Symbol]) {
         let turn = self.derotator.derotate(symbols);
         let upright = self.derotator.upright(symbols);
-        self.demodulator.find_soft(upright, self.judge.soft_mut());
+        self.equalizer.equalize(upright);
+        let levelled = self.equalizer.levelled(upright);
+        self.demodulator
+            .find_soft(levelled, self.judge.soft_mut());
         let verdict = self.judge.decide();
         let found = self.corrector.correct(self.judge.word());
         let (outcome, header) = self.reader.read_outcome(found, self.corrector.word());

@@ -25,7 +25,8 @@ pub const MAX_PASSES: u32 = 1000;
 /// values. The factor of min-sum's messages is in sixteenths of the least magnitude. The lock is how many bits of a
 /// header may be wrong right after a frame. If it is uncertified, there are no passes, and no certificate is looked for
 /// when min-sum finds a codeword. With figures a receiver measures each frame that it decides; what it decides is
-/// unchanged. With turns it also receives frames whose symbols came turned by quarters, and turns them back.
+/// unchanged. With turns it also receives frames whose symbols came turned by quarters, and turns them back. With the
+/// equalizer it takes the gain of the channel out of each frame before it decides.
 #[derive(Clone, Copy, Debug, PartialEq, Eq)]
 pub struct Tuning {
     rounds: u32,
@@ -36,6 +37,7 @@ pub struct Tuning {
     uncertified: bool,
     figures: bool,
     turns: bool,
+    equalize: bool,
 }
 
 impl Model for Tuning {
@@ -52,6 +54,7 @@ impl Model for Tuning {
       uncertified = t.uncertified;
       figures = t.figures;
       turns = t.turns;
+      equalize = t.equalize;
     } };
 
     ghost invariant = { λ t. IsTuning (record {
@@ -63,6 +66,7 @@ impl Model for Tuning {
       uncertified = t.uncertified;
       figures = t.figures;
       turns = t.turns;
+      equalize = t.equalize;
     }) };
 
     ghost inverse = { λ v. record {
@@ -74,13 +78,14 @@ impl Model for Tuning {
       uncertified = v.uncertified;
       figures = v.figures;
       turns = v.turns;
+      equalize = v.equalize;
     } };
 }
 
 impl Tuning {
     /// These rounds and passes, the usual divisor, 4096, and the usual factor, 12. At most 12 bits of a header may be
-    /// wrong right after a frame. Certificates are looked for, there are no figures, and frames are received only as they
-    /// were sent. If there are two refusals, it returns the first: `BadRounds` if the rounds are not 1 to 200, `BadPasses` if the passes are over 1000.
+    /// wrong right after a frame. Certificates are looked for, there are no figures, frames are received only as they
+    /// were sent, and there is no equalizer. If there are two refusals, it returns the first: `BadRounds` if the rounds are not 1 to 200, `BadPasses` if the passes are over 1000.
     pub fn new(rounds: u32, passes: u32) -> Result<Tuning, SetupFault>
         ensures is { IfOk result (λ t. t ≡ tuning_of rounds passes) }
         ensures tuned { IfOk result (λ _. IsTuning (tuning_of rounds passes)) }
@@ -101,6 +106,7 @@ impl Tuning {
             uncertified: false,
             figures: false,
             turns: false,
+            equalize: false,
         })
     }
 
@@ -117,6 +123,7 @@ impl Tuning {
             uncertified: self.uncertified,
             figures: self.figures,
             turns: self.turns,
+            equalize: self.equalize,
         }
     }
 
@@ -133,6 +140,7 @@ impl Tuning {
             uncertified: self.uncertified,
             figures: self.figures,
             turns: self.turns,
+            equalize: self.equalize,
         }
     }
 
@@ -149,6 +157,7 @@ impl Tuning {
             uncertified: self.uncertified,
             figures: self.figures,
             turns: self.turns,
+            equalize: self.equalize,
         }
     }
 
@@ -165,6 +174,7 @@ impl Tuning {
             uncertified: true,
             figures: self.figures,
             turns: self.turns,
+            equalize: self.equalize,
         }
     }
 
@@ -181,6 +191,7 @@ impl Tuning {
             uncertified: self.uncertified,
             figures: true,
             turns: self.turns,
+            equalize: self.equalize,
         }
     }
 
@@ -197,6 +208,24 @@ impl Tuning {
             uncertified: self.uncertified,
             figures: self.figures,
             turns: true,
+            equalize: self.equalize,
+        }
+    }
+
+    /// The same, but the gain of the channel is taken out of each frame before it is decided.
+    pub fn with_equalizer(self) -> Tuning
+        ensures { result ≡ record self { equalize = true } }
+    {
+        Tuning {
+            rounds: self.rounds,
+            passes: self.passes,
+            divisor: self.divisor,
+            factor: self.factor,
+            max_header_errors: self.max_header_errors,
+            uncertified: self.uncertified,
+            figures: self.figures,
+            turns: self.turns,
+            equalize: true,
         }
     }
 
@@ -265,5 +294,11 @@ impl Tuning {
         ensures { result ≡ self.turns }
     {
         self.turns
+    }
+    /// Whether the gain of the channel is taken out of each frame before it is decided.
+    pub fn has_equalizer(self) -> bool
+        ensures { result ≡ self.equalize }
+    {
+        self.equalize
     }
 }

@@ -30,6 +30,7 @@ pub struct Wanted {
     pub uncertified: bool,
     pub figures: bool,
     pub turns: bool,
+    pub equalize: bool,
 }
 
 /// The largest number of wrong header bits that is best, for each code.
@@ -95,6 +96,18 @@ fn turned_by(turns: bool, tuning: Tuning) -> Tuning
     if turns { tuning.with_turns() } else { tuning }
 }
 
+/// The same tuning, and with the equalizer if it is requested.
+fn equalized_by(equalize: bool, tuning: Tuning) -> Tuning
+    requires { tuning.equalize ≡ false }
+    ensures { result ≡ record tuning { equalize = equalize } }
+{
+    if equalize {
+        tuning.with_equalizer()
+    } else {
+        tuning
+    }
+}
+
 /// The tuning of a single decision: the default rounds, and these passes and this factor. `None` if one of them is out
 /// of its range.
 pub fn judging_by(passes: u32, factor: u32, uncertified: bool) -> Option<Tuning>
@@ -127,7 +140,7 @@ fn tuning_with(best: Best, wanted: Wanted) -> Option<Tuning>
         .with_max_header_errors(max_header_errors);
     let tuning = figured_by(wanted.figures, certified_by(wanted.uncertified, tuning));
     let turns = is_set(wanted.turns, wanted.tuned);
-    Some(turned_by(turns, tuning))
+    Some(equalized_by(wanted.equalize, turned_by(turns, tuning)))
 }
 
 /// The tuning of a receiver of a mode by what is asked. `None` if a number is out of its range.
