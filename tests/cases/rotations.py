@@ -1,5 +1,5 @@
-"""Streams whose symbols come turned by quarters, as after slips of a carrier loop, received with and without `--turns`. A plain receiver of
-one's own says which frames stand turned, by headers computed from the standard's tables."""
+"""Streams whose symbols are rotated by quarter turns, as after slips of a carrier loop, received with and without `--turns`. The rotation of each
+frame is computed here, from headers made of the standard's tables."""
 import random
 import struct
 
@@ -14,7 +14,7 @@ SIX = numbered(6)
 
 
 def turned(symbol, turn):
-    """A symbol, ahead by quarters: what was sent times i to this power."""
+    """A symbol times i to this power."""
     i, q = symbol
     return [(i, q), (-q, i), (-i, -q), (q, -i)][turn % 4]
 
@@ -49,7 +49,7 @@ def bit_of(place, symbol):
 
 
 def turn_of(symbols):
-    """The rotation of a frame: turned back by so many quarters, the fewest bits of its header are wrong."""
+    """The rotation of a frame: after rotating back by it, the fewest bits of its header are wrong."""
     wrong = [sum(bit_of(at, turned(each, 4 - turn)) != bit for at, (each, bit) in enumerate(zip(symbols, OWN))) for turn in range(4)]
     return wrong.index(min(wrong))
 
@@ -59,7 +59,7 @@ def line(number, at, turn, outcome="sole fixed 0"):
 
 
 def report(symbols, places, packets):
-    """The report of frames without noise at these places, each turned as its header says."""
+    """The report of frames without noise at these places, each rotated as its header says."""
     heard = samples(symbols)
     lines = [line(number, at, turn_of(heard[at : at + HEADER])) for number, at in enumerate(places, 1)]
     return "".join(lines) + END.format(len(places), packets)
@@ -90,7 +90,7 @@ def frames_of(got):
 
 
 def delivers(symbols, whole):
-    """Holds for a report with a line for each frame at its place, in which each frame without a slip inside is sole, with the turn of its header."""
+    """Holds for a report with a line for each frame at its place, in which each frame without a slip inside is sole, with the rotation of its header."""
     heard = samples(symbols)
 
     def told(got):
@@ -115,9 +115,9 @@ def cases(made_by):
     alternating = frames_ahead(five, [at % 4 for at in range(count)])
     back = frames_ahead(five, [(3 * at + 1) % 4 for at in range(count)])
     all_ahead = [ahead(three, turn) for turn in range(4)]
-    # the first symbols of a header stand turned otherwise than the rest of its frame: at most 12 wrong bits
+    # the first symbols of a header have another rotation than the rest of its frame: at most 12 wrong bits
     in_header = ahead(ahead(three, 1, FRAME), 2, FRAME, 6)
-    # dummy frames, each turned otherwise than the frames beside them, the last one at the stream's end
+    # dummy frames, each with another rotation than the frames beside it, the last one at the stream's end
     dummies = ahead(ahead(among, 3, FRAME, DUMMY), 2, 2 * FRAME + DUMMY, DUMMY)
     rng = random.Random(7)
     streams = [slipped(five, rng) for _ in range(3)]
@@ -130,7 +130,7 @@ def cases(made_by):
         received(dummies, [0, FRAME + DUMMY], 2 * PACKET),
         # as --tuned has it
         Case(f"demod {LINK} --tuned made in out", 0, tuned, reads={"in": alternating}, writes={"out": SIX}),
-        # without the option a turned frame is no frame
+        # without the option a rotated frame is no frame
         Case(f"demod {LINK} made in out", 0, ONE + END.format(1, 1), ANY, reads={"in": ahead(three, 1, FRAME)}, writes={"out": FOUR[:188]}),
         Case(f"demod {LINK} made in out", 0, report(three, places[:3], 4), reads={"in": three}, writes={"out": FOUR}),
         *(Case(f"demod {LINK} --turns made in out", ANY, delivers(*stream), ANY, reads={"in": stream[0]}, writes={"out": ANY}) for stream in streams),

@@ -13,8 +13,8 @@ use Rattle.s2_soft.specs.Soft.{soft_values}
 use Rattle.s2_audit.specs.Limits.{certificate_bytes, frame_bytes}
 use Rattle.s2_audit.specs.Reading.{EndsBefore}
 
--- the rows and the mode of a link, its scrambling number, a divisor of soft values, and whether frames that came turned are
--- turned back
+-- the rows and the mode of a link, its scrambling number, a divisor of soft values, and whether frames that arrived rotated are
+-- rotated back
 pub record Terms : Type 0 where
   pub rows : Rows
   pub mode : Mode
@@ -27,7 +27,7 @@ abbrev pub terms_of : Link → Demodulation → Terms
 terms_of link how =
     record { rows = link.rows; mode = link.setup.mode; number = link.setup.number; divisor = how.divisor; turns = how.turns }
 
--- the symbols that were decided: a frame's, turned back by its rotation or not
+-- the symbols that were decided: a frame's, rotated back by its rotation or not
 abbrev pub upright : Mode → Bool → List Symbol → List Symbol
 upright m turns symbols = if turns then derotated m symbols else symbols
 

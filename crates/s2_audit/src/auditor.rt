@@ -85,16 +85,16 @@ fn read_at<R: CountedRead>(
     Ok(true)
 }
 
-/// Turns a frame's symbols back, if that is wanted.
+/// Rotates a frame's symbols back, or leaves them unchanged.
 fn turn_back(mode: Mode, turns: bool, symbols: &mut [Symbol])
-    requires { length symbols.old ≡ symbols_in mode }
+    requires frame { length symbols.old ≡ symbols_in mode }
     requires header { header_symbols ≤ length symbols.old }
-    ensures is { symbols.new ≡ upright mode turns symbols.old }
-    ensures long { length symbols.new ≡ length symbols.old }
+    ensures { symbols.new ≡ upright mode turns symbols.old }
 {
-    if turns {
-        let _turn = derotate(mode, symbols);
+    if !turns {
+        return;
     }
+    let _turn = derotate(mode, symbols);
 }
 
 /// Writes the soft values of a frame's codeword, by the symbols of the frame.

@@ -77,7 +77,7 @@ fn audit_files<R: CountedRead, O: CountedWrite>(
 
 /// `audit`: checks the certificates of a receiver's report. For each line of a frame that is sole or most likely, in
 /// order, it takes the next certificate, and the frame's symbols from the recording. The certificate must have exactly
-/// their soft values, as they were made, and the checker must accept it, strictly if the frame is sole. A line for each
+/// their soft values by these options, and the checker must accept it, strictly if the frame is sole. A line for each
 /// such frame is printed before the next line of the report is read. The last line has the counts.
 ///
 /// Exit 0 if each such frame is proved and no certificate is left over. Else exit 2, after a line with the first

@@ -249,7 +249,7 @@ module _ (m : Mode) (valid : IsMode m) (sizes : HasCodeSizes m) (link : Link) (l
         subst (λ n. IsDelivered (frame_decision link tuning symbols) n message header field) none (both_codes tuning symbols (omega (arith, none)))
 
   module _ (tuning : Tuning) where
-    -- what came without noise is found, and turned back it is what was sent
+    -- what came without noise is found, and rotated back it is what was sent
     pub record Came (codeword : List Bool) (symbols : List Symbol) : Type 0 where
       pub long : length symbols ≡ symbols_in mode
       pub finds : (behind : Bool) → found_as (sought_by link tuning) tuning.max_header_errors behind (take 90 symbols) ≡ founds.Coded
@@ -261,13 +261,13 @@ module _ (m : Mode) (valid : IsMode m) (sizes : HasCodeSizes m) (link : Link) (l
     length_sent : (codeword : List Bool) → length (sent_symbols link codeword) ≡ symbols_in mode
     length_sent codeword = length-map-range_with_len (frame_symbol mode number (payload_of mode codeword)) 0 (symbols_in mode)
 
-    -- as it was sent, in a search in one rotation
+    -- as sent, in a search in one rotation
     straight_found : (codeword : List Bool) (lock : ℕ) (behind : Bool) → found_as (sought_of mode false) lock behind (take 90 (sent_symbols link codeword)) ≡ founds.Coded
     unfolding found_as
     straight_found codeword lock true = ap (found_behind mode lock) (straight_is (take 90 (sent_symbols link codeword))) ∙ clean_behind mode lock number (payload_of mode codeword) is_mode
     straight_found codeword lock false = ap (found mode) (straight_is (take 90 (sent_symbols link codeword))) ∙ clean_passes mode number (payload_of mode codeword) is_mode
 
-    -- turned, in a search in all rotations
+    -- rotated, in a search in all rotations
     turned_found : (t lock : ℕ) (sent came : List Symbol) (behind : Bool) → IsTurnedFrame mode t sent came → found_as (sought_of mode true) lock behind (take 90 came) ≡ founds.Coded
     unfolding found_as
     turned_found t lock sent came true is = is.behind_is lock
@@ -301,7 +301,7 @@ module _ (m : Mode) (valid : IsMode m) (sizes : HasCodeSizes m) (link : Link) (l
     pub sent_upright : (codeword : List Bool) → decided_symbols link tuning (sent_symbols link codeword) ≡ sent_symbols link codeword
     sent_upright codeword = (came_straight codeword (sent_symbols link codeword) tuning.turns refl refl).upright
 
-    -- as it was sent, it came turned by none
+    -- as sent, it arrived rotated by none
     pub sent_unturned : (codeword : List Bool) → frame_turn link tuning (sent_symbols link codeword) ≡ 0
     sent_unturned codeword = by tuning.turns
       where

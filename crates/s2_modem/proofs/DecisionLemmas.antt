@@ -79,11 +79,17 @@ figures_are link tuning symbols upright held soft bits rounds meter figures foun
     by_want true f is = ap Some is
     by_want false f is = refl
 
--- the symbols that are decided, by what turned them back
+-- the symbols that are decided, by what rotated them back
 pub upright_by : (old new : Derotating) (turns : Bool) (frame : List Symbol) → new.turns ≡ old.turns → old.turns ≡ turns → (old.turns ≡ true → new.symbols ≡ derotated old.mode frame)
     → upright new frame ≡ (if turns then derotated old.mode frame else frame)
 upright_by old new true frame same is wrote = ap (λ b. if b then new.symbols else frame) (same ∙ is) ∙ wrote is
 upright_by old new false frame same is wrote = ap (λ b. if b then new.symbols else frame) (same ∙ is)
+
+-- of a link and a tuning
+pub upright_so : (link : Link) (tuning : Tuning) (frame result : List Symbol) (old new : Derotating) → result ≡ upright new frame → new.turns ≡ old.turns → (old.turns ≡ true → new.symbols ≡ derotated old.mode frame)
+    → old.mode ≡ link.setup.mode → old.turns ≡ tuning.turns → result ≡ decided_symbols link tuning frame
+upright_so link tuning frame result old new is same wrote mode turns =
+    is ∙ upright_by old new tuning.turns frame same turns wrote ∙ ap (λ m. if tuning.turns then derotated m frame else frame) mode
 
 -- as many as were given
 pub length_upright : (link : Link) (tuning : Tuning) (frame : List Symbol) → length (decided_symbols link tuning frame) ≡ length frame

@@ -75,13 +75,13 @@ decision_held m soft bits certificate bch_word d field = record {
   turn = d.turn;
 }
 
--- what turns frames back: their mode, whether it does, and the symbols that it wrote last
+-- what rotates frames back: their mode, whether it does, and the symbols that it wrote last
 pub record Derotating : Type 0 where
   pub mode : Mode
   pub turns : Bool
   pub symbols : List Symbol
 
--- the symbols that are decided of a frame: those written last, if it turns frames back
+-- the symbols that are decided of a frame: those written last, if it rotates frames back
 abbrev pub upright : Derotating → List Symbol → List Symbol
 upright d symbols = if d.turns then d.symbols else symbols
 
@@ -109,8 +109,7 @@ figures_found None symbols soft bits rounds = None
 figures_found (Some f) symbols soft bits rounds = Some (figures_of f.mode f.number symbols soft bits rounds)
 
 -- the stages of a decider are of its mode, the divisor is that of its tuning, and the joiner can take the last
--- delivered field. There is a finder of figures and an equalizer, and frames are turned back, exactly if the tuning asks
--- for it
+-- delivered field. There is a finder of figures and an equalizer, and frames are rotated back, exactly if the tuning says so
 pub record IsDeciderState (mode : Mode) (rows : Rows) (tuning : Tuning) (demodulates : Demodulating) (corrects : Mode) (reads : Reading) (derotates : Derotating) (equalizes : Equalizing) (meter : Option FigureMeter) (last : Decided) : Type 0 where
   pub valid : IsMode mode
   pub sizes : HasCodeSizes mode

@@ -113,7 +113,7 @@ closed_packets packets fields = joined (take (closed_in (length (joined fields))
 
 -- ---- the report
 
--- the report of the frame at a place: its number and its first symbol, and verdict, outcome, figures and turn as they are
+-- the report of the frame at a place: its number and its first symbol, and verdict, outcome, figures and rotation as they are
 -- decided on its symbols
 abbrev pub report_at : Link → Tuning → List Symbol → Place → Report
 report_at link tuning symbols place =
@@ -173,7 +173,7 @@ pub record Headline (link : Link) (tuning : Tuning) (symbols : List Symbol) (pac
   -- word is within t places
   pub within : All (λ frame. IsCorrected link.setup.mode (decision_from link tuning symbols frame.at) frame.outcome) frames
   -- If the search is at a frame that was sent, the next line is that of this frame, at this symbol, whatever came
-  -- before and whatever follows. If the frame came clear, as it was sent or turned, the decided bits are the codeword
+  -- before and whatever follows. If the frame came clear, as sent or rotated, the decided bits are the codeword
   -- that was sent, and the line says that it is certified, and `fixed 0`. If a header passes there and the first Nbch
   -- decided bits differ from the BCH word that was sent in at most t places, it is delivered with exactly that number
   pub aligned : (moves byte : ℕ) (field : List ℕ) (codeword : List Bool) (sent : IsSent link.setup.mode link byte field codeword)

@@ -38,7 +38,7 @@ use Rattle.s2_receive.specs.declared.report.Outcome.{Outcome}
 use Rattle.s2_receive.specs.declared.report.Outcome.TheVariants.{Delivered, NoWord, BadHeader}
 use Rattle.s2_modem.specs.Reports.{frame_soft, frame_decision, received_word, message_of, header_in, field_in, IsUndecided}
 
--- the frames that are sought: those of the link's mode, in all four rotations if the tuning has turns
+-- the frames that are sought: those of the link's mode, in all four rotations if the tuning says so
 abbrev pub sought_by : Link → Tuning → Sought
 sought_by link tuning = sought_of link.setup.mode tuning.turns
 

@@ -23,7 +23,7 @@ use Rattle.s2_judge.specs.Deciding.{Decided, decided, rounds_run}
 use Rattle.s2_tuning.specs.Tuning.{Tuning}
 use Rattle.s2_bch.specs.Decoding.{nearest}
 
--- the symbols of a frame, turned back by its rotation if the tuning has turns
+-- the symbols of a frame, rotated back by its rotation if the tuning says so
 abbrev pub upright_symbols : Link → Tuning → List Symbol → List Symbol
 upright_symbols link tuning symbols = if tuning.turns then derotated link.setup.mode symbols else symbols
 
@@ -32,7 +32,7 @@ abbrev pub decided_symbols : Link → Tuning → List Symbol → List Symbol
 decided_symbols link tuning symbols =
     if tuning.equalize then equalized link.setup.mode link.setup.number (upright_symbols link tuning symbols) else upright_symbols link tuning symbols
 
--- by how many quarters they came turned
+-- the number of quarters by which they arrived rotated
 abbrev pub frame_turn : Link → Tuning → List Symbol → ℕ
 frame_turn link tuning symbols = if tuning.turns then turn_of link.setup.mode symbols else 0
 
@@ -66,7 +66,7 @@ delivered_by frame (Ok header) = Some (header, field_in header frame)
 delivered_by frame (Err fault) = None
 
 -- the decision with or without a BCH word: NoWord without one; BadHeader if its header is refused; else Delivered, with
--- the number of places in which decided bits and word differ. It has neither figures nor the header's energy nor a turn
+-- the number of places in which decided bits and word differ. It has neither figures nor the header's energy nor a rotation
 abbrev pub decision_by : Mode → List ℤ → Decided → Option (List Bool) → Decision
 decision_by m soft d (Some bch_word) = record {
   soft = soft;
@@ -111,12 +111,12 @@ figures_by link tuning symbols =
     then Some (figures_of link.setup.mode link.setup.number (upright_symbols link tuning symbols) (frame_soft link tuning symbols) (decided link.rows tuning (frame_soft link tuning symbols)).bits (rounds_run link.rows tuning (frame_soft link tuning symbols)))
     else None
 
--- a decision with these figures, this energy of its header, and this turn
+-- a decision with these figures, this energy of its header, and this rotation
 abbrev pub measured : Decision → Option Figures → (energy turn : ℕ) → Decision
 measured d figures energy turn = record d { figures = figures; energy = energy; turn = turn }
 
 -- the decision on a frame's symbols: soft values, bits, verdict, certificate, message, outcome, header and data field. The
--- figures, if they are wanted, the energy of the header's symbols, and by how many quarters they came turned
+-- figures, if they are wanted, the energy of the header's symbols, and the number of quarters by which they arrived rotated
 unfoldable pub frame_decision : Link → Tuning → List Symbol → Decision
 frame_decision link tuning symbols =
     measured (decision_on link.setup.mode (frame_soft link tuning symbols) (decided link.rows tuning (frame_soft link tuning symbols))) (figures_by link tuning symbols) (energy_of (take header_symbols symbols)) (frame_turn link tuning symbols)

@@ -32,7 +32,7 @@ abbrev pub IsWholeFrame : Link → Tuning → Bool → List Symbol → Type 0
 IsWholeFrame link tuning behind symbols =
     (length symbols ≡ symbols_in link.setup.mode) × (found_as (sought_by link tuning) tuning.max_header_errors behind (take header_symbols symbols) ≡ founds.Coded)
 
--- a frame came without noise: as it was sent; or, if the tuning has turns, turned by 0 to 3 quarters
+-- a frame came without noise: as sent; or, if the tuning says so, rotated by 0 to 3 quarters
 abbrev pub CameWithoutNoise : Link → Tuning → List Bool → List Symbol → Type 0
 CameWithoutNoise link tuning codeword symbols =
     (symbols ≡ sent_symbols link codeword) ⊎ ((tuning.turns ≡ true) × ((t : ℕ) × (t < 4) × (symbols ≡ map (rotated t) (sent_symbols link codeword))))
@@ -61,7 +61,7 @@ AreEach holds finds behind at (dummy symbols ∷ pieces) fields = IsDummy finds 
 abbrev pub AreHeard : Link → Tuning → Bool → ℕ → List Piece → List (List ℕ) → Type 0
 AreHeard link tuning = AreEach (IsHeard link tuning) (found_as (sought_by link tuning) tuning.max_header_errors)
 
--- the places of the coded frames, from a position on, and their verdicts, figures and turns by these rules
+-- the places of the coded frames, from a position on, and their verdicts, figures and rotations by these rules
 abbrev pub places_in : Rules → ℕ → List Piece → List FramePlace
 places_in rules at [] = []
 places_in rules at (coded symbols ∷ pieces) =

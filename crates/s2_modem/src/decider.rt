@@ -19,8 +19,8 @@ use s2_tuning::Tuning;
 use std::alloc::{AllocError, Global};
 use std::marker::Model;
 
-/// Decides the frames of a link, in its own buffers. It has a finder of figures and an equalizer, and turns frames back,
-/// only if the tuning asks for it.
+/// Decides the frames of a link, in its own buffers. It has a finder of figures and an equalizer, and rotates frames back,
+/// only if the tuning says so.
 pub(crate) struct Decider<'a> {
     mode: Mode,
     roll_off: RollOff,
@@ -149,8 +149,8 @@ impl<'a> Decide for Decider<'a> {
 
     ghost last = { λ d. d.last };
 
-    /// Decides a frame, exactly as the definition says for its symbols: turned back, if they came turned and the tuning has
-    /// turns, and then equalized, if the tuning has the equalizer. The figures are those before it.
+    /// Decides a frame, exactly as the definition says for its symbols, after rotating them back and equalizing them if the
+    /// tuning says so. The figures are those of the symbols before the equalizer.
     fn decide(&mut self, symbols: &[Symbol]) {
         let turn = self.derotator.derotate(symbols);
         let upright = self.derotator.upright(symbols);

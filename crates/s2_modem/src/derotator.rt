@@ -1,4 +1,4 @@
-//! Turns the symbols of frames back, if they came turned by quarters.
+//! Rotates the symbols of frames back, if they arrived rotated by quarters.
 ghost use Rattle.std.specs.Prelude.{◌≡◌, ◌≤◌, IfOk, length, true, if◌then◌else◌};
 ghost use Rattle.s2_mode.specs.Limits.{header_symbols};
 ghost use Rattle.s2_mode.specs.Mode.{symbols_in};
@@ -10,7 +10,7 @@ use s2_plframe::derotate_into;
 use std::alloc::{AllocError, Global};
 use std::marker::Model;
 
-/// Turns the frames of a mode back, if the tuning asks for it, into a buffer of its own. Otherwise it takes no memory.
+/// Rotates the frames of a mode back, if the tuning says so, into its own buffer. Otherwise it takes no memory.
 pub(crate) struct Derotator {
     mode: Mode,
     turns: bool,
@@ -53,7 +53,7 @@ impl Derotator {
         })
     }
 
-    /// Turns a frame back, and returns by how many quarters it came turned. If it turns no frames, it returns 0.
+    /// Rotates a frame back, and returns the number of quarters by which it arrived rotated. If it rotates no frames, it returns 0.
     pub(crate) fn derotate(&mut self, frame: &[Symbol]) -> u8
         requires frame { length frame.now ≡ symbols_in self.old.mode }
         requires header { header_symbols ≤ length frame.now }
@@ -69,7 +69,7 @@ impl Derotator {
         }
     }
 
-    /// The symbols that are decided: those written last, if it turns frames back, else these.
+    /// The symbols that are decided: those written last, if it rotates frames back, else these.
     pub(crate) fn upright<'a>(&'a self, frame: &'a [Symbol]) -> &'a [Symbol]
         ensures { result.now ≡ upright self.now frame.now }
     {

@@ -1,4 +1,4 @@
--- Headers and frames that came turned by quarters.
+-- Headers and frames that are rotated by quarter turns.
 use Rattle.std.proofs.Common.{◌≡◌, ℕ, zero, suc, ◌+◌, ◌-◌, ◌%◌, ◌<◌, ◌≤◌, negsuc, Bool, true, false, cond, List, [], ◌∷◌, length, length-take, take, map, pos, not, inl, inr, refl, sym, ap, ◌∙◌, arith, min, drop, get_or, ext_get_or, ℤ}
 use Rattle.std.specs.Prelude.{◌==◌, ◌&&◌, nat_eq, nat_le, ltb, if◌then◌else◌, neg_ℤ, int_lt, ◌+ℤ◌, ◌-ℤ◌}
 use Rattle.std.specs.List.{range_with_len}
@@ -63,14 +63,14 @@ seen_whole symbols long =
     let none : length symbols - 90 ≡ 0 = omega arith in
     seen_last true symbols ∙ ap (λ n. map (sides true) (drop n symbols)) none
 
--- a list whose symbols are those of another, turned back
+-- a list whose symbols are those of another, rotated back
 pub map_by_all : (t : ℕ) (symbols out : List Symbol) → t < 4 → length out ≡ length symbols → ((j : ℕ) → j < length symbols → symbol_at out j ≡ rotated_back t (symbol_at symbols j)) → out ≡ map (rotated_back t) symbols
 map_by_all t symbols out few long each =
     let none : Symbol = symbol (pos 0) (pos 0) in
     ext_get_or none out (map (rotated_back t) symbols) (long ∙ sym (length-map symbols (rotated_back t)))
     (λ j lt. let inside : j < length symbols = omega arith in each j inside ∙ sym (map_at (rotated_back t) symbols j none none inside))
 
--- the bit of a header that came turned by s quarters, after it was turned back by t: a quarter more or less leaves a sum of
+-- the bit of a header that arrived rotated by s quarters, after it was rotated back by t: a quarter more or less leaves a sum of
 -- zero, which says no one
 unfoldable pub seen_bit : ℕ → ℕ → Bool → Bool
 seen_bit t s b = if nat_eq t s then b else (if nat_eq ((t + 2) % 4) s then not b else false)
@@ -189,7 +189,7 @@ zero_turned (suc (suc zero)) (suc (suc (suc (suc n)))) a b = absurd (omega arith
 zero_turned (suc (suc (suc zero))) (suc (suc (suc (suc n)))) a b = absurd (omega arith)
 zero_turned (suc (suc (suc (suc n)))) s a b = absurd (omega arith)
 
--- the bits of a header's symbols that came turned by s quarters
+-- the bits of a header's symbols that arrived rotated by s quarters
 bits_turned : (t s : ℕ) (m : Mode) (symbols : List Symbol) (k : ℕ) → t < 4 → s < 4 → symbol_at symbols k ≡ header_symbol m k
     → decided (turned_window t (map (sides true) (map (rotated s) symbols))) k ≡ seen_bit t s (header_bit m k)
 bits_turned t s m symbols k lt_t lt_s is =

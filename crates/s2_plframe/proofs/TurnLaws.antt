@@ -1,4 +1,4 @@
--- Laws of frames and of dummy headers that came turned by quarters.
+-- Laws of frames and of dummy headers that are rotated by quarter turns.
 use Rattle.std.proofs.Common.{◌≡◌, ℕ, zero, suc, ◌+◌, ◌-◌, ◌*◌, ◌%◌, ◌<◌, ◌≤◌, ◌≢◌, Bool, true, false, List, [], ◌∷◌, length, length-take-le, take, map, not, pos, min, inl, inr, refl, sym, ap, ◌∙◌, arith, ext_get_or, subst, negsuc, ℤ}
 use Rattle.std.proofs.lemmas.Int.{ints, clamps}
 use Rattle.std.specs.Prelude.{◌==◌, ◌/◌, nat_eq, nat_le, nat_lt, if◌then◌else◌}
@@ -151,7 +151,7 @@ take_map f (suc n) (x ∷ xs) = ap (λ l. f x ∷ l) (take_map f n xs)
 
 -- ---- frames
 
--- the header of a mode that came turned
+-- the header of a mode that arrived rotated
 module _ (m : Mode) (s : ℕ) (lt : s < 4) (front : List Symbol) (is : (k : ℕ) → k < 90 → symbol_at front k ≡ header_symbol m k) (long : length front ≡ 90) where
   abbrev seen : List Sides
   seen = map (sides true) (map (rotated s) front)

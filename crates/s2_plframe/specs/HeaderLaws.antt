@@ -67,29 +67,29 @@ ApartLaw = (m : Mode) (window : List Decision) → IsMode m → matches_header (
 
 -- ---- rotations
 
--- the decisions in each rotation are those on the symbol turned back
+-- the decisions in each rotation are those on the symbol rotated back
 abbrev pub RotationsLaw : Type 0
 RotationsLaw = (t : ℕ) (s : Symbol) → t < 4 → side_at t (sides true s) ≡ decision (turned_back t s)
 
--- without the search in all rotations the tests are those of the headers as they were sent
+-- without the search in all rotations the tests are those of the headers as sent
 abbrev pub StraightLaw : Type 0
 StraightLaw = (m : Mode) (lock : ℕ) (symbols : List Symbol)
     → (found_in (sought_of m false) (map (sides false) symbols) ≡ found m (map decision symbols)) × (behind_in (sought_of m false) lock (map (sides false) symbols) ≡ found_behind m lock (map decision symbols))
 
--- a frame that came turned by t quarters: its header is found, right after a frame and elsewhere; its rotation is t; and
--- turned back it is the frame that was sent
+-- a frame that arrived rotated by t quarters: its header is found, right after a frame and elsewhere; its rotation is t; and
+-- rotated back it is the frame that was sent
 pub record IsTurnedFrame (m : Mode) (t : ℕ) (sent came : List Symbol) : Type 0 where
   pub found_is : found_in (sought_of m true) (map (sides true) (take header_symbols came)) ≡ founds.Coded
   pub behind_is : (lock : ℕ) → behind_in (sought_of m true) lock (map (sides true) (take header_symbols came)) ≡ founds.Coded
   pub turn_is : turn_of m came ≡ t
   pub back : AllRotateBack sent → derotated m came ≡ sent
 
--- each frame without noise, turned by 0 to 3 quarters, is such a frame
+-- each frame without noise, rotated by 0 to 3 quarters, is such a frame
 abbrev pub TurnedFrameLaw : Type 0
 TurnedFrameLaw = (m : Mode) (number t : ℕ) (payload : List Symbol) → IsMode m → t < 4
     → IsTurnedFrame m t (frame_symbols m number payload) (map (rotated t) (frame_symbols m number payload))
 
--- a dummy header without noise, turned by 0 to 3 quarters, is found as one, with each TYPE
+-- a dummy header without noise, rotated by 0 to 3 quarters, is found as one, with each TYPE
 abbrev pub TurnedDummyLaw : Type 0
 TurnedDummyLaw = (m : Mode) (short pilots : Bool) (lock t : ℕ) → IsMode m → t < 4
     → (found_in (sought_of m true) (map (sides true) (map (rotated t) (header_of (dummy_mode short pilots)))) ≡ founds.Dummy)

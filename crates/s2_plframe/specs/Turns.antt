@@ -1,5 +1,5 @@
--- Symbols that came turned by quarters, as after a slip of a carrier loop: the search in all four rotations, the rotation
--- of a frame, and its symbols turned back (own).
+-- Symbols that are rotated by quarter turns, as after a slip of a carrier loop: the search in all four rotations, the rotation
+-- of a frame, and its symbols rotated back (own).
 use Rattle.std.specs.Prelude.{ℕ, zero, suc, ◌-◌, min, Bool, true, false, List, length, drop, map, take, pos, ◌+ℤ◌, ◌-ℤ◌, neg_ℤ, int_lt, nat_eq, nat_lt, nat_le, if◌then◌else◌}
 use Rattle.s2_mode.specs.declared.symbols.Symbol.{Symbol}
 use Rattle.s2_mode.specs.Symbols.{symbol}
@@ -12,31 +12,32 @@ use Rattle.s2_plframe.specs.Search.{Decision, decision, wrong_bits, wrong_bits_d
 use Rattle.s2_plframe.specs.declared.receive.found.Found.{Found}
 use Rattle.s2_plframe.specs.declared.receive.found.Found.TheVariants as founds
 
--- the frames that are sought: those of a mode, as they were sent, or in all four rotations
+-- the frames that are sought: those of a mode, as sent, or in all four rotations
 pub record Sought : Type 0 where
   pub mode : Mode
   pub turns : Bool
 
+-- these frames of a mode
 abbrev pub sought_of : Mode → Bool → Sought
 sought_of mode turns = record { mode = mode; turns = turns }
 
--- a symbol turned back by quarters, over the whole numbers: by one (Q, -I), by two (-I, -Q), by three (-Q, I)
+-- a symbol rotated back by quarters, over the whole numbers: by one (Q, -I), by two (-I, -Q), by three (-Q, I)
 abbrev pub turned_back : ℕ → Symbol → Symbol
 turned_back zero s = s
 turned_back (suc zero) s = symbol s.q (neg_ℤ s.i)
 turned_back (suc (suc zero)) s = symbol (neg_ℤ s.i) (neg_ℤ s.q)
 turned_back _ s = symbol (neg_ℤ s.q) s.i
 
--- the decisions on a symbol turned by two quarters: I + Q and Q - I change their signs
+-- the decisions on a symbol rotated by two quarters: I + Q and Q - I change their signs
 abbrev pub opposite_decision : Symbol → Decision
 opposite_decision s = record { odd = int_lt (pos 0) (s.i +ℤ s.q); even = int_lt (pos 0) (s.q -ℤ s.i) }
 
--- the decisions on a symbol, and on the symbol turned by two quarters
+-- the decisions on a symbol, and on the symbol rotated by two quarters
 pub record Sides : Type 0 where
   pub straight : Decision
   pub opposite : Decision
 
--- the decisions of which a search in one rotation has none
+-- the opposite decisions of a search in one rotation
 abbrev pub undecided : Decision
 undecided = record { odd = false; even = false }
 
@@ -44,7 +45,7 @@ undecided = record { odd = false; even = false }
 abbrev pub sides : Bool → Symbol → Sides
 sides turns s = record { straight = decision s; opposite = if turns then opposite_decision s else undecided }
 
--- the decisions on the symbol turned back by quarters (`laws::rotations`): a quarter makes Q - I of I + Q, and -(I + Q)
+-- the decisions on the symbol rotated back by quarters (`laws::rotations`): a quarter makes Q - I of I + Q, and -(I + Q)
 -- of Q - I
 abbrev pub side_at : ℕ → Sides → Decision
 side_at zero s = s.straight
@@ -52,7 +53,7 @@ side_at (suc zero) s = record { odd = s.straight.even; even = s.opposite.odd }
 side_at (suc (suc zero)) s = s.opposite
 side_at _ s = record { odd = s.opposite.even; even = s.straight.odd }
 
--- those on symbols turned back by t quarters
+-- those on symbols rotated back by t quarters
 abbrev pub turned_window : ℕ → List Sides → List Decision
 turned_window t seen = map (side_at t) seen
 
@@ -65,7 +66,7 @@ abbrev pub first_least : (ℕ → ℕ) → ℕ
 first_least wrong =
     if nat_eq (wrong 0) (least_of wrong) then 0 else (if nat_eq (wrong 1) (least_of wrong) then 1 else (if nat_eq (wrong 2) (least_of wrong) then 2 else 3))
 
--- how many bits of symbols turned back by t quarters differ from the header of a mode
+-- how many bits of symbols rotated back by t quarters differ from the header of a mode
 abbrev pub wrong_at : Mode → List Sides → ℕ → ℕ
 wrong_at m seen t = wrong_bits (header_bit m) (turned_window t seen)
 
@@ -97,12 +98,12 @@ behind_in s lock seen =
     then nearest_of (least_of (wrong_at s.mode seen)) (least_of (wrong_dummy_at seen)) lock
     else found_behind s.mode lock (map (λ x. x.straight) seen)
 
--- The rotation of a frame, 0 to 3, by its first 90 symbols alone. Turned back by so many quarters, its header has the
--- fewest wrong bits; of equals the smallest counts
+-- The rotation of a frame, 0 to 3, by its first 90 symbols alone. After rotating back by it, its header has the fewest
+-- wrong bits; of equals the smallest counts
 unfoldable pub turn_of : Mode → List Symbol → ℕ
 turn_of m frame = first_least (wrong_at m (map (sides true) (take header_symbols frame)))
 
--- a frame's symbols, turned back by its rotation; the negative of -32768 is 32767
+-- a frame's symbols, rotated back by its rotation; the negative of -32768 is 32767
 unfoldable pub derotated : Mode → List Symbol → List Symbol
 derotated m frame = map (rotated_back (turn_of m frame)) frame
 
@@ -110,7 +111,7 @@ derotated m frame = map (rotated_back (turn_of m frame)) frame
 abbrev pub recent : List Sides → List Sides
 recent seen = drop (length seen - header_symbols) seen
 
--- what is sought, and the decisions on the last symbols, at most 90
+-- the frames that are sought, and the decisions on the last symbols, at most 90
 pub record Search : Type 0 where
   pub sought : Sought
   pub seen : List Sides

@@ -50,23 +50,23 @@ pub fn still_found()
     ensures { StillFoundLaw }
 {}
 
-/// The decisions of a search in each rotation are those on the symbols turned back.
+/// The decisions of a search in each rotation are those on the symbols rotated back.
 pub fn rotations()
     ensures { RotationsLaw }
 {}
 
-/// A search in one rotation finds the headers as they were sent.
+/// A search in one rotation finds the headers as sent.
 pub fn straight()
     ensures { StraightLaw }
 {}
 
-/// A frame without noise that came turned is found in a search in all rotations, and turned back it is the frame that was
+/// A frame without noise that arrived rotated is found in a search in all rotations, and rotated back it is the frame that was
 /// sent.
 pub fn turned_frame()
     ensures { TurnedFrameLaw }
 {}
 
-/// The header of a dummy frame without noise that came turned is found as one, with every mode and TYPE.
+/// The header of a dummy frame without noise that arrived rotated is found as one, with every mode and TYPE.
 pub fn turned_dummy()
     ensures { TurnedDummyLaw }
 {}

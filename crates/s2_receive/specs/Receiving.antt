@@ -36,7 +36,7 @@ use Rattle.s2_receive.specs.declared.report.Phase.TheVariants as phases
 
 -- The decision on a frame's symbols: soft values, decided bits, verdict, certificate, message and outcome. If the
 -- message's header is accepted, also the header and the data field. Figures, if they were asked for; the header's energy,
--- the sum of I*I + Q*Q over its 90 symbols; and by how many quarters the symbols came turned
+-- the sum of I*I + Q*Q over its 90 symbols; and the number of quarters by which the symbols arrived rotated
 pub record Decision : Type 0 where
   pub soft : List ℤ
   pub bits : List Bool

@@ -34,12 +34,12 @@ figures_words (Some f) =
     decoding_words f ++ codes " known " ++ decimal f.known.sum ++ correlation_words f.known_correlation
     ++ codes " payload " ++ decimal f.payload.sum ++ correlation_words f.payload_correlation
 
--- turn T, for a frame that came turned by T quarters
+-- turn T, for a frame that arrived rotated by T quarters
 abbrev pub turn_words : ℕ → List ℕ
 turn_words turn = if nat_eq turn 0 then [] else codes " turn " ++ decimal turn
 
--- frame I at SYMBOL VERDICT fixed COUNT, or frame I at SYMBOL VERDICT lost; its figures, if it has them; and its turn, if it
--- came turned
+-- frame I at SYMBOL VERDICT fixed COUNT, or frame I at SYMBOL VERDICT lost; its figures, if it has them; and its rotation, if it
+-- is not 0
 unfoldable pub frame_line : Report → List ℕ
 frame_line r =
     codes "frame " ++ decimal r.number ++ codes " at " ++ decimal r.at ++ codes " " ++ verdict_word r.verdict ++ codes " " ++ outcome_words r.outcome ++ figures_words r.figures ++ turn_words r.turn ++ codes "\n"

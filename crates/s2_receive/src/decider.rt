@@ -21,7 +21,7 @@ pub struct Decided {
     pub figures: Option<Figures>,
     /// The energy of the frame's header: the sum of I*I + Q*Q over its 90 symbols.
     pub energy: u64,
-    /// By how many quarters the frame's symbols came turned.
+    /// The number of quarters by which the frame's symbols are rotated.
     pub turn: u8,
 }
 

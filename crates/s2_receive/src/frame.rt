@@ -18,7 +18,7 @@ pub struct Frame<'a> {
     /// The message that BCH decoding left, still scrambled.
     pub message: &'a [bool],
     /// The verdict, the outcome, the header of a delivered message, the figures, the energy of the PLHEADER, and
-    /// by how many quarters the symbols came turned.
+    /// the number of quarters by which the symbols arrived rotated.
     pub decided: Decided,
     /// The data field of a delivered message. If the frame was not delivered, it says nothing.
     pub field: &'a [u8],

@@ -82,7 +82,7 @@ fn read_step<D: Decide, R: CountedRead>(
 
 impl<D: Decide> Receiver<D> {
     /// A receiver of the frames of a mode that takes at most `limit` symbols in all, with the memory that
-    /// its steps use. With `turns` frames are also found whose symbols came turned by quarters. Right after a frame, `max_header_errors` is the number of wrong bits that a header may have.
+    /// its steps use. With `turns` frames are also found whose symbols are rotated by quarter turns. Right after a frame, `max_header_errors` is the number of wrong bits that a header may have.
     /// `AllocError` only if an allocation was refused.
     pub fn new(
         alloc: Global,

@@ -46,7 +46,7 @@ pub struct Report {
     pub outcome: Outcome,
     /// The frame's figures, if the decider was asked for them.
     pub figures: Option<Figures>,
-    /// By how many quarters the frame's symbols came turned, 0 to 3.
+    /// The number of quarters by which the frame's symbols are rotated, 0 to 3.
     pub turn: u8,
 }
 

@@ -14,7 +14,7 @@ use s2_plframe::{HeaderTolerance, Search};
 use std::alloc::{AllocError, Global};
 use std::marker::Model;
 
-/// Finds the frames of a mode in a stream of symbols, as they were sent or in all four rotations, in its own buffers.
+/// Finds the frames of a mode in a stream of symbols, as sent or in all four rotations, in its own buffers.
 pub(crate) struct Synchronizer {
     search: Search,
     max_header_errors: HeaderTolerance,

@@ -254,14 +254,7 @@ fn toy_with(alloc: Global, limit: u64, figured: bool) -> Result<Toy, Fail>
         content: 0,
         figured,
     };
-    Ok(Receiver::new(
-        alloc,
-        mode,
-        false,
-        HeaderTolerance::usual(),
-        decider,
-        limit,
-    )?)
+    Ok(Receiver::new(alloc, mode, false, HeaderTolerance::usual(), decider, limit)?)
 }
 
 /// A number of symbols at which nothing begins.

@@ -11,8 +11,8 @@ use Rattle.s2_tuning.specs.Limits.{max_rounds, max_passes}
 -- The parameters of a receiver: rounds of min-sum, passes of settling, the divisor of soft values, and the factor of
 -- min-sum's messages. Then the most bits of a header that may be wrong right after a frame, and whether what min-sum
 -- finds stays uncertified. With no passes a certificate comes from greedy amounts and spreading. Then whether there are
--- figures of each frame, whether frames are also received that came turned by quarters, and whether the channel's gain is
--- taken out of each frame
+-- figures of each frame, whether frames are also received that are rotated by quarter turns, and whether each symbol is
+-- divided by the gain of the channel
 pub record Tuning : Type 0 where
   pub rounds : ℕ
   pub passes : ℕ
@@ -25,7 +25,7 @@ pub record Tuning : Type 0 where
   pub equalize : Bool
 
 -- these rounds and passes, and the default divisor, factor and limit of wrong header bits, with certificates, and without
--- figures, turns and the equalizer
+-- figures, rotations and the equalizer
 abbrev pub tuning_of : ℕ → ℕ → Tuning
 tuning_of rounds passes =
     record { rounds = rounds; passes = passes; divisor = default_divisor; factor = default_factor; max_header_errors = header_threshold; uncertified = false; figures = false; turns = false; equalize = false }

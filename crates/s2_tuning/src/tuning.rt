@@ -25,8 +25,8 @@ pub const MAX_PASSES: u32 = 1000;
 /// values. The factor of min-sum's messages is in sixteenths of the least magnitude. The lock is how many bits of a
 /// header may be wrong right after a frame. If it is uncertified, there are no passes, and no certificate is looked for
 /// when min-sum finds a codeword. With figures a receiver measures each frame that it decides; what it decides is
-/// unchanged. With turns it also receives frames whose symbols came turned by quarters, and turns them back. With the
-/// equalizer it takes the gain of the channel out of each frame before it decides.
+/// unchanged. It may also receive frames whose symbols are rotated by quarter turns. With the equalizer it divides each
+/// symbol by the gain of the channel before it decides.
 #[derive(Clone, Copy, Debug, PartialEq, Eq)]
 pub struct Tuning {
     rounds: u32,
@@ -195,7 +195,7 @@ impl Tuning {
         }
     }
 
-    /// The same, but frames are also received whose symbols came turned by quarters.
+    /// The same, but frames are also received whose symbols are rotated by quarter turns.
     pub fn with_turns(self) -> Tuning
         ensures { result ≡ record self { turns = true } }
     {
@@ -289,7 +289,7 @@ impl Tuning {
     {
         self.figures
     }
-    /// Whether frames are also received whose symbols came turned by quarters.
+    /// Whether frames are also received whose symbols are rotated by quarter turns.
     pub fn has_turns(self) -> bool
         ensures { result ≡ self.turns }
     {

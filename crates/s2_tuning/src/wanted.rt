@@ -88,7 +88,7 @@ fn is_set(given: bool, tuned: bool) -> bool
     given || tuned
 }
 
-/// The same tuning, and with turns if they are requested.
+/// The same tuning, also for frames rotated by quarters, if that is requested.
 fn turned_by(turns: bool, tuning: Tuning) -> Tuning
     requires { tuning.turns ≡ false }
     ensures { result ≡ record tuning { turns = turns } }

@@ -59,7 +59,7 @@ impl Signs {
         Signs { odd, even }
     }
 
-    /// The signs after one more symbol, which is turned by two quarters.
+    /// The signs after one more symbol, which is rotated by two quarters.
     #[inline(always)]
     pub(crate) fn with_opposite(self, symbol: Symbol) -> Signs
         ensures newest { held result.odd result.even 0 ≡ opposite_decision symbol }

@@ -9,7 +9,7 @@ use crate::receive::found::Found;
 use crate::receive::headers::{Headers, wrong_in_dummy};
 use crate::receive::registers::{Signs, low, wrong_in};
 
-/// The decided bits of the last 90 symbols, as they came and turned back by one, two and three quarters.
+/// The decided bits of the last 90 symbols, as they came and rotated back by one, two and three quarters.
 #[derive(Clone, Copy)]
 pub(crate) struct Windows {
     none: u128,
@@ -18,7 +18,7 @@ pub(crate) struct Windows {
     three: u128,
 }
 
-/// The windows of the signs of symbols, and of those turned by two quarters.
+/// The windows of the signs of symbols, and of those rotated by two quarters.
 #[inline(always)]
 pub(crate) fn windows_of(straight: Signs, opposite: Signs) -> Windows
     ensures { AreWindows (sides_list straight.odd straight.even opposite.odd opposite.even header_symbols) result.none result.one result.two result.three }
@@ -96,7 +96,7 @@ fn is_far(headers: &Headers, window: u64) -> bool
         && is_between(headers.apart, low(headers.dummy_pilots), window)
 }
 
-/// Whether the lowest bits of a window and of the one turned by two quarters show that neither is near a header. The second
+/// Whether the lowest bits of a window and of the one rotated by two quarters show that neither is near a header. The second
 /// is the complement of the first if no sum of components is zero.
 #[inline(always)]
 fn are_far(headers: &Headers, window: u128, turned: u128) -> bool

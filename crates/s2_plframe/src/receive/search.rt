@@ -12,7 +12,9 @@ use crate::header::{header_bit, pls_code};
 use crate::receive::found::Found;
 use crate::receive::headers::{Headers, found_by, headers_of, nearest_of, wrong_in_dummy};
 use crate::receive::registers::{Signs, wrong_in};
-use crate::receive::rotations::{found_turned, least_wrong, least_wrong_dummy, turn_by, windows_of};
+use crate::receive::rotations::{
+    found_turned, least_wrong, least_wrong_dummy, turn_by, windows_of,
+};
 use crate::receive::tolerance::HeaderTolerance;
 use s2_mode::{HEADER_SYMBOLS, Mode, Symbol};
 use std::marker::Model;
@@ -33,7 +35,7 @@ pub(crate) fn says_even(symbol: Symbol) -> bool
     i32::from(symbol.q) - i32::from(symbol.i) < 0
 }
 
-/// A symbol's bit as the first, third and so on of a header, after a turn by two quarters.
+/// A symbol's bit as the first, third and so on of a header, after a rotation by two quarters.
 #[inline(always)]
 pub(crate) fn opposite_odd(symbol: Symbol) -> bool
     ensures { result ≡ (opposite_decision symbol).odd }
@@ -41,7 +43,7 @@ pub(crate) fn opposite_odd(symbol: Symbol) -> bool
     i32::from(symbol.i) + i32::from(symbol.q) > 0
 }
 
-/// A symbol's bit as one of the others, after a turn by two quarters.
+/// A symbol's bit as one of the others, after a rotation by two quarters.
 #[inline(always)]
 pub(crate) fn opposite_even(symbol: Symbol) -> bool
     ensures { result ≡ (opposite_decision symbol).even }
@@ -88,8 +90,8 @@ fn opposite_after(turns: bool, signs: Signs, symbol: Symbol) -> Signs
     }
 }
 
-/// The search for the header of a mode's frames, symbol by symbol, as they were sent or in all four rotations. Its
-/// value is what is sought, and the decisions on the last symbols, at most 90, since it was made or restarted.
+/// The search for the header of a mode's frames, symbol by symbol, as sent or in all four rotations. Its
+/// value is the frames that it seeks, and the decisions on the last symbols, at most 90, since it was made or restarted.
 #[derive(Drop)]
 pub struct Search {
     mode: Mode,
@@ -116,7 +118,7 @@ impl Model for Search {
 impl Search {
     ghost use Rattle.s2_plframe.specs.Turns.{search_of, sought_of, recent};
 
-    /// A search for frames of a mode, before its first symbol; with `turns` also for those whose symbols came turned
+    /// A search for frames of a mode, before its first symbol; with `turns` also for those whose symbols arrived rotated
     /// by quarters.
     pub fn new(mode: Mode, turns: bool) -> Search
         ensures { result ≡ search_of (sought_of mode turns) [] }
@@ -140,7 +142,7 @@ impl Search {
 
     /// Takes the next symbol, and returns what the last 90 are: a header of the mode's frames, one of dummy
     /// frames of any TYPE, or nothing. If fewer came, it is nothing. A header passes with at most 12 wrong bits. If
-    /// all rotations are sought, those of the rotation with the fewest count. As they were sent, no symbols pass as
+    /// all rotations are sought, those of the rotation with the fewest count. In one rotation no symbols pass as
     /// both ([`crate::laws::apart`]).
     pub fn feed(&mut self, symbol: Symbol) -> Found
         ensures seen { self.new ≡ search_of self.old.sought (recent (self.old.seen ++ sides self.old.sought.turns symbol ∷ [])) }
@@ -177,7 +179,7 @@ impl Search {
         nearest_of(coded, wrong_in_dummy(&self.headers, window), lock.get())
     }
 
-    /// The rotation of the last 90 symbols: turned back by so many quarters, their bits differ in the fewest places
+    /// The rotation of the last 90 symbols: after rotating back by it, their bits differ in the fewest places
     /// from the mode's header.
     pub(crate) fn turn(&self) -> u8
         requires turns { self.now.sought.turns ≡ true }

@@ -1,4 +1,4 @@
-//! Frames whose symbols came turned by quarters.
+//! Frames whose symbols are rotated by quarter turns.
 ghost use Rattle.std.specs.Prelude.{◌≡◌, ◌<◌, ◌≤◌, length, map};
 ghost use Rattle.s2_mode.specs.Limits.{header_symbols};
 ghost use Rattle.s2_scramble.specs.Rotations.{negative, rotated_back};
@@ -7,7 +7,7 @@ ghost use Rattle.s2_plframe.specs.Turns.{derotated, turn_of};
 use crate::receive::search::Search;
 use s2_mode::{HEADER_SYMBOLS, Mode, Symbol};
 
-/// The rotation of a frame, 0 to 3: turned back by so many quarters, the decided bits of its first 90 symbols differ in the
+/// The rotation of a frame, 0 to 3: after rotating back by it, the decided bits of its first 90 symbols differ in the
 /// fewest places from the header of the mode. Of equals it is the smallest.
 pub fn turn_of(mode: Mode, symbols: &[Symbol]) -> u8
     requires { header_symbols ≤ length symbols.now }
@@ -29,7 +29,7 @@ fn negative(component: i16) -> i16
     component.saturating_neg()
 }
 
-/// A symbol turned back by quarters.
+/// A symbol rotated back by quarters.
 #[inline(always)]
 fn rotated_back(turn: u8, symbol: Symbol) -> Symbol
     requires { turn < 4 }
@@ -38,16 +38,22 @@ fn rotated_back(turn: u8, symbol: Symbol) -> Symbol
     let Symbol { i, q } = symbol;
     match turn {
         0 => symbol,
-        1 => Symbol { i: q, q: negative(i) },
+        1 => Symbol {
+            i: q,
+            q: negative(i),
+        },
         2 => Symbol {
             i: negative(i),
             q: negative(q),
         },
-        _ => Symbol { i: negative(q), q: i },
+        _ => Symbol {
+            i: negative(q),
+            q: i,
+        },
     }
 }
 
-/// Writes symbols turned back by quarters.
+/// Writes symbols rotated back by quarters.
 fn rotate_back_into(turn: u8, symbols: &[Symbol], out: &mut [Symbol])
     requires few { turn < 4 }
     requires same { length out.old ≡ length symbols.now }
@@ -58,9 +64,9 @@ fn rotate_back_into(turn: u8, symbols: &[Symbol], out: &mut [Symbol])
     }
 }
 
-/// Writes a frame's symbols, turned back by its rotation, and returns the rotation, 0 to 3. The negative of -32768 is 32767.
+/// Writes a frame's symbols, rotated back by its rotation, and returns the rotation, 0 to 3. The negative of -32768 is 32767.
 ///
-/// `frame` has at least the 90 symbols of the header. `out` has as many symbols as `frame`. Each is written.
+/// `frame` has at least the 90 symbols of the header. `out` has the length of `frame`. Each is written.
 pub fn derotate_into(mode: Mode, frame: &[Symbol], out: &mut [Symbol]) -> u8
     requires header { header_symbols ≤ length frame.now }
     requires same { length out.old ≡ length frame.now }
@@ -73,7 +79,7 @@ pub fn derotate_into(mode: Mode, frame: &[Symbol], out: &mut [Symbol]) -> u8
     turn
 }
 
-/// Turns symbols back by quarters, in their place.
+/// Rotates symbols back by quarters, in their place.
 fn rotate_back(turn: u8, symbols: &mut [Symbol])
     requires { turn < 4 }
     ensures { symbols.new ≡ map (rotated_back turn) symbols.old }
@@ -83,7 +89,7 @@ fn rotate_back(turn: u8, symbols: &mut [Symbol])
     }
 }
 
-/// Turns a frame's symbols back by its rotation, in their place, and returns the rotation, as [`derotate_into`].
+/// Rotates a frame's symbols back by its rotation, in their place, and returns the rotation, as [`derotate_into`].
 pub fn derotate(mode: Mode, frame: &mut [Symbol]) -> u8
     requires { header_symbols ≤ length frame.old }
     ensures turn { result ≡ turn_of mode frame.old }

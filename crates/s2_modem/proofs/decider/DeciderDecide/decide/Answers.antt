@@ -1,13 +1,32 @@
-use Rattle.s2_modem.proofs.Names.{◌≡◌, ◌≤◌, length, Rows, sym, refl, ap, subst, ◌∙◌, IfSome, n_of, symbols_in, code_of, refilled, Link, received_payload, soft_values, symbols_least, Decision, FigureMeter, meter_of, frame_soft, frame_decision, received_word, FindsWord, Reads, DeciderState, decides, decision_held, decided_symbols, frame_turn, derotated, turn_of, if◌then◌else◌}
-use Rattle.s2_modem.proofs.DecisionLemmas.{code_is, figures_are, frame_decided, if_wanted, upright_by}
+use Rattle.s2_modem.proofs.Names.{◌≡◌, ◌≤◌, length, Rows, sym, refl, ap, subst, ◌∙◌, IfSome, n_of, symbols_in, code_of, refilled, Link, received_payload, soft_values, symbols_least, Decision, FigureMeter, meter_of, frame_soft, frame_decision, received_word, FindsWord, Reads, DeciderState, decides, decision_held, decided_symbols, frame_turn, turn_of, if◌then◌else◌}
+use Rattle.s2_modem.proofs.DecisionLemmas.{code_is, figures_are, frame_decided, if_wanted, upright_so, length_upright}
 use Rattle.s2_modem.proofs.decider.DeciderDecide.decide.Goals as goal
 use Rattle.s2_modem.proofs.decider.DeciderDecide.decide.Goals.{After-header_energy}
+
+pub derotate-turn-requires-clause-frame : goal.derotate-turn-requires-clause-frame
+derotate-turn-requires-clause-frame c =
+    c.requires ∙ sym (ap (λ (l : DeciderState). symbols_in l.link.setup.mode) c.self.view_is) ∙ ap symbols_in (sym c.self.invariant.derotator)
+
+pub derotate-turn-requires-clause-header : goal.derotate-turn-requires-clause-header
+derotate-turn-requires-clause-header c = subst (λ n. 90 ≤ n) (sym c.requires) (symbols_least c.args.self.now.link.setup.mode)
+
+pub find_soft-requires-clause-frame : goal.find_soft-requires-clause-frame
+find_soft-requires-clause-frame c =
+    let so = c.self.invariant in
+    let inside = c.self.inside in
+    let link : Link = record { setup = record { mode = inside.mode; number = inside.demodulator.number; roll_off = inside.roll_off }; rows = inside.judge.rows } in
+    let upright = upright_so link inside.judge.tuning c.args.symbols.now c.upright-upright.result.now inside.derotator c.derotate-turn.new.self c.upright-upright.ensures c.derotate-turn.ensures.turns c.derotate-turn.ensures.is so.derotator so.turns in
+    ap length upright ∙ length_upright link inside.judge.tuning c.args.symbols.now ∙ c.requires ∙ sym (ap (λ (l : DeciderState). symbols_in l.link.setup.mode) c.self.view_is) ∙ ap symbols_in (sym so.demodulator)
 
 pub find_figures-figures-requires-clause-symbols : goal.find_figures-figures-requires-clause-symbols
 find_figures-figures-requires-clause-symbols c =
     let so = c.self.invariant in
+    let inside = c.self.inside in
+    let link : Link = record { setup = record { mode = inside.mode; number = inside.demodulator.number; roll_off = inside.roll_off }; rows = inside.judge.rows } in
+    let upright = upright_so link inside.judge.tuning c.args.symbols.now c.upright-upright.result.now inside.derotator c.derotate-turn.new.self c.upright-upright.ensures c.derotate-turn.ensures.turns c.derotate-turn.ensures.is so.derotator so.turns in
+    let long = ap length upright ∙ length_upright link inside.judge.tuning c.args.symbols.now ∙ c.requires ∙ sym (ap (λ (l : DeciderState). symbols_in l.link.setup.mode) c.self.view_is) in
     let holds : FigureMeter → Type 0 = λ f. length c.upright-upright.result.now ≡ symbols_in f.mode in
-    subst (λ o. IfSome o holds) (sym so.figures) (if_wanted holds c.self.inside.judge.tuning.figures (meter_of c.self.inside.mode c.self.inside.demodulator.number) (c.requires ∙ sym (ap (λ (l : DeciderState). symbols_in l.link.setup.mode) c.self.view_is)))
+    subst (λ o. IfSome o holds) (sym so.figures) (if_wanted holds inside.judge.tuning.figures (meter_of inside.mode inside.demodulator.number) long)
 
 pub find_figures-figures-requires-clause-word : goal.find_figures-figures-requires-clause-word
 find_figures-figures-requires-clause-word c =
@@ -28,10 +47,7 @@ module _ (c : After-header_energy) where
   upright_is : c.upright-upright.result.now ≡ decided_symbols link c.self.inside.judge.tuning c.args.symbols.now
   upright_is =
       let so = c.self.invariant in
-      let d = c.self.inside.derotator in
-      let old = c.derotate-turn.new.self in
-      let turns : old.turns ≡ c.self.inside.judge.tuning.turns = c.derotate-turn.ensures.turns ∙ so.turns in
-      c.upright-upright.ensures ∙ upright_by d old c.self.inside.judge.tuning.turns c.args.symbols.now c.derotate-turn.ensures.turns so.turns c.derotate-turn.ensures.is ∙ ap (λ m. if c.self.inside.judge.tuning.turns then derotated m c.args.symbols.now else c.args.symbols.now) so.derotator
+      upright_so link c.self.inside.judge.tuning c.args.symbols.now c.upright-upright.result.now c.self.inside.derotator c.derotate-turn.new.self c.upright-upright.ensures c.derotate-turn.ensures.turns c.derotate-turn.ensures.is so.derotator so.turns
 
   turn_is : c.derotate-turn.result ≡ frame_turn link c.self.inside.judge.tuning c.args.symbols.now
   turn_is =
