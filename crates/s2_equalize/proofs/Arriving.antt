@@ -151,6 +151,7 @@ weights_least at (suc n) = by (weight (at + n)) (one (eqb (at + n) 0)) (weights_
     one : (b : Bool) → 1 ≤ cond b 2 1
     one true = omega arith
     one false = omega arith
+
     by : (w : ℕ) → 1 ≤ w → n ≤ weights at n → suc n ≤ weights at n + w
     by w some before = omega (arith, some, before)
 
@@ -212,9 +213,9 @@ module _ (q g : ℕ) (xs : List Complex) (some : 0 < length xs) (each : (k : ℕ
       elim (cases_lt k (length xs)) [
         | inl less ↦ sym (inside_is xs no_turn k less) ∙ mean_is k less
         | inr more ↦
-        let same : k ≡ length xs = omega (arith, lt, more) in
-        ap (smoothed_gain xs no_turn) same
-        ∙ (sym (behind_is xs no_turn) ∙ (ap (λ (a : Complex). over 32768 (times a no_turn)) (mean_is (length xs - 1) (omega (arith, some))) ∙ behind_turned))
+            let same : k ≡ length xs = omega (arith, lt, more) in
+            ap (smoothed_gain xs no_turn) same
+            ∙ (sym (behind_is xs no_turn) ∙ (ap (λ (a : Complex). over 32768 (times a no_turn)) (mean_is (length xs - 1) (omega (arith, some))) ∙ behind_turned))
       ]
 
   pub smoothed_is : (k : ℕ) → k < length xs + 1 → complex_at (smoothed xs) k ≡ axis q g

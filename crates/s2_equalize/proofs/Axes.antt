@@ -108,11 +108,15 @@ sum_axis q f size at (suc n) total none more each =
 
 -- ---- products
 
+square_negative : (n : ℕ) → neg_ℤ (pos n) *ℤ neg_ℤ (pos n) ≡ pos (n * n)
+square_negative n =
+    times_negative (neg_ℤ (pos n)) (pos n) ∙ (ap neg_ℤ (negative_times (pos n) (pos n) ∙ ap neg_ℤ (pos-*ℤ-pos n n)) ∙ neg_ℤ-neg_ℤ (pos (n * n)))
+
 pub same_axis : (q g : ℕ) → times_conjugate (axis q g) (axis q g) ≡ axis 0 (g * g)
 same_axis zero g = ap₂ complex (omega (arith, ints)) (omega (arith, ints))
 same_axis (suc zero) g = ap₂ complex (omega (arith, ints)) (omega (arith, ints))
-same_axis (suc (suc zero)) g = ap₂ complex (omega (arith, ints)) (omega (arith, ints))
-same_axis (suc (suc (suc n))) g = ap₂ complex (omega (arith, ints)) (omega (arith, ints))
+same_axis (suc (suc zero)) g = ap₂ complex (omega (arith, ints, square_negative g)) (omega (arith, ints, *ℤ-zero (neg_ℤ (pos g)), zero-*ℤ (neg_ℤ (pos g))))
+same_axis (suc (suc (suc n))) g = ap₂ complex (omega (arith, ints, square_negative g)) (omega (arith, ints, *ℤ-zero (neg_ℤ (pos g)), zero-*ℤ (neg_ℤ (pos g))))
 
 pub turn_none : (q g : ℕ) → times (axis q g) no_turn ≡ axis q (32768 * g)
 turn_none zero g = ap₂ complex (omega (arith, ints)) (omega (arith, ints))

@@ -60,7 +60,7 @@ frame_moderate : (m : Mode) (number gain : ℕ) (payload : List Symbol) → gain
 frame_moderate m number gain payload few each i =
     let u = i - 90 in
     let slot = one_of gain m.pilots (spaced_symbol payload u) (symbol_at payload u)
-        (one_of gain (nat_lt (u % 1476) 1440) (symbol_at payload (1440 * (u / 1476) + u % 1476)) pilot (each (1440 * (u / 1476) + u % 1476)) (corner_moderate gain pilot few (pilot_corner 0))) (each u) in
+    (one_of gain (nat_lt (u % 1476) 1440) (symbol_at payload (1440 * (u / 1476) + u % 1476)) pilot (each (1440 * (u / 1476) + u % 1476)) (corner_moderate gain pilot few (pilot_corner 0))) (each u) in
     one_of gain (nat_lt i 90) (header_symbol m i) (rotated (quarter_turns number u) (slot_symbol m payload u))
     (corner_moderate gain (header_symbol m i) few (header_corner i (header_bit m i))) (rotated_moderate gain (quarter_turns number u) (slot_symbol m payload u) slot)
 
@@ -159,7 +159,7 @@ module _ (m : Mode) (number gain q : ℕ) (payload : List Symbol) (is : IsMode m
       let factors = factors_of gains in
       let same : length factors ≡ length gains = length-map gains (reciprocal (fineness gains)) in
       let factor = factor_is factors (axis_back q w.0) (stretch i) (omega (arith, same, long_is))
-          (λ k less. at_map (reciprocal (fineness gains)) gains k (omega (arith, less, same)) ∙ (ap₂ reciprocal fine (gains_are k (omega (arith, less, same))) ∙ w.1)) in
+      (λ k less. at_map (reciprocal (fineness gains)) gains k (omega (arith, less, same)) ∙ (ap₂ reciprocal fine (gains_are k (omega (arith, less, same))) ∙ w.1)) in
       let symbol_is = arrived_at gain q sent i ∙ ap (arrived gain q) (sent_at m number payload i lt) in
       (λ t. multiplied (fine t) (factor t) (symbol_is t))
       ∙ (back gain q b w.0 (frame_symbol m number payload i) some held.above w.2 (frame_moderate m number gain payload few each i) ∙ sym (sent_at m number payload i lt))

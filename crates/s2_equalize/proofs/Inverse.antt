@@ -33,17 +33,17 @@ unfolding nearest
 rounded_neg x n some =
     elim (cases_lt (n / 2) x) [
       | inl less ↦
-      let y = x - n / 2 - 1 in
-      let sum : neg_ℤ (pos x) +ℤ pos (n / 2) ≡ negsuc y = omega (arith, ints, less) in
-      let split : y / n * n + y % n ≡ y = div-add-mod' y n in
-      let rest : y % n < n = mod_below y n some in
-      let next : suc (y / n) * n ≡ y / n * n + n = omega arith in
-      (suc (y / n), ap (λ z. int_div_euclid z (pos n)) sum, record { over = omega (arith, split, rest, next, less); under = omega (arith, split, next, less) })
+          let y = x - n / 2 - 1 in
+          let sum : neg_ℤ (pos x) +ℤ pos (n / 2) ≡ negsuc y = omega (arith, ints, less) in
+          let split : y / n * n + y % n ≡ y = div-add-mod' y n in
+          let rest : y % n < n = mod_below y n some in
+          let next : suc (y / n) * n ≡ y / n * n + n = omega arith in
+          (suc (y / n), ap (λ z. int_div_euclid z (pos n)) sum, record { over = omega (arith, split, rest, next, less); under = omega (arith, split, next, less) })
       | inr more ↦
-      let sum : neg_ℤ (pos x) +ℤ pos (n / 2) ≡ pos (n / 2 - x) = omega (arith, ints, more) in
-      let none : (n / 2 - x) / n ≡ 0 = div-eq_of_lt (omega (arith, some)) in
-      let zero_product : 0 * n ≡ 0 = omega arith in
-      (0, ap (λ z. int_div_euclid z (pos n)) sum ∙ ap pos none, record { over = omega (arith, more, zero_product); under = omega (arith, zero_product) })
+          let sum : neg_ℤ (pos x) +ℤ pos (n / 2) ≡ pos (n / 2 - x) = omega (arith, ints, more) in
+          let none : (n / 2 - x) / n ≡ 0 = div-eq_of_lt (omega (arith, some)) in
+          let zero_product : 0 * n ≡ 0 = omega arith in
+          (0, ap (λ z. int_div_euclid z (pos n)) sum ∙ ap pos none, record { over = omega (arith, more, zero_product); under = omega (arith, zero_product) })
     ]
 
 -- ---- the digits of a number on an axis
@@ -77,11 +77,14 @@ axis_digits q g small =
 
 -- ---- the divisor
 
+size_negative : (g : ℕ) → unsigned_abs (neg_ℤ (pos g)) ≡ g
+size_negative g = omega (arith, ints)
+
 energy_axis : (q g : ℕ) → energy (axis q g) ≡ g * g
-energy_axis zero g = omega (arith, ints)
-energy_axis (suc zero) g = omega (arith, ints)
-energy_axis (suc (suc zero)) g = omega (arith, ints)
-energy_axis (suc (suc (suc n))) g = omega (arith, ints)
+energy_axis zero g = omega arith
+energy_axis (suc zero) g = omega arith
+energy_axis (suc (suc zero)) g = ap (λ (n : ℕ). n * n + 0 * 0) (size_negative g) ∙ omega arith
+energy_axis (suc (suc (suc n))) g = ap (λ (k : ℕ). 0 * 0 + k * k) (size_negative g) ∙ omega arith
 
 quarter_less : (g b : ℕ) → 1 ≤ g → 2 ^ b ≤ 2 * g + 1 → 2 ^ (2 * b) / 16 ≤ g * g
 quarter_less g b some below =
@@ -126,10 +129,10 @@ cancelled : (g x y : ℕ) → 0 < g → g * x ≤ g * y → x ≤ y
 cancelled g x y some le =
     elim (cases_lt y x) [
       | inl less ↦
-      let next : y + 1 ≤ x = omega (arith, less) in
-      let same : g ≤ g = omega arith in
-      let more : g * (y + 1) ≤ g * x = mul-le-mul same next in
-      absurd (omega (arith, more, le, some))
+          let next : y + 1 ≤ x = omega (arith, less) in
+          let same : g ≤ g = omega arith in
+          let more : g * (y + 1) ≤ g * x = mul-le-mul same next in
+          absurd (omega (arith, more, le, some))
       | inr fits ↦ fits
     ]
 
