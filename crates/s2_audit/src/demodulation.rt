@@ -8,4 +8,5 @@ use s2_soft::Divisor;
 pub struct Demodulation {
     pub divisor: Divisor,
     pub turns: bool,
+    pub equalize: bool,
 }

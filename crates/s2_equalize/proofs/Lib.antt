@@ -12,3 +12,4 @@ pub mod Corners
 pub mod Arriving
 pub mod Inverse
 pub mod ExactFrames
+pub mod WantedLemmas

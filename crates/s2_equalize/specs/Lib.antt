@@ -3,3 +3,4 @@ pub mod Gains
 pub mod Equalizer
 pub mod Bounds
 pub mod Laws
+pub mod Wanted

@@ -1,8 +1,9 @@
 -- A frame without noise is delivered, certified, with nothing changed.
-use Rattle.s2_modem.proofs.Names.{ap₂, xor_same, number, or_right, ◌≡◌, ℕ, zero, suc, ◌+◌, ◌-◌, ◌*◌, ◌/◌, ◌%◌, ◌<◌, ◌≤◌, Bool, true, false, List, [], ◌∷◌, ◌++◌, length, take, drop, map, get_or, Option, Some, None, Result, Ok, Err, refl, sym, ap, subst, ◌∙◌, arith, length-append, length-take, length-take-le, length-drop, ℤ, pos, int_lt, le-leb, eq-eqb, length-map, ext_get_or, get_or-take, get_or-drop, take_at, drop_at, take_all, fill_by_all, length-map-range_with_len, All-head, All-tail, All-append, All-from_recursion, Mode, IsMode, HasCodeSizes, k_of, kbch_of, n_of, t_of, slots_of, symbols_in, Symbol, symbols_least, Rows, bit_at, bits_of_byte, bits_of_bytes, byte_at, byte_of, bytes_from, differences, byte_back, code_of, IsCodeword, hard_decision, NoneIsZero, is_certified, IsSole, HeaderFault, Decision, header_bytes, has_valid_lengths, header_of_bytes, signalling, header_at, to_place, field_bytes, header_of_bytes-header_bytes, divided, scrambled, scrambled-scrambled, IsWithin, nearest, within_is_nearest, nearest_is_within, no_nearest, payload_symbol, payload_of, frame_symbol, frame_symbols, decision, found, clean_behind, IsDivisor, soft_bit, soft_values, DecidesTo, clean_says, payload_again, clean_passes, IsCleanFrame, IsReceived, Link, padded_bits, baseband_frame, IsCodewordFor, found_as, Decided, decided, IsShown, Tuning, frame_soft, received_word, message_of, header_in, field_in, outcome_by, delivered_by, decision_by, frame_decision, AllAsLikely, TrueReports, IsCertifiedBy, IsCorrected, IsSaidBy, link_rules, IsLinkOf, IsByte, AreBytes, sent_symbols, IsDelivered, IsDeliveredCertified, ReceivesAllLaw, ScatteredFrameLaw, BothCodesLaw, IsSent, IsMostLikely, received_payload, Sole, clean_lem, certified_lem, likely_lem, sole_lem, scattered_lem, decided_long, length-baseband_frame, length-bch_word, symbol, Header, count_of, cond, is_delivered, Figures, Outcome, Delivered, NoWord, BadHeader, figures_by, measured, energy_of, decided_symbols, frame_turn, sought_by, CameWithoutNoise, rotated, inl, inr, IsTurnedFrame, turned_frame_is, straight_is, frame_rotates, found_in, behind_in, sides, sought_of, derotated, turn_of, found_behind, map-id, AllRotateBack, if◌then◌else◌}
+use Rattle.s2_modem.proofs.Names.{ap₂, xor_same, number, or_right, ◌≡◌, ℕ, zero, suc, ◌+◌, ◌-◌, ◌*◌, ◌/◌, ◌%◌, ◌<◌, ◌≤◌, Bool, true, false, List, [], ◌∷◌, ◌++◌, length, take, drop, map, get_or, Option, Some, None, Result, Ok, Err, refl, sym, ap, subst, ◌∙◌, arith, length-append, length-take, length-take-le, length-drop, ℤ, pos, int_lt, le-leb, eq-eqb, length-map, ext_get_or, get_or-take, get_or-drop, take_at, drop_at, take_all, fill_by_all, length-map-range_with_len, All-head, All-tail, All-append, All-from_recursion, Mode, IsMode, HasCodeSizes, k_of, kbch_of, n_of, t_of, slots_of, symbols_in, Symbol, symbols_least, Rows, bit_at, bits_of_byte, bits_of_bytes, byte_at, byte_of, bytes_from, differences, byte_back, code_of, IsCodeword, hard_decision, NoneIsZero, is_certified, IsSole, HeaderFault, Decision, header_bytes, has_valid_lengths, header_of_bytes, signalling, header_at, to_place, field_bytes, header_of_bytes-header_bytes, divided, scrambled, scrambled-scrambled, IsWithin, nearest, within_is_nearest, nearest_is_within, no_nearest, payload_symbol, payload_of, frame_symbol, frame_symbols, decision, found, clean_behind, IsDivisor, soft_bit, soft_values, DecidesTo, clean_says, payload_again, clean_passes, IsCleanFrame, IsReceived, Link, padded_bits, baseband_frame, IsCodewordFor, found_as, Decided, decided, IsShown, Tuning, frame_soft, received_word, message_of, header_in, field_in, outcome_by, delivered_by, decision_by, frame_decision, AllAsLikely, TrueReports, IsCertifiedBy, IsCorrected, IsSaidBy, link_rules, IsLinkOf, IsByte, AreBytes, sent_symbols, IsDelivered, IsDeliveredCertified, ReceivesAllLaw, ScatteredFrameLaw, BothCodesLaw, IsSent, IsMostLikely, received_payload, Sole, clean_lem, certified_lem, likely_lem, sole_lem, scattered_lem, decided_long, length-baseband_frame, length-bch_word, symbol, Header, count_of, cond, is_delivered, Figures, Outcome, Delivered, NoWord, BadHeader, figures_by, measured, energy_of, decided_symbols, upright_symbols, equalized, sent_back, frame_turn, sought_by, CameWithoutNoise, rotated, inl, inr, IsTurnedFrame, turned_frame_is, straight_is, frame_rotates, found_in, behind_in, sides, sought_of, derotated, turn_of, found_behind, map-id, AllRotateBack, if◌then◌else◌}
 use Rattle.s2_modem.proofs.Names.founds
 use Rattle.s2_modem.proofs.DecisionLemmas.{code_is, message_fits}
 use Rattle.s2_modem.proofs.Dummies.{dummy_is}
+use Rattle.s2_modem.proofs.Moderate.{payload_moderate}
 use Rattle.s2_modem.proofs.SymbolsBack.{payload_back}
 
 -- ---- from the mapper to the soft values
@@ -253,6 +254,7 @@ module _ (m : Mode) (valid : IsMode m) (sizes : HasCodeSizes m) (link : Link) (l
     pub record Came (codeword : List Bool) (symbols : List Symbol) : Type 0 where
       pub long : length symbols ≡ symbols_in mode
       pub finds : (behind : Bool) → found_as (sought_by link tuning) tuning.max_header_errors behind (take 90 symbols) ≡ founds.Coded
+      pub straight : upright_symbols link tuning symbols ≡ sent_symbols link codeword
       pub upright : decided_symbols link tuning symbols ≡ sent_symbols link codeword
 
     abbrev number : ℕ
@@ -276,14 +278,24 @@ module _ (m : Mode) (valid : IsMode m) (sizes : HasCodeSizes m) (link : Link) (l
     pub sent_rotates : (codeword : List Bool) → AllRotateBack (sent_symbols link codeword)
     sent_rotates codeword = frame_rotates mode number (payload_of mode codeword) (λ s lt. payload_back mode codeword s (symbol (pos 0) (pos 0)) lt)
 
+    -- the equalizer changes nothing of a frame that was turned back
+    levelled : (codeword : List Bool) (symbols : List Symbol) → upright_symbols link tuning symbols ≡ sent_symbols link codeword → decided_symbols link tuning symbols ≡ sent_symbols link codeword
+    levelled codeword symbols straight = by tuning.equalize
+      where
+        by : (wanted : Bool) → cond wanted (equalized mode number (upright_symbols link tuning symbols)) (upright_symbols link tuning symbols) ≡ sent_symbols link codeword
+        by true = ap (equalized mode number) straight ∙ sent_back mode number (payload_of mode codeword) is_mode (payload_moderate mode codeword)
+        by false = straight
+
     came_turned : (codeword : List Bool) (symbols : List Symbol) (t : ℕ) → t < 4 → tuning.turns ≡ true → symbols ≡ map (rotated t) (sent_symbols link codeword) → Came codeword symbols
     came_turned codeword symbols t lt turns is =
         let sent = sent_symbols link codeword in
         let frame = turned_frame_is mode number t (payload_of mode codeword) is_mode lt in
+        let straight = (λ i. if turns i then derotated mode (is i) else is i) ∙ frame.back (sent_rotates codeword) in
         record {
           long = ap length is ∙ length-map sent (rotated t) ∙ length_sent codeword;
           finds = λ behind. (λ i. found_as (sought_of mode (turns i)) tuning.max_header_errors behind (take 90 (is i))) ∙ turned_found t tuning.max_header_errors sent (map (rotated t) sent) behind frame;
-          upright = (λ i. if turns i then derotated mode (is i) else is i) ∙ frame.back (sent_rotates codeword);
+          straight = straight;
+          upright = levelled codeword symbols straight;
         }
 
     came_straight : (codeword : List Bool) (symbols : List Symbol) (turns : Bool) → tuning.turns ≡ turns → symbols ≡ sent_symbols link codeword → Came codeword symbols
@@ -291,7 +303,8 @@ module _ (m : Mode) (valid : IsMode m) (sizes : HasCodeSizes m) (link : Link) (l
     came_straight codeword symbols false turns is = record {
       long = ap length is ∙ length_sent codeword;
       finds = λ behind. (λ i. found_as (sought_of mode (turns i)) tuning.max_header_errors behind (take 90 (is i))) ∙ straight_found codeword tuning.max_header_errors behind;
-      upright = (λ i. if turns i then derotated mode (is i) else is i);
+      straight = (λ i. if turns i then derotated mode (is i) else is i);
+      upright = levelled codeword symbols (λ i. if turns i then derotated mode (is i) else is i);
     }
 
     pub came : (codeword : List Bool) (symbols : List Symbol) → CameWithoutNoise link tuning codeword symbols → Came codeword symbols
@@ -300,6 +313,9 @@ module _ (m : Mode) (valid : IsMode m) (sizes : HasCodeSizes m) (link : Link) (l
 
     pub sent_upright : (codeword : List Bool) → decided_symbols link tuning (sent_symbols link codeword) ≡ sent_symbols link codeword
     sent_upright codeword = (came_straight codeword (sent_symbols link codeword) tuning.turns refl refl).upright
+
+    pub sent_straight : (codeword : List Bool) → upright_symbols link tuning (sent_symbols link codeword) ≡ sent_symbols link codeword
+    sent_straight codeword = (came_straight codeword (sent_symbols link codeword) tuning.turns refl refl).straight
 
     -- as sent, it arrived rotated by none
     pub sent_unturned : (codeword : List Bool) → frame_turn link tuning (sent_symbols link codeword) ≡ 0

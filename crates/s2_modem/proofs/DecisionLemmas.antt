@@ -1,5 +1,5 @@
 -- What a decider finds is what is decided of a frame.
-use Rattle.s2_modem.proofs.Names.{and_parts, ◌≡◌, ℕ, ◌+◌, ◌-◌, ◌*◌, ◌/◌, ◌≤◌, Bool, true, false, List, length, take, Option, Some, None, IfSome, IfNone, Result, Ok, refl, sym, ap, subst, ◌∙◌, arith, length-take, ℤ, replicate, pos, leb-true, ext_get_or, get_or-take, take-replicate, field_bytes, Mode, HasCodeSizes, k_of, kbch_of, n_of, shape_in, code_bits, Symbol, Rows, code_of, Verdict, View, Link, bit_at, differences, Rewritten, Header, HeaderFault, is_whole, is_packet_stream, header_of, has_valid_lengths, header_of_bytes, header_of_bytes-bad_crc, header_of_bytes-other, header_of_bytes-bad_lengths, header_of_bytes-accepted, IsWithin, nearest, Decision, Answer, Outcome, Decided, decided, Tuning, frame_soft, frame_decision, received_word, message_of, header_in, outcome_by, delivered_by, decision_on, decision_by, IsUndecided, scrambled, FindsWord, Reads, decision_held, cond, Figures, FigureMeter, meter_of, figures_of, figures_found, meter_by, figures_by, measured, rounds_run, energy_of, decided_symbols, frame_turn, Derotating, upright, derotated, turn_of, rotated_back, length-map, if◌then◌else◌}
+use Rattle.s2_modem.proofs.Names.{and_parts, ◌≡◌, ℕ, ◌+◌, ◌-◌, ◌*◌, ◌/◌, ◌≤◌, Bool, true, false, List, length, take, Option, Some, None, IfSome, IfNone, Result, Ok, refl, sym, ap, subst, ◌∙◌, arith, length-take, ℤ, replicate, pos, leb-true, ext_get_or, get_or-take, take-replicate, field_bytes, Mode, HasCodeSizes, k_of, kbch_of, n_of, shape_in, code_bits, Symbol, Rows, code_of, Verdict, View, Link, bit_at, differences, Rewritten, Header, HeaderFault, is_whole, is_packet_stream, header_of, has_valid_lengths, header_of_bytes, header_of_bytes-bad_crc, header_of_bytes-other, header_of_bytes-bad_lengths, header_of_bytes-accepted, IsWithin, nearest, Decision, Answer, Outcome, Decided, decided, Tuning, frame_soft, frame_decision, received_word, message_of, header_in, outcome_by, delivered_by, decision_on, decision_by, IsUndecided, scrambled, FindsWord, Reads, decision_held, cond, Figures, FigureMeter, meter_of, figures_of, figures_found, meter_by, figures_by, measured, rounds_run, energy_of, upright_symbols, frame_turn, Derotating, upright, derotated, turn_of, rotated_back, length-map, if◌then◌else◌}
 
 -- a list over which the first bits of another were written, as many as it has
 prefix_is : (n : ℕ) (bits old now : List Bool) → Rewritten false n (bit_at bits) old now → length old ≡ n → n ≤ length bits → now ≡ take n bits
@@ -64,14 +64,14 @@ if_wanted P false f h = tt
 
 -- what a finder finds are the figures of the frame
 pub figures_are : (link : Link) (tuning : Tuning) (symbols upright : List Symbol) (held soft : List ℤ) (bits : List Bool) (rounds : ℕ) (meter : Option FigureMeter) (figures : Option Figures)
-    → figures ≡ figures_found meter upright held bits rounds → meter ≡ meter_by tuning link.setup.mode link.setup.number → upright ≡ decided_symbols link tuning symbols
+    → figures ≡ figures_found meter upright held bits rounds → meter ≡ meter_by tuning link.setup.mode link.setup.number → upright ≡ upright_symbols link tuning symbols
     → held ≡ soft → soft ≡ frame_soft link tuning symbols → bits ≡ (decided link.rows tuning soft).bits → rounds ≡ rounds_run link.rows tuning soft → figures ≡ figures_by link tuning symbols
 figures_are link tuning symbols upright held soft bits rounds meter figures found wanted upright_is held_is soft_is bits_are rounds_are =
     let m = link.setup.mode in
     let number = link.setup.number in
-    let same : figures_of m number upright held bits rounds ≡ figures_of m number (decided_symbols link tuning symbols) soft (decided link.rows tuning soft).bits (rounds_run link.rows tuning soft) =
+    let same : figures_of m number upright held bits rounds ≡ figures_of m number (upright_symbols link tuning symbols) soft (decided link.rows tuning soft).bits (rounds_run link.rows tuning soft) =
     λ i. figures_of m number (upright_is i) (held_is i) (bits_are i) (rounds_are i) in
-    let all = same ∙ ap (λ s. figures_of m number (decided_symbols link tuning symbols) s (decided link.rows tuning s).bits (rounds_run link.rows tuning s)) soft_is in
+    let all = same ∙ ap (λ s. figures_of m number (upright_symbols link tuning symbols) s (decided link.rows tuning s).bits (rounds_run link.rows tuning s)) soft_is in
     found ∙ ap (λ f. figures_found f upright held bits rounds) wanted ∙ by_want tuning.figures _ all
   where
     by_want : (wanted : Bool) (f : Figures) → figures_of link.setup.mode link.setup.number upright held bits rounds ≡ f
@@ -79,7 +79,7 @@ figures_are link tuning symbols upright held soft bits rounds meter figures foun
     by_want true f is = ap Some is
     by_want false f is = refl
 
--- the symbols that are decided, by what rotated them back
+-- the upright symbols, by what rotated them back
 pub upright_by : (old new : Derotating) (turns : Bool) (frame : List Symbol) → new.turns ≡ old.turns → old.turns ≡ turns → (old.turns ≡ true → new.symbols ≡ derotated old.mode frame)
     → upright new frame ≡ (if turns then derotated old.mode frame else frame)
 upright_by old new true frame same is wrote = ap (λ b. if b then new.symbols else frame) (same ∙ is) ∙ wrote is
@@ -87,12 +87,12 @@ upright_by old new false frame same is wrote = ap (λ b. if b then new.symbols e
 
 -- of a link and a tuning
 pub upright_so : (link : Link) (tuning : Tuning) (frame result : List Symbol) (old new : Derotating) → result ≡ upright new frame → new.turns ≡ old.turns → (old.turns ≡ true → new.symbols ≡ derotated old.mode frame)
-    → old.mode ≡ link.setup.mode → old.turns ≡ tuning.turns → result ≡ decided_symbols link tuning frame
+    → old.mode ≡ link.setup.mode → old.turns ≡ tuning.turns → result ≡ upright_symbols link tuning frame
 upright_so link tuning frame result old new is same wrote mode turns =
     is ∙ upright_by old new tuning.turns frame same turns wrote ∙ ap (λ m. if tuning.turns then derotated m frame else frame) mode
 
 -- as many as were given
-pub length_upright : (link : Link) (tuning : Tuning) (frame : List Symbol) → length (decided_symbols link tuning frame) ≡ length frame
+pub length_upright : (link : Link) (tuning : Tuning) (frame : List Symbol) → length (upright_symbols link tuning frame) ≡ length frame
 unfolding derotated
 length_upright link tuning frame = by tuning.turns
   where

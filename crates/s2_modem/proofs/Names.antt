@@ -52,6 +52,11 @@ pub use Rattle.s2_plframe.specs.Payload.{AllRotateBack}
 pub use Rattle.s2_plframe.specs.Search.{decision, found, found_behind}
 pub use Rattle.s2_plframe.specs.Turns.{behind_in, found_in, sides, sought_of}
 unfoldable pub use Rattle.s2_plframe.specs.Turns.{derotated, turn_of}
+pub use Rattle.s2_equalize.specs.Equalizer.{Equalizer, equalized, equalizer_of}
+pub use Rattle.s2_equalize.specs.Wanted.{levelled}
+pub use Rattle.s2_equalize.proofs.WantedLemmas.{if_equalized, length_levelled, levelled_by}
+pub use Rattle.s2_equalize.specs.Laws.{IsModerate}
+pub use Rattle.s2_equalize.proofs.ExactFrames.{sent_back}
 pub use Rattle.s2_plframe.specs.declared.receive.found.Found.{Found}
 pub use Rattle.s2_plframe.proofs.HeaderFacts.{clean_passes, dummy_found}
 pub use Rattle.s2_plframe.proofs.HeadersBehind.{clean_behind, dummy_behind}
@@ -119,7 +124,7 @@ pub use Rattle.s2_modem.specs.Headline.{ArrivalLaw, BothCodesLaw, CorrectsWithin
 pub use Rattle.s2_modem.specs.DeciderState.{Derotating, FindsWord, DeciderState, Reads, decides, decision_held, figures_found, meter_by, upright}
 pub use Rattle.s2_modem.specs.Promise.{Arriving, CallsLaw, Headline, IsCutAt, IsHeadline, IsNext, IsReadable, FramePromises, IsFrameAt, KeepsHeadline, Place, report_at, RunsHeadline, closed_packets, decision_from, found_at, frame_from, is_delivered, past, stands, wrong_bits}
 pub use Rattle.s2_modem.specs.Reception.{AllAsLikely, TrueReports, IsAsLikely, IsCertifiedBy, IsCorrected, Receiver, link_rules, rules_for, seen, sought_by}
-pub use Rattle.s2_modem.specs.Reports.{IsUndecided, decided_symbols, decision_by, decision_on, delivered_by, field_in, figures_by, frame_soft, frame_turn, header_in, measured, message_of, outcome_by, received_word}
+pub use Rattle.s2_modem.specs.Reports.{IsUndecided, decided_symbols, decision_by, decision_on, delivered_by, field_in, figures_by, frame_soft, frame_turn, header_in, measured, message_of, outcome_by, received_word, upright_symbols}
 unfoldable pub use Rattle.s2_modem.specs.Reports.{frame_decision}
 pub use Rattle.s2_modem.specs.Steps.{DeliversAll}
 pub use Rattle.s2_modem.specs.Streams.{AreEach, CameWithoutNoise, FirstFramesLaw, IsClear, IsHeard, IsWholeFrame, OneStreamLaw, places_in}

@@ -16,7 +16,7 @@ use Rattle.s2_receive.specs.declared.report.Outcome.TheVariants.{NoWord}
 use Rattle.s2_link.specs.Link.{Link}
 use Rattle.s2_tuning.specs.Tuning.{Tuning}
 use Rattle.s2_bch.specs.Decoding.{nearest}
-use Rattle.s2_equalize.specs.Equalizer.{Equalizer, equalized, equalizer_of}
+use Rattle.s2_equalize.specs.Wanted.{Equalizing, equalizer_by}
 use Rattle.s2_figures.specs.Figures.{FigureMeter, figures_of, meter_of}
 use Rattle.s2_receive.specs.declared.figures.Figures.{Figures}
 use Rattle.s2_modem.specs.Reports.{message_of, header_in, outcome_by, delivered_by, frame_decision}
@@ -85,20 +85,6 @@ pub record Derotating : Type 0 where
 abbrev pub upright : Derotating → List Symbol → List Symbol
 upright d symbols = if d.turns then d.symbols else symbols
 
--- what equalizes frames, if anything does, and the symbols that it wrote last
-pub record Equalizing : Type 0 where
-  pub equalizer : Option Equalizer
-  pub symbols : List Symbol
-
--- the equalizer, if the tuning asks for it
-abbrev pub equalizer_by : Tuning → Mode → ℕ → Option Equalizer
-equalizer_by tuning mode number = if tuning.equalize then Some (equalizer_of mode number) else None
-
--- the symbols that are decided: those that it wrote last, if anything equalizes
-abbrev pub held_by : Option Equalizer → (written symbols : List Symbol) → List Symbol
-held_by None written symbols = symbols
-held_by (Some e) written symbols = written
-
 -- the finder of figures, if the tuning asks for them
 abbrev pub meter_by : Tuning → Mode → ℕ → Option FigureMeter
 meter_by tuning mode number = if tuning.figures then Some (meter_of mode number) else None
@@ -120,6 +106,6 @@ pub record IsDeciderState (mode : Mode) (rows : Rows) (tuning : Tuning) (demodul
   pub reader : reads.mode ≡ mode
   pub derotator : derotates.mode ≡ mode
   pub turns : derotates.turns ≡ tuning.turns
-  pub equalizer : equalizes.equalizer ≡ equalizer_by tuning mode demodulates.number
+  pub equalizer : equalizes.equalizer ≡ equalizer_by tuning.equalize mode demodulates.number
   pub figures : meter ≡ meter_by tuning mode demodulates.number
   pub place : IfSome last.header (HasPlace reads.field)

@@ -10,7 +10,7 @@ use Rattle.s2_bbframe.specs.Headers.{header_of_bytes}
 use Rattle.s2_scramble.specs.Baseband.{scrambled}
 use Rattle.s2_plframe.specs.Payload.{received_payload}
 use Rattle.s2_plframe.specs.Turns.{derotated, turn_of}
-use Rattle.s2_equalize.specs.Equalizer.{equalized}
+use Rattle.s2_equalize.specs.Wanted.{levelled}
 use Rattle.s2_soft.specs.Soft.{soft_values}
 use Rattle.s2_receive.specs.Receiving.{Decision}
 use Rattle.s2_receive.specs.declared.figures.Figures.{Figures}
@@ -29,8 +29,7 @@ upright_symbols link tuning symbols = if tuning.turns then derotated link.setup.
 
 -- the symbols that are decided: these, each divided by the gain of the channel if the tuning has the equalizer
 abbrev pub decided_symbols : Link → Tuning → List Symbol → List Symbol
-decided_symbols link tuning symbols =
-    if tuning.equalize then equalized link.setup.mode link.setup.number (upright_symbols link tuning symbols) else upright_symbols link tuning symbols
+decided_symbols link tuning symbols = levelled link.setup.mode link.setup.number tuning.equalize (upright_symbols link tuning symbols)
 
 -- the number of quarters by which they arrived rotated
 abbrev pub frame_turn : Link → Tuning → List Symbol → ℕ

@@ -5,11 +5,11 @@ ghost use Rattle.s2_modem.specs.Reports.{IsUndecided};
 use crate::corrector::Corrector;
 use crate::demodulator::Demodulator;
 use crate::derotator::Derotator;
-use crate::equalization::FrameEqualizer;
 use crate::figures::{find_figures, meter_for};
 use crate::message::MessageReader;
 use s2_bits::Bits;
 use s2_check::{CertView, Verdict};
+use s2_equalize::FrameEqualizer;
 use s2_figures::{FigureMeter, header_energy};
 use s2_judge::Judge;
 use s2_link::{Link, RollOff};
@@ -92,7 +92,7 @@ impl<'a> Decider<'a> {
         let corrector = Corrector::new(alloc, mode)?;
         let reader = MessageReader::new(alloc, mode)?;
         let derotator = Derotator::new(alloc, mode, tuning.has_turns())?;
-        let equalizer = FrameEqualizer::new(alloc, link, tuning)?;
+        let equalizer = FrameEqualizer::new(alloc, mode, link.number(), tuning.has_equalizer())?;
         let meter = meter_for(alloc, link, tuning)?;
         Ok(Decider {
             mode,

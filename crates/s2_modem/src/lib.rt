@@ -48,7 +48,6 @@ mod decider;
 mod demodulation;
 mod demodulator;
 mod derotator;
-mod equalization;
 mod figures;
 pub mod laws;
 mod message;

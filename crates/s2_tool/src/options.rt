@@ -67,6 +67,7 @@ pub(crate) fn demodulation_of(
     Ok(Demodulation {
         divisor,
         turns: words.turns || words.tuned,
+        equalize: words.equalize,
     })
 }
 
@@ -82,6 +83,7 @@ fn tuning_of(mode: &Mode, words: TuningArguments) -> Result<Tuning, Fault<'stati
         uncertified: words.uncertified,
         figures: words.figures,
         turns: words.turns,
+        equalize: words.equalize,
     };
     tuning_by(mode, wanted).ok_or(Fault::refused(FaultText::of("no such tuning")))
 }

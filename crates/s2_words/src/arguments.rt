@@ -300,6 +300,18 @@ pub(crate) const TURNS_REPORT: Argument = Argument {
     ..TURNS
 };
 
+pub(crate) const EQUALIZE: Argument = Argument {
+    name: "equalize",
+    form: ArgumentKind::Flag,
+    help: "Divide each symbol by the complex gain of the channel, estimated from header and pilots: any amplitude and phase, and with --pilots a carrier error",
+};
+
+/// The same option, for a report that was made with it.
+pub(crate) const EQUALIZE_REPORT: Argument = Argument {
+    help: "Divide each symbol by the gain of the channel, if the report was made with --equalize",
+    ..EQUALIZE
+};
+
 /// The same option, for a report that was made with it.
 pub(crate) const TUNED_REPORT: Argument = Argument {
     help: "Use the divisor that --tuned sets for the mode, and --turns, if the report was made with --tuned; --divisor overrides it",

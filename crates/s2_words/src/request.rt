@@ -52,6 +52,7 @@ pub struct TuningArguments {
     pub uncertified: bool,
     pub figures: bool,
     pub turns: bool,
+    pub equalize: bool,
 }
 
 /// A range of seeds, from the first to the last: `first` is at most `last`.
@@ -247,6 +248,7 @@ pub struct AuditArguments<'a> {
     pub divisor: NumberArguments,
     pub tuned: bool,
     pub turns: bool,
+    pub equalize: bool,
     pub rows: &'a str,
     pub symbols: &'a str,
     pub report: &'a str,

@@ -166,7 +166,7 @@ static NOISE_ARGUMENTS: [Argument; 7] = [
 ];
 
 /// The arguments of `demod`, in order.
-static DEMOD_ARGUMENTS: [Argument; 26] = [
+static DEMOD_ARGUMENTS: [Argument; 27] = [
     MODCOD,
     SHORT,
     PILOTS,
@@ -179,6 +179,7 @@ static DEMOD_ARGUMENTS: [Argument; 26] = [
     FACTOR,
     LOCK,
     TURNS,
+    EQUALIZE,
     TUNED,
     FIGURES,
     EVERY,
@@ -196,7 +197,7 @@ static DEMOD_ARGUMENTS: [Argument; 26] = [
 ];
 
 /// The arguments of `run`, in order.
-static RUN_ARGUMENTS: [Argument; 32] = [
+static RUN_ARGUMENTS: [Argument; 33] = [
     MODCOD,
     SHORT,
     PILOTS,
@@ -211,6 +212,7 @@ static RUN_ARGUMENTS: [Argument; 32] = [
     FACTOR,
     LOCK,
     TURNS,
+    EQUALIZE,
     TUNED,
     SEED_OR_SEEDS,
     SEEDS,
@@ -238,7 +240,7 @@ static SCAN_ARGUMENTS: [Argument; 4] = [FIRST, QUIET_AND_STILL, PROGRESS, RECORD
 static JOIN_ARGUMENTS: [Argument; 4] = [MODCOD, SHORT, BBFRAMES_READ, PACKETS_MADE];
 
 /// The arguments of `audit`, in order.
-static AUDIT_ARGUMENTS: [Argument; 12] = [
+static AUDIT_ARGUMENTS: [Argument; 13] = [
     MODCOD,
     SHORT,
     PILOTS,
@@ -246,6 +248,7 @@ static AUDIT_ARGUMENTS: [Argument; 12] = [
     ROLL_OFF_READ,
     DIVISOR_OF_REPORT,
     TURNS_REPORT,
+    EQUALIZE_REPORT,
     TUNED_REPORT,
     ROWS,
     SYMBOLS,

@@ -1,18 +1,18 @@
-//! Takes the gain of the channel out of frames, if that is wanted.
+//! An equalizer with a buffer of its own, if one is wanted.
 ghost use Rattle.std.specs.Prelude.{◌≡◌, IfOk, IfSome, length};
 ghost use Rattle.s2_mode.specs.Mode.{symbols_in};
-ghost use Rattle.s2_modem.specs.DeciderState.{equalizer_by, held_by};
 ghost use Rattle.s2_equalize.specs.Equalizer.{equalized};
+ghost use Rattle.s2_equalize.specs.Wanted.{equalizer_by, held_by};
 
-use s2_equalize::Equalizer;
-use s2_link::Link;
-use s2_mode::Symbol;
-use s2_tuning::Tuning;
+use crate::equalizer::Equalizer;
+use s2_mode::{Mode, Symbol};
+use s2_scramble::ScramblingNumber;
 use std::alloc::{AllocError, Global};
 use std::marker::Model;
 
-/// Equalizes the frames of a link, if the tuning asks for it, into a buffer of its own. Otherwise it takes no memory.
-pub(crate) struct FrameEqualizer {
+/// Equalizes the frames of a mode, if that is wanted, into a buffer of its own. Otherwise it takes no memory. Its value is
+/// the equalizer, and the symbols that it wrote last.
+pub struct FrameEqualizer {
     equalizer: Option<Equalizer>,
     symbols: Vec<Symbol>,
 }
@@ -29,7 +29,7 @@ impl Drop for FrameEqualizer {
 impl Model for FrameEqualizer {
     ghost use Rattle.std.specs.Prelude.{◌≡◌, IfSome, length};
     ghost use Rattle.s2_mode.specs.Mode.{symbols_in};
-    ghost use Rattle.s2_modem.specs.DeciderState.{Equalizing};
+    ghost use Rattle.s2_equalize.specs.Wanted.{Equalizing};
 
     ghost Value = { Equalizing };
 
@@ -39,30 +39,30 @@ impl Model for FrameEqualizer {
 }
 
 impl FrameEqualizer {
-    /// That of a link. It has the memory for a frame if the tuning has the equalizer.
-    pub(crate) fn new(
+    /// For a mode and a scrambling number, with all the memory that it needs. `AllocError` only if it is out of memory.
+    pub fn new(
         alloc: Global,
-        link: &Link<'_>,
-        tuning: Tuning,
+        mode: Mode,
+        number: ScramblingNumber,
+        wanted: bool,
     ) -> Result<FrameEqualizer, AllocError>
-        ensures { IfOk result (λ f. f.equalizer ≡ equalizer_by tuning link.now.setup.mode link.now.setup.number) }
+        ensures { IfOk result (λ f. f.equalizer ≡ equalizer_by wanted mode number) }
     {
-        let origin = Symbol { i: 0, q: 0 };
-        if tuning.has_equalizer() {
-            Ok(FrameEqualizer {
-                equalizer: Some(Equalizer::new(alloc, link.mode(), link.number())?),
-                symbols: vec![in alloc; origin; link.mode().symbols()]?,
-            })
-        } else {
-            Ok(FrameEqualizer {
+        if !wanted {
+            return Ok(FrameEqualizer {
                 equalizer: None,
                 symbols: Vec::new(alloc),
-            })
+            });
         }
+        let origin = Symbol { i: 0, q: 0 };
+        Ok(FrameEqualizer {
+            equalizer: Some(Equalizer::new(alloc, mode, number)?),
+            symbols: vec![in alloc; origin; mode.symbols()]?,
+        })
     }
 
-    /// Writes the symbols of a frame, each divided by the gain of the channel, if there is an equalizer.
-    pub(crate) fn equalize(&mut self, frame: &[Symbol])
+    /// Equalizes a frame into the buffer, if that is wanted.
+    pub fn equalize(&mut self, frame: &[Symbol])
         requires { IfSome self.old.equalizer (λ e. length frame.now ≡ symbols_in e.mode) }
         ensures is { IfSome self.old.equalizer (λ e. self.new.symbols ≡ equalized e.mode e.number frame.now) }
         ensures same { self.new.equalizer ≡ self.old.equalizer }
@@ -72,13 +72,14 @@ impl FrameEqualizer {
         }
     }
 
-    /// The symbols that are decided: those written last, if there is an equalizer, else these.
-    pub(crate) fn levelled<'a>(&'a self, frame: &'a [Symbol]) -> &'a [Symbol]
+    /// The equalized symbols of the last frame; or those that are given, if nothing is equalized.
+    pub fn levelled<'a>(&'a self, frame: &'a [Symbol]) -> &'a [Symbol]
         ensures { result.now ≡ held_by self.now.equalizer self.now.symbols frame.now }
     {
-        match self.equalizer {
-            None => frame,
-            Some(_) => &self.symbols,
+        if self.equalizer.is_some() {
+            &self.symbols
+        } else {
+            frame
         }
     }
 }
