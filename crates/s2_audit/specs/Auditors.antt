@@ -14,7 +14,7 @@ use Rattle.s2_soft.specs.Soft.{soft_values}
 use Rattle.s2_audit.specs.Limits.{certificate_bytes, frame_bytes}
 use Rattle.s2_audit.specs.Reading.{EndsBefore}
 
--- the rows and the mode of a link, its scrambling number, a divisor of soft values, and whether frames that arrived rotated are
+-- the rows and the mode of a link, its scrambling number, a divisor of soft values, whether frames that arrived rotated are
 -- rotated back
 pub record Terms : Type 0 where
   pub rows : Rows

@@ -5,6 +5,7 @@ ghost use Rattle.s2_mode.specs.Limits.{header_symbols, max_symbols};
 ghost use Rattle.s2_mode.specs.Mode.{n_of, slots_of, symbols_in};
 ghost use Rattle.s2_mode.specs.Symbols.{symbols_of};
 ghost use Rattle.s2_plframe.specs.Payload.{received_payload};
+ghost use Rattle.s2_equalize.specs.Wanted.{equalizer_by, levelled};
 ghost use Rattle.s2_soft.specs.Soft.{soft_values};
 ghost use Rattle.s2_audit.specs.Auditors.{terms_of, upright, FindsOrLacks, TakesBlock};
 ghost use Rattle.s2_audit.specs.Limits.{certificate_bytes, frame_bytes};
@@ -15,6 +16,7 @@ use crate::demodulation::Demodulation;
 use crate::judging::{Finding, judge_bytes};
 use s2_check::Verdict;
 use s2_console::Fault;
+use s2_equalize::FrameEqualizer;
 use s2_link::Link;
 use s2_matrix::Matrix;
 use s2_mode::{CountedRead, Mode, ReadFault, Symbol, read_full, symbols_into};
@@ -123,22 +125,33 @@ fn find_by_bytes(
     how: Demodulation,
     gold: &Gold,
     bytes: &[u8],
+    equalizer: &mut FrameEqualizer,
     symbols: &mut [Symbol],
     payload: &mut [Symbol],
     soft: &mut [i16],
 )
+    requires equalizer { equalizer.old.equalizer ≡ equalizer_by how.equalize mode gold.now }
     requires bytes { length bytes.now ≡ frame_bytes mode }
     requires frame { length symbols.old ≡ symbols_in mode }
     requires payload { length payload.old ≡ 90 * slots_of mode }
     requires soft { length soft.old ≡ n_of mode }
-    ensures is { soft.new ≡ soft_values how.divisor mode (received_payload mode gold.now (upright mode how.turns (symbols_of bytes.now))) }
+    ensures is { soft.new ≡ soft_values how.divisor mode (received_payload mode gold.now (levelled mode gold.now how.equalize (upright mode how.turns (symbols_of bytes.now)))) }
+    ensures equalizer { equalizer.new.equalizer ≡ equalizer.old.equalizer }
     ensures long { length soft.new ≡ n_of mode }
     ensures payload { length payload.new ≡ 90 * slots_of mode }
     ensures frame { length symbols.new ≡ symbols_in mode }
 {
     symbols_into(bytes, symbols);
     turn_back(mode, how.turns, symbols);
-    find_soft(mode, how.divisor, gold, symbols, payload, soft);
+    equalizer.equalize(symbols);
+    find_soft(
+        mode,
+        how.divisor,
+        gold,
+        equalizer.levelled(symbols),
+        payload,
+        soft,
+    );
 }
 
 /// The bytes of a certificate of version 2 of a mode.
@@ -154,6 +167,7 @@ pub(crate) struct Auditor<'a> {
     mode: Mode,
     how: Demodulation,
     gold: Gold,
+    equalizer: FrameEqualizer,
     place: u64,
     bytes: Vec<u8>,
     symbols: Vec<Symbol>,
@@ -169,6 +183,7 @@ impl Drop for Auditor<'_> {
             mode: _,
             how: _,
             gold: _,
+            equalizer: _,
             place: _,
             bytes: _,
             symbols: _,
@@ -182,18 +197,19 @@ impl Drop for Auditor<'_> {
 impl<'a> Model for Auditor<'a> {
     ghost use Rattle.std.specs.Prelude.{◌≡◌, length};
     ghost use Rattle.s2_mode.specs.Mode.{shape_in};
+    ghost use Rattle.s2_equalize.specs.Wanted.{equalizer_by};
     ghost use Rattle.s2_audit.specs.Auditors.{AuditorState, HasRoom};
 
     ghost Value = { AuditorState };
 
     ghost view = { λ d. record {
-      terms = record { rows = d.matrix.now; mode = d.mode; number = d.gold; divisor = d.how.divisor; turns = d.how.turns };
+      terms = record { rows = d.matrix.now; mode = d.mode; number = d.gold; divisor = d.how.divisor; turns = d.how.turns; equalize = d.how.equalize };
       place = d.place;
       soft = d.soft.items;
       block = d.block.items;
     } };
 
-    ghost invariant = { λ d. (d.matrix.now.shape ≡ shape_in d.mode)
+    ghost invariant = { λ d. (d.matrix.now.shape ≡ shape_in d.mode) × (d.equalizer.equalizer ≡ equalizer_by d.how.equalize d.mode d.gold)
         × HasRoom d.mode (length d.bytes.items) (length d.symbols.items) (length d.payload.items) (length d.soft.items) (length d.block.items) };
 }
 
@@ -214,6 +230,7 @@ impl<'a> Auditor<'a> {
             mode,
             how,
             gold: Gold::of(alloc, link.number())?,
+            equalizer: FrameEqualizer::new(alloc, mode, link.number(), how.equalize)?,
             place: 0,
             bytes: vec![in alloc; 0u8; 4 * mode.symbols()]?,
             symbols: vec![in alloc; origin; mode.symbols()]?,
@@ -265,6 +282,7 @@ impl<'a> Auditor<'a> {
             self.how,
             &self.gold,
             &self.bytes,
+            &mut self.equalizer,
             &mut self.symbols,
             &mut self.payload,
             &mut self.soft,

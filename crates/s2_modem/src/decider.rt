@@ -156,8 +156,7 @@ impl<'a> Decide for Decider<'a> {
         let upright = self.derotator.upright(symbols);
         self.equalizer.equalize(upright);
         let levelled = self.equalizer.levelled(upright);
-        self.demodulator
-            .find_soft(levelled, self.judge.soft_mut());
+        self.demodulator.find_soft(levelled, self.judge.soft_mut());
         let verdict = self.judge.decide();
         let found = self.corrector.correct(self.judge.word());
         let (outcome, header) = self.reader.read_outcome(found, self.corrector.word());

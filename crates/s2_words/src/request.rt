@@ -241,7 +241,7 @@ pub struct JoinArguments<'a> {
 }
 
 /// `audit`: a link, the divisor of the soft values, whether the report was made with the best settings, whether frames were
-/// rotated back, and the files.
+/// rotated back and equalized, and the files.
 #[derive(Clone, Copy)]
 pub struct AuditArguments<'a> {
     pub link: LinkArguments,

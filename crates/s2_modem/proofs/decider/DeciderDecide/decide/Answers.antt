@@ -29,7 +29,7 @@ find_soft-requires-clause-frame c =
     let whole = c.requires ∙ sym (ap (λ (l : DeciderState). symbols_in l.link.setup.mode) c.self.view_is) in
     let long = ap length upright ∙ length_upright link inside.judge.tuning c.args.symbols.now ∙ whole in
     let held = levelled_by inside.mode inside.demodulator.number inside.judge.tuning.equalize c.upright-upright.result.now c.equalize.new.self.symbols c.levelled-levelled.result.now inside.equalizer.equalizer c.equalize.new.self.equalizer
-        so.equalizer c.equalize.ensures.same c.equalize.ensures.is c.levelled-levelled.ensures in
+    so.equalizer c.equalize.ensures.same c.equalize.ensures.is c.levelled-levelled.ensures in
     ap length held ∙ length_levelled inside.mode inside.demodulator.number inside.judge.tuning.equalize c.upright-upright.result.now long ∙ long ∙ ap symbols_in (sym so.demodulator)
 
 pub find_figures-figures-requires-clause-symbols : goal.find_figures-figures-requires-clause-symbols
