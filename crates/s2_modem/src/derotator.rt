@@ -39,17 +39,23 @@ impl Model for Derotator {
     ghost invariant = { λ d. d.turns ≡ true → length d.symbols.items ≡ symbols_in d.mode };
 }
 
+/// The number of symbols of the buffer: those of a frame, or none.
+fn room_for(mode: Mode, turns: bool) -> usize
+    ensures { turns ≡ true → result ≡ symbols_in mode }
+{
+    if turns { mode.symbols() } else { 0 }
+}
+
 impl Derotator {
     /// With `turns` it has the memory for a frame.
     pub(crate) fn new(alloc: Global, mode: Mode, turns: bool) -> Result<Derotator, AllocError>
         ensures mode { IfOk result (λ d. d.mode ≡ mode) }
         ensures turns { IfOk result (λ d. d.turns ≡ turns) }
     {
-        let count = if turns { mode.symbols() } else { 0 };
         Ok(Derotator {
             mode,
             turns,
-            symbols: vec![in alloc; Symbol { i: 0, q: 0 }; count]?,
+            symbols: vec![in alloc; Symbol { i: 0, q: 0 }; room_for(mode, turns)]?,
         })
     }
 
