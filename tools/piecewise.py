@@ -37,7 +37,7 @@ STANDARD = ("-", "/dev/stdout")
 CERTIFIED = ("sole", "most-likely")
 # The options of demod that are passed on, each with the name of its value if it has one.
 OPTIONS = {"modcod": "M", "short": None, "pilots": None, "number": "N", "ro": "R", "rounds": "K", "passes": "P", "uncertified": None}
-OPTIONS |= {"divisor": "D", "factor": "F", "lock": "H", "turns": None, "tuned": None, "figures": None, "exit-by": "BY"}
+OPTIONS |= {"divisor": "D", "factor": "F", "lock": "H", "turns": None, "equalize": None, "tuned": None, "figures": None, "exit-by": "BY"}
 FRAME = re.compile(rb"frame \d+ at (\d+) (([a-z-]+) (fixed \d+|lost).*)\n")
 CUT = re.compile(rb"cut at (\d+) symbols (\d+)\n")
 END = re.compile(rb"end frames (\d+) delivered (\d+) packets (\d+) bad (\d+)")
