@@ -19,7 +19,7 @@ def digits(word):
 
 
 def answer(checks, said, soft, certified, word):
-    """How a word compares with the certified one, of which a checker says this."""
+    """How a word compares with the certified one, for this answer of a checker."""
     if said.startswith("no"):
         return "refused"
     cost, best = (plain_checker.cost_of(soft, it) for it in (word, certified))
@@ -37,7 +37,7 @@ def lines_of(answers):
 
 
 def printed(answers):
-    """All lines of a comparison with these answers, with the counts at the end."""
+    """All lines of a comparison with these verdicts, and the counts at the end."""
     kinds = [it.split()[0] for it in answers]
     counts = " ".join(f"{kind} {kinds.count(kind)}" for kind in KINDS)
     return f"{lines_of(answers)}end frames {len(answers)} {counts}\n"
