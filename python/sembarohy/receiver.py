@@ -94,14 +94,14 @@ class Frame:
     `soft`, `word`, `bbframe` and `certificate` are read from the receiver when they are first used, so use them before its next frame.
     A receiver that is made with `keep` reads them at once."""
 
-    def __init__(self, receiver: "Receiver", step: _library.Step, packets: bytes, figures: Figures | None):
+    def __init__(self, receiver: "Receiver", step: _library.Step, place: int, packets: bytes, figures: Figures | None):
         self.number: int = step.number
         self.at: int = step.at
         self.verdict: str = VERDICTS[step.verdict]
         self.outcome: str = OUTCOMES[step.outcome]
         self.fixed: int | None = step.fixed if step.outcome == 0 else None
         self.packets, self.figures = packets, figures
-        self._receiver, self._kept = receiver, {}  # type: Receiver, dict[str, Any]
+        self._receiver, self._place, self._kept = receiver, place, {}  # type: Receiver, int, dict[str, Any]
 
     @property
     def soft(self) -> Any:
@@ -125,7 +125,7 @@ class Frame:
 
     def _record(self, name: str) -> Any:
         if name not in self._kept:
-            self._kept[name] = self._receiver._record_of(self, name)
+            self._kept[name] = self._receiver._record_of(self._place, self.number, name)
         return self._kept[name]
 
     def __str__(self) -> str:
@@ -183,7 +183,8 @@ class Receiver(Held):
         tuning = {"rounds": rounds, "passes": passes, "divisor": divisor, "factor": factor, "max_header_errors": max_header_errors}
         flags = {"has_pilots": pilots, "tuned": tuned, "uncertified": uncertified, "figures": figures, "turns": turns, "equalize": equalize}
         self._make("receiver_new", code, options_of(code, mode, short, scrambling=scrambling, **tuning, **{name: int(it) for name, it in flags.items()}))
-        self._waiting, self._step, self._last = bytearray(), _library.Step(), None  # type: bytearray, _library.Step, Frame | None
+        # the bytes that are kept, the last step, and how many steps and new streams there were
+        self._waiting, self._step, self._place = bytearray(), _library.Step(), 0
         self._is_closed, self._n, self._room = False, code.n, self._asked_room()
         self.cut: Cut | None = None
         """The frame that the end of the stream cut off, if there is one."""
@@ -214,7 +215,7 @@ class Receiver(Held):
         with self._lock:
             self._call("receiver_reset")
             self._waiting.clear()
-            self._last = self.cut = None
+            self.cut, self._place = None, self._place + 1
             self._is_closed, self._room = False, self._asked_room()
 
     @property
@@ -264,7 +265,7 @@ class Receiver(Held):
 
     def _advance(self, length: int) -> int:
         """Makes a step with this many bytes of those that are kept, and returns its kind."""
-        self._last = None
+        self._place += 1
         self._give("receiver_advance", self._waiting, length, ctypes.byref(self._step))
         del self._waiting[:length]
         self._room = self._asked_room()
@@ -274,15 +275,15 @@ class Receiver(Held):
 
     def _decided(self) -> Frame:
         figures = self._figures("receiver_figures") if self._step.has_figures else None
-        self._last = Frame(self, self._step, self._copied("receiver_packets", PACKETS) or b"", figures)
+        frame = Frame(self, self._step, self._place, self._copied("receiver_packets", PACKETS) or b"", figures)
         for name in self.keep:
-            getattr(self._last, name)
-        return self._last
+            getattr(frame, name)
+        return frame
 
-    def _record_of(self, frame: Frame, name: str) -> Any:
+    def _record_of(self, place: int, number: int, name: str) -> Any:
         with self._lock:
-            if frame is not self._last:
-                raise RuntimeError(f"the receiver has gone on: use {name} of frame {frame.number} before the next frame, or make the receiver with keep")
+            if place != self._place:
+                raise RuntimeError(f"the receiver has gone on: use {name} of frame {number} before the next frame, or make the receiver with keep")
             if name == "soft":
                 return self._list("receiver_soft", self._n, "h")
             if name == "word":

@@ -19,9 +19,9 @@ class SentFrame:
     `number` counts from 1. `data` are the symbols as bytes of a symbol file. `word` is its codeword, which is read from the transmitter when it
     is first used, so use it before the next frame."""
 
-    def __init__(self, transmitter: "Transmitter", number: int, data: bytes):
+    def __init__(self, transmitter: "Transmitter", place: int, number: int, data: bytes):
         self.number, self.data = number, data
-        self._transmitter, self._word = transmitter, None  # type: Transmitter, Any
+        self._transmitter, self._place, self._word = transmitter, place, None  # type: Transmitter, int, Any
 
     @property
     def integers(self) -> Any:
@@ -37,7 +37,7 @@ class SentFrame:
     def word(self) -> Any:
         """The codeword, a bit per byte: an array of `uint8`; without numpy an `array("B")`."""
         if self._word is None:
-            self._word = self._transmitter._word_of(self)
+            self._word = self._transmitter._word_of(self._place, self.number)
         return self._word
 
     def __repr__(self) -> str:
@@ -74,7 +74,8 @@ class Transmitter(Held):
         super().__init__()
         numbers = {"has_pilots": int(pilots), "roll_off": roll_off, "scrambling": scrambling, "dummy_every": dummy_every}
         self._make("transmitter_new", code, options_of(code, mode, short, **numbers))
-        self._waiting, self._n, self._last = bytearray(), code.n, None  # type: bytearray, int, SentFrame | None
+        # the bytes that are kept, the bits of a codeword, and how many frames and new streams there were
+        self._waiting, self._n, self._place = bytearray(), code.n, 0
         self._room = ctypes.create_string_buffer(SYMBOLS)
 
     def feed(self, packets: bytes | bytearray | memoryview) -> Iterator[SentFrame]:
@@ -98,7 +99,7 @@ class Transmitter(Held):
         with self._lock:
             self._call("transmitter_reset")
             self._waiting.clear()
-            self._last = None
+            self._place += 1
 
     @property
     def counts(self) -> tuple[int, int]:
@@ -133,11 +134,11 @@ class Transmitter(Held):
     def _taken(self) -> SentFrame:
         count = c_size_t()
         self._call("transmitter_take", self._room, SYMBOLS, ctypes.byref(count))
-        self._last = SentFrame(self, self.counts[1], ctypes.string_at(self._room, count.value))
-        return self._last
+        self._place += 1
+        return SentFrame(self, self._place, self.counts[1], ctypes.string_at(self._room, count.value))
 
-    def _word_of(self, frame: SentFrame) -> Any:
+    def _word_of(self, place: int, number: int) -> Any:
         with self._lock:
-            if frame is not self._last:
-                raise RuntimeError(f"the transmitter has gone on: use word of frame {frame.number} before the next frame")
+            if place != self._place:
+                raise RuntimeError(f"the transmitter has gone on: use word of frame {number} before the next frame")
             return self._list("transmitter_word", self._n, "B")

@@ -343,13 +343,11 @@ def try_ends():
     code = code_of()
     kept = [sembarohy.Receiver(code, 7), sembarohy.Transmitter(code, 7), sembarohy.Judge(code), sembarohy.Scanner()]
     judge("living handles", 5, FAKE.fake_live() - before)
-    frames = [*kept[0].feed(symbols_of([1, 3]))]
+    frames = [*kept[0].feed(symbols_of([1, 3])), *kept[1].feed(packets_of(1))]
     del kept, code
-    gc.collect()
-    judge("a frame keeps its receiver", 1, FAKE.fake_live() - before)
+    judge("frames keep receiver and transmitter", 2, FAKE.fake_live() - before)
     del frames
-    gc.collect()
-    judge("ended handles", 0, FAKE.fake_live() - before)
+    judge("ended handles, without the collector", 0, FAKE.fake_live() - before)
     refusal(sembarohy.Receiver, code_of(), 7, rounds=0)
     gc.collect()
     judge("refused ones", 0, FAKE.fake_live() - before)
