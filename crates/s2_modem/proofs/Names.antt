@@ -45,7 +45,7 @@ pub use Rattle.s2_map.specs.Mapping.{payload_of, payload_symbol, points, psk_poi
 pub use Rattle.s2_plframe.specs.Dummy.{dummy_symbol}
 unfoldable pub use Rattle.s2_plframe.specs.Dummy.{dummy_frame}
 pub use Rattle.s2_plframe.specs.Frame.{frame_symbol, frame_symbols, slot_symbol, spaced_symbol}
-pub use Rattle.s2_plframe.specs.Header.{dummy_mode, header_bit, header_of, header_point, header_symbol}
+pub use Rattle.s2_plframe.specs.Header.{dummy_mode, header_bit, header_point, header_symbol}
 pub use Rattle.s2_plframe.specs.Payload.{received_payload}
 pub use Rattle.s2_plframe.specs.HeaderLaws.{IsTurnedFrame}
 pub use Rattle.s2_plframe.specs.Payload.{AllRotateBack}
