@@ -98,8 +98,8 @@ module _ (t : Transmitter) (rules : Rules) (receives_all : ReceivesAll t.link ru
         pieces = coded s ∷ more.pieces;
         are = λ b. (one.0 b, more.are true);
         certified = (record { verdict = one.1.verdict; outcome = one.1.delivered.outcome }, more.certified);
-        measured = (record { outcome = one.1.delivered.outcome; energy_is = seen.1.0 }, more.measured);
-        places_are = λ place i. record { at = place; verdict = one.2 i; figures = seen.0 i; turn = seen.1.1 i } ∷ more.places_are (place + rules.size) i;
+        measured = (record { outcome = one.1.delivered.outcome; energy_is = seen.1 }, more.measured);
+        places_are = λ place i. record { at = place; verdict = one.2 i; figures = seen.0 i; turn = seen.2 i } ∷ more.places_are (place + rules.size) i;
         symbols = λ rest.
             ap (λ l. symbols_of ((l ++ joined us) ++ rest)) (unit.spelt ∙ ap (λ l. l ++ behind) unit.is_frame.spelt)
             ∙ ap (λ l. symbols_of (l ++ rest)) (append_assoc (bytes_of_symbols s) behind (joined us))

@@ -257,17 +257,17 @@ module _ (m : Mode) (valid : IsMode m) (sizes : HasCodeSizes m) (link : Link) (l
       pub straight : upright_symbols link tuning symbols ≡ sent_symbols link codeword
       pub upright : decided_symbols link tuning symbols ≡ sent_symbols link codeword
 
-    abbrev number : ℕ
-    number = link.setup.number
+    abbrev scrambling : ℕ
+    scrambling = link.setup.number
 
     length_sent : (codeword : List Bool) → length (sent_symbols link codeword) ≡ symbols_in mode
-    length_sent codeword = length-map-range_with_len (frame_symbol mode number (payload_of mode codeword)) 0 (symbols_in mode)
+    length_sent codeword = length-map-range_with_len (frame_symbol mode scrambling (payload_of mode codeword)) 0 (symbols_in mode)
 
     -- as sent, in a search in one rotation
     straight_found : (codeword : List Bool) (lock : ℕ) (behind : Bool) → found_as (sought_of mode false) lock behind (take 90 (sent_symbols link codeword)) ≡ founds.Coded
     unfolding found_as
-    straight_found codeword lock true = ap (found_behind mode lock) (straight_is (take 90 (sent_symbols link codeword))) ∙ clean_behind mode lock number (payload_of mode codeword) is_mode
-    straight_found codeword lock false = ap (found mode) (straight_is (take 90 (sent_symbols link codeword))) ∙ clean_passes mode number (payload_of mode codeword) is_mode
+    straight_found codeword lock true = ap (found_behind mode lock) (straight_is (take 90 (sent_symbols link codeword))) ∙ clean_behind mode lock scrambling (payload_of mode codeword) is_mode
+    straight_found codeword lock false = ap (found mode) (straight_is (take 90 (sent_symbols link codeword))) ∙ clean_passes mode scrambling (payload_of mode codeword) is_mode
 
     -- rotated, in a search in all rotations
     turned_found : (t lock : ℕ) (sent came : List Symbol) (behind : Bool) → IsTurnedFrame mode t sent came → found_as (sought_of mode true) lock behind (take 90 came) ≡ founds.Coded
@@ -276,20 +276,20 @@ module _ (m : Mode) (valid : IsMode m) (sizes : HasCodeSizes m) (link : Link) (l
     turned_found t lock sent came false is = is.found_is
 
     pub sent_rotates : (codeword : List Bool) → AllRotateBack (sent_symbols link codeword)
-    sent_rotates codeword = frame_rotates mode number (payload_of mode codeword) (λ s lt. payload_back mode codeword s (symbol (pos 0) (pos 0)) lt)
+    sent_rotates codeword = frame_rotates mode scrambling (payload_of mode codeword) (λ s lt. payload_back mode codeword s (symbol (pos 0) (pos 0)) lt)
 
     -- the equalizer changes nothing of a frame that was turned back
     levelled : (codeword : List Bool) (symbols : List Symbol) → upright_symbols link tuning symbols ≡ sent_symbols link codeword → decided_symbols link tuning symbols ≡ sent_symbols link codeword
     levelled codeword symbols straight = by tuning.equalize
       where
-        by : (wanted : Bool) → cond wanted (equalized mode number (upright_symbols link tuning symbols)) (upright_symbols link tuning symbols) ≡ sent_symbols link codeword
-        by true = ap (equalized mode number) straight ∙ sent_back mode number (payload_of mode codeword) is_mode (payload_moderate mode codeword)
+        by : (wanted : Bool) → cond wanted (equalized mode scrambling (upright_symbols link tuning symbols)) (upright_symbols link tuning symbols) ≡ sent_symbols link codeword
+        by true = ap (equalized mode scrambling) straight ∙ sent_back mode scrambling (payload_of mode codeword) is_mode (payload_moderate mode codeword)
         by false = straight
 
     came_turned : (codeword : List Bool) (symbols : List Symbol) (t : ℕ) → t < 4 → tuning.turns ≡ true → symbols ≡ map (rotated t) (sent_symbols link codeword) → Came codeword symbols
     came_turned codeword symbols t lt turns is =
         let sent = sent_symbols link codeword in
-        let frame = turned_frame_is mode number t (payload_of mode codeword) is_mode lt in
+        let frame = turned_frame_is mode scrambling t (payload_of mode codeword) is_mode lt in
         let straight = (λ i. if turns i then derotated mode (is i) else is i) ∙ frame.back (sent_rotates codeword) in
         record {
           long = ap length is ∙ length-map sent (rotated t) ∙ length_sent codeword;
@@ -309,7 +309,7 @@ module _ (m : Mode) (valid : IsMode m) (sizes : HasCodeSizes m) (link : Link) (l
 
     pub came : (codeword : List Bool) (symbols : List Symbol) → CameWithoutNoise link tuning codeword symbols → Came codeword symbols
     came codeword symbols (inl is) = came_straight codeword symbols tuning.turns refl is
-    came codeword symbols (inr (turns, (t, (lt, is)))) = came_turned codeword symbols t lt turns is
+    came codeword symbols (inr (turns, (t, lt, is))) = came_turned codeword symbols t lt turns is
 
     pub sent_upright : (codeword : List Bool) → decided_symbols link tuning (sent_symbols link codeword) ≡ sent_symbols link codeword
     sent_upright codeword = (came_straight codeword (sent_symbols link codeword) tuning.turns refl refl).upright
@@ -322,7 +322,7 @@ module _ (m : Mode) (valid : IsMode m) (sizes : HasCodeSizes m) (link : Link) (l
     sent_unturned codeword = by tuning.turns
       where
         by : (turns : Bool) → (if turns then turn_of mode (sent_symbols link codeword) else 0) ≡ 0
-        by true = ap (turn_of mode) (sym (map-id (sent_symbols link codeword))) ∙ (turned_frame_is mode number 0 (payload_of mode codeword) is_mode (omega arith)).turn_is
+        by true = ap (turn_of mode) (sym (map-id (sent_symbols link codeword))) ∙ (turned_frame_is mode scrambling 0 (payload_of mode codeword) is_mode (omega arith)).turn_is
         by false = refl
 
   module _ (ro : link.setup.roll_off ≤ 2) (tuning : Tuning) (known : IsDivisor tuning.divisor) (limit : ℕ) where
