@@ -1,21 +1,13 @@
 //! The program.
 #![tactic(auto)]
 
-mod beginnings;
-mod causes;
-mod link_request;
-mod losses;
-mod noting;
 mod opening;
 mod options;
-mod records;
 mod serve;
-mod shown;
-mod thinned;
 
-use crate::causes::takes_output;
-use crate::opening::{errors_of, screen_beside};
 use crate::serve::{every_of, print_usage, request_of, run_request, words_given};
+use s2_notes::{errors_of, takes_output};
+use s2_opening::screen_beside;
 use s2_progress::Terminal;
 use std::process::ExitCode;
 

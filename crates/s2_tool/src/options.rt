@@ -1,10 +1,10 @@
 //! The options of the command line in the types of the commands. This is plain code.
 //!
 //! The parser has tested every number: its ranges are those of these types (below). So no refusal here can be met.
-use crate::link_request::setup_of;
 use s2_channel::{EsN0, Strength};
 use s2_commands::{Channel, DemodOptions, RunOptions};
 use s2_console::Fault;
+use s2_link_commands::setup_of;
 use s2_mode::{FaultText, Mode};
 use s2_soft::Divisor;
 use s2_tuning::{Number, Tuning, Wanted, divisor_by, judging_by, tuning_by};

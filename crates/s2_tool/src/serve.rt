@@ -3,15 +3,8 @@ ghost use Rattle.std.specs.Prelude.{OnErr};
 ghost use Rattle.s2_mode.specs.Counts.{CanCount};
 ghost use Rattle.s2_console.specs.Screens.{CanNote};
 
-use crate::causes::{note_cause, note_marks};
-use crate::link_request::{LinkRequest, setup_of, with_link};
-use crate::losses::note_audit;
-use crate::opening::{
-    open_audit, open_compare, open_input, open_inputs, open_join, open_judge, open_noise,
-    open_scan, screen_beside, show_on, standard_input,
-};
+use crate::opening::open_judge;
 use crate::options::{channel_of, demod_options, divisor_of, judging_of, run_options};
-use crate::shown::{has_control, shown};
 use s2_audit::audit_command;
 use s2_commands::{noise_command, rows_command};
 use s2_compare::{Form, compare_command};
@@ -20,8 +13,14 @@ use s2_evidence::{check_command, check_each_command};
 use s2_files::Disk;
 use s2_join::join_command;
 use s2_judging::{judge_command, judge_each_command, self_command};
-use s2_mode::{CountedWrite, FaultText, Mode, Shape};
+use s2_link_commands::{LinkRequest, mode_of, setup_of, with_link};
+use s2_mode::{CountedWrite, FaultText, Shape};
 use s2_names::modes_command;
+use s2_notes::{has_control, note_audit, note_cause, note_marks, shown};
+use s2_opening::{
+    open_audit, open_compare, open_input, open_inputs, open_join, open_noise, open_scan,
+    screen_beside, show_on, standard_input,
+};
 use s2_progress::{Pace, Terminal};
 use s2_scan::scan_command;
 use s2_table::table_command;
@@ -249,11 +248,6 @@ fn shape_by(code: CodeArguments) -> Result<Shape, Fault<'static>> {
         CodeArguments::Shape(words) => shape_of(words),
         CodeArguments::Mode { modcod, short } => Ok(mode_of(modcod, short, false)?.shape()),
     }
-}
-
-/// The mode of a MODCOD and two flags.
-pub(crate) fn mode_of(modcod: u8, short: bool, pilots: bool) -> Result<Mode, Fault<'static>> {
-    Mode::of(modcod, short, pilots).ok_or(Fault::refused(FaultText::of("no such mode")))
 }
 
 /// `demod`.

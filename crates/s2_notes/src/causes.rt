@@ -1,8 +1,8 @@
 //! The files that a request names, and the system's errors for those that cannot be used. A command reports only that
 //! it cannot open, read or write one. So the cause is noted before that: of a failed call at once, and of a file that
 //! cannot be opened by opening it again.
-use crate::opening::errors_of;
-use crate::shown::shown;
+use crate::errors::errors_of;
+use crate::names::shown;
 use s2_files::{Disk, Role, is_standard};
 use s2_mode::write_full;
 use s2_progress::Terminal;
@@ -98,7 +98,7 @@ fn is_output(name: Option<&str>) -> bool {
 }
 
 /// Whether a request writes a file to standard output.
-pub(crate) fn takes_output(request: &Request<'_>) -> bool {
+pub fn takes_output(request: &Request<'_>) -> bool {
     names_of(request).written.into_iter().any(is_output)
 }
 
@@ -154,7 +154,7 @@ fn note_error<R: Disk + AllocGlobal>(terminal: &Terminal<'_, R>, name: &str, err
 }
 
 /// Notes why a call on a file failed. If nobody reads a pipe any more, that is no fault of the pipe.
-pub(crate) fn note_failure<R: Disk + AllocGlobal>(
+pub fn note_failure<R: Disk + AllocGlobal>(
     terminal: &Terminal<'_, R>,
     name: &str,
     error: io::Error,
@@ -165,7 +165,7 @@ pub(crate) fn note_failure<R: Disk + AllocGlobal>(
 }
 
 /// Notes why a file cannot be opened, if the system still reports an error.
-pub(crate) fn note_cause<R: Disk + AllocGlobal>(
+pub fn note_cause<R: Disk + AllocGlobal>(
     rt: &R,
     terminal: &Terminal<'_, R>,
     request: &Request<'_>,
@@ -194,7 +194,7 @@ fn is_kept<R: Disk>(rt: &R, name: &str) -> bool {
 }
 
 /// After a fault: notes those of a request's texts that begin with a byte order mark, which is not a number.
-pub(crate) fn note_marks<R: Disk + AllocGlobal>(
+pub fn note_marks<R: Disk + AllocGlobal>(
     rt: &R,
     terminal: &Terminal<'_, R>,
     request: &Request<'_>,

@@ -1,33 +1,29 @@
 //! Readers and writers whose failed calls are noted at once, with the name of their file and the cause. This is plain code.
 ghost use Rattle.std.specs.Prelude.{◌≡◌};
 
-use crate::causes::note_failure;
 use s2_files::{Disk, Explains, Output, Role, Target, is_standard};
 use s2_mode::{Counted, CountedRead, CountedWrite, ReadFault, WriteFault};
+use s2_notes::note_failure;
 use s2_progress::Terminal;
 use std::io;
 use std::io::Write;
 
 /// It notes why calls fail.
-pub(crate) trait Notes {
+pub trait Notes {
     /// Notes the error of a failed call, if there is one.
     fn note(&self, cause: Option<io::Error>);
 }
 
 /// The name under which the failed calls of a file are noted on a terminal.
 #[derive(Drop)]
-pub(crate) struct Named<'t, 'r, 'a, R> {
+pub struct Named<'t, 'r, 'a, R> {
     terminal: &'t Terminal<'r, R>,
     name: &'a str,
 }
 
 impl<'t, 'r, 'a, R: Disk> Named<'t, 'r, 'a, R> {
     /// A name on the command line, or that of its standard stream.
-    pub(crate) fn new(
-        terminal: &'t Terminal<'r, R>,
-        role: Role,
-        name: &'a str,
-    ) -> Named<'t, 'r, 'a, R> {
+    pub fn new(terminal: &'t Terminal<'r, R>, role: Role, name: &'a str) -> Named<'t, 'r, 'a, R> {
         Named {
             terminal,
             name: shown_name(role, name),
@@ -55,15 +51,20 @@ impl<R: Disk + AllocGlobal> Notes for Named<'_, '_, '_, R> {
 }
 
 /// A reader or writer whose failed calls are noted. To contracts it is the reader or writer that it holds.
-#[derive(Drop)]
-pub(crate) struct Noting<T, N> {
+pub struct Noting<T, N> {
     inner: T,
     notes: N,
 }
 
+impl<T: Drop, N: Drop> Drop for Noting<T, N> {
+    fn drop(self) {
+        let Noting { inner: _, notes: _ } = self;
+    }
+}
+
 impl<T, N> Noting<T, N> {
     /// This reader or writer.
-    pub(crate) fn new(inner: T, notes: N) -> Noting<T, N>
+    pub fn new(inner: T, notes: N) -> Noting<T, N>
         ensures { result.inner ≡ inner }
     {
         Noting { inner, notes }
@@ -72,7 +73,7 @@ impl<T, N> Noting<T, N> {
 
 impl<F: Write + Drop, S: Write + Drop, N: Notes + Drop> Noting<Target<F, S>, N> {
     /// Writes the bytes that are still in the buffer. After a failed write nothing more is written.
-    pub(crate) fn finish(self) -> Result<(), WriteFault> {
+    pub fn finish(self) -> Result<(), WriteFault> {
         let Noting { inner, notes } = self;
         match inner.finish() {
             Ok(()) => Ok(()),

@@ -7,7 +7,7 @@ fn is_control(character: char) -> bool {
 }
 
 /// Whether a name has a control character.
-pub(crate) fn has_control(name: &str) -> bool {
+pub fn has_control(name: &str) -> bool {
     name.chars().any(is_control)
 }
 
@@ -23,7 +23,7 @@ fn push_shown(text: &mut String, character: char) -> Result<(), AllocError> {
 }
 
 /// A name with its control characters escaped.
-pub(crate) fn shown(alloc: Global, name: &str) -> Result<String, AllocError> {
+pub fn shown(alloc: Global, name: &str) -> Result<String, AllocError> {
     let mut text = String::new(alloc);
     for character in name.chars() {
         push_shown(&mut text, character)?;

@@ -57,7 +57,7 @@ impl FrameSums {
 ///
 /// In contracts, it has the failed calls of the inner writer; its bytes are not known.
 #[derive(Drop)]
-pub(crate) struct Thinned<W> {
+pub struct Thinned<W> {
     inner: W,
     every: u32,
     is_begun: bool,
@@ -66,7 +66,7 @@ pub(crate) struct Thinned<W> {
 
 impl<W> Thinned<W> {
     /// No line so far.
-    pub(crate) fn new(inner: W, every: u32) -> Thinned<W>
+    pub fn new(inner: W, every: u32) -> Thinned<W>
         ensures { result.inner ≡ inner }
     {
         Thinned {

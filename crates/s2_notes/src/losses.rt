@@ -3,7 +3,7 @@
 ghost use Rattle.std.specs.Prelude.{◌≢◌, ◌+◌, ◌≤◌, length};
 ghost use Rattle.s2_console.specs.Lines.{line_room};
 
-use crate::opening::errors_of;
+use crate::errors::errors_of;
 use s2_console::{Exit, Line};
 use s2_files::Disk;
 use s2_mode::write_full;
@@ -32,14 +32,14 @@ fn left_out_note(left_out: LeftOut) -> Line {
 }
 
 /// Notes the bytes that were left out, if there are any.
-pub(crate) fn note_left_out<R: Disk>(terminal: &Terminal<'_, R>, left_out: LeftOut) {
+pub fn note_left_out<R: Disk>(terminal: &Terminal<'_, R>, left_out: LeftOut) {
     if left_out.bytes > 0 {
         let _ = write_full(&mut errors_of(terminal), left_out_note(left_out).as_bytes());
     }
 }
 
 /// The exit of a command that ended so: that of a loss, if all went well but bytes were left out.
-pub(crate) fn exit_after(left_out: LeftOut, exit: Exit) -> Exit
+pub fn exit_after(left_out: LeftOut, exit: Exit) -> Exit
     ensures { result ≢ Exit.Fault → exit ≢ Exit.Fault }
 {
     if exit == Exit::Fine && left_out.bytes > 0 {
@@ -50,7 +50,7 @@ pub(crate) fn exit_after(left_out: LeftOut, exit: Exit) -> Exit
 }
 
 /// Notes the likely causes of a refused audit.
-pub(crate) fn note_audit<R: Disk>(terminal: &Terminal<'_, R>, exit: Exit) {
+pub fn note_audit<R: Disk>(terminal: &Terminal<'_, R>, exit: Exit) {
     if exit == Exit::No {
         let note =
             "s2: note: likely causes: another divisor (try --tuned), another mode, or a recording that was cut or shifted\n";

@@ -5,19 +5,18 @@ ghost use Rattle.s2_console.specs.Files.{CanStart};
 ghost use Rattle.s2_console.specs.Screens.{CanNote};
 ghost use Rattle.s2_receive.specs.Sinks.{wanted_count};
 
-use crate::beginnings::note_beginning;
-use crate::losses::{exit_after, note_left_out};
-use crate::opening::{Reading, open_link, show_on};
+use crate::opening::{Reading, open_link};
 use crate::records::{Records, finish_command, open_records};
-use crate::serve::mode_of;
+use crate::setup::setup_of;
 use s2_commands::{DemodOptions, LinkFiles, RunOptions, demod_command, mod_command, run_command};
 use s2_console::{Console, Exit, Fault};
 use s2_files::{Disk, Opener, Output, Truncating};
-use s2_link::{LinkSetup, RollOff};
-use s2_mode::{CountedRead, CountedWrite, FaultText, Mode};
+use s2_link::LinkSetup;
+use s2_mode::{CountedRead, CountedWrite, Mode};
+use s2_notes::{exit_after, note_beginning, note_left_out};
+use s2_opening::show_on;
 use s2_progress::{Pace, Show, Terminal};
 use s2_resync::LeftOut;
-use s2_scramble::ScramblingNumber;
 use s2_words::{
     DemodArguments, LinkArguments, ModArguments, Progress, RecordArguments, RunArguments, Seeds,
 };
@@ -26,7 +25,7 @@ use std::time::Clock;
 
 /// A request that works on a link: its words, and its options in the types of the command.
 #[derive(Clone, Copy)]
-pub(crate) enum LinkRequest<'w, 'a> {
+pub enum LinkRequest<'w, 'a> {
     Mod(&'w ModArguments<'a>),
     Demod(&'w DemodArguments<'a>, &'w DemodOptions),
     Run(&'w RunArguments<'a>, &'w RunOptions),
@@ -145,19 +144,6 @@ fn runs_of(seeds: Option<Seeds>) -> u64 {
     }
 }
 
-/// The setup of a link's options.
-pub(crate) fn setup_of(words: LinkArguments) -> Result<LinkSetup, Fault<'static>> {
-    Ok(LinkSetup {
-        mode: mode_of(words.modcod, words.short, words.pilots)?,
-        number: ScramblingNumber::new(words.number).ok_or(Fault::refused(FaultText::of(
-            "no such scrambling number",
-        )))?,
-        roll_off: RollOff::new(words.roll_off).ok_or(Fault::refused(FaultText::of(
-            "no such roll-off",
-        )))?,
-    })
-}
-
 /// After a fault: notes the position at which packets begin in the packet file of this name, if its first or second
 /// packet is refused.
 fn note_packets<R: Disk + AllocGlobal>(
@@ -228,7 +214,7 @@ fn run_on_files<I: CountedRead, W: Output, F: Output, O: CountedWrite, E: Counte
 }
 
 /// Opens the files of a request on a link, and runs its command on them. `notes` takes the notes before a report.
-pub(crate) fn with_link<'a, R: Disk + Clock + AllocGlobal, O: CountedWrite, E: CountedWrite>(
+pub fn with_link<'a, R: Disk + Clock + AllocGlobal, O: CountedWrite, E: CountedWrite>(
     rt: &R,
     terminal: &Terminal<'_, R>,
     request: LinkRequest<'_, 'a>,

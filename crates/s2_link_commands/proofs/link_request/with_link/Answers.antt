@@ -1,4 +1,4 @@
-use Rattle.s2_tool.proofs.link_request.with_link.Goals as goal
+use Rattle.s2_link_commands.proofs.link_request.with_link.Goals as goal
 
 -- a write can fail here only if the command itself had no fault, so errors can still be counted
 pub returns : goal.returns

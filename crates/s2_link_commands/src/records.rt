@@ -2,10 +2,10 @@
 ghost use Rattle.std.specs.Prelude.{◌≡◌, ◌≢◌, ◌+◌, ◌<◌, ◌≤◌, IfOk, OnErr, OnOk, length};
 ghost use Rattle.s2_receive.specs.Sinks.{wanted_count};
 
-use crate::opening::{Written, write_by};
 use s2_console::{Exit, Fault};
 use s2_files::{Disk, Opener, Output, Truncating};
 use s2_mode::{Mode, WriteFault};
+use s2_opening::{Written, write_by};
 use s2_progress::Terminal;
 use s2_records::{Bbframes, Certificates, Codewords, Values};
 use s2_words::RecordArguments;

@@ -2,8 +2,8 @@
 ghost use Rattle.std.specs.Prelude.{◌≤◌, IfOk, length};
 ghost use Rattle.s2_mode.specs.Counts.{CanCount};
 
-use crate::opening::errors_of;
-use crate::shown::has_control;
+use crate::errors::errors_of;
+use crate::names::has_control;
 use s2_bbframe::{PACKET_BYTES, SYNC};
 use s2_files::{Disk, Opener, Role, is_standard};
 use s2_mode::{CountedWrite, read_full, write_full};
@@ -106,7 +106,7 @@ fn beginning_note<R: Disk + AllocGlobal>(
 
 /// Notes the position at which packets begin in a packet file whose first or second packet is refused. The file is read
 /// again. There is no note on one that cannot be read again, nor without memory for it.
-pub(crate) fn note_beginning<R: Disk + AllocGlobal>(terminal: &Terminal<'_, R>, name: &str) {
+pub fn note_beginning<R: Disk + AllocGlobal>(terminal: &Terminal<'_, R>, name: &str) {
     let rt = terminal.host();
     if !is_again(rt, name) {
         return;

@@ -1,0 +1,19 @@
+//! The commands `mod`, `demod` and `run` on the files of the command line. [`with_link`] opens these, with the files of
+//! records, runs the command on them, and finishes them.
+//!
+//! This is plain code: `s2_commands` has the contracts of the commands. The contracts here say what these require of their
+//! files, and that a fault can still be reported.
+//!
+//! ```text
+//! let options = DemodOptions { .. };
+//! with_link(rt, terminal, LinkRequest::Demod(words, &options), console, notes)
+//! ```
+#![tactic(auto)]
+
+mod link_request;
+mod opening;
+mod records;
+mod setup;
+
+pub use link_request::{LinkRequest, with_link};
+pub use setup::{mode_of, setup_of};

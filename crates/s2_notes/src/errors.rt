@@ -1,0 +1,16 @@
+//! Standard error, beside the progress line.
+ghost use Rattle.std.specs.Prelude.{◌≡◌};
+
+use s2_files::{Disk, StandardStreams};
+use s2_mode::Counting;
+use s2_progress::{Clearing, Terminal};
+
+/// Standard error. The progress line is cleared before anything is written to it.
+pub type Errors<'t, 'r, R> = Clearing<'t, 'r, Counting<<R as StandardStreams>::Errors>, R>;
+
+/// Standard error.
+pub fn errors_of<'t, 'r, R: Disk>(terminal: &'t Terminal<'r, R>) -> Errors<'t, 'r, R>
+    ensures { result.inner.failed ≡ 0 }
+{
+    Clearing::new(Counting::new(terminal.host().errors()), terminal)
+}

@@ -1,0 +1,23 @@
+//! Notes on standard error that no command writes. They say why a call on a file failed, that a file begins with a byte order
+//! mark, where packets begin in a packet file, and how many bytes were left out. There is also one on the likely causes of a
+//! refused audit. A note that cannot be written is lost.
+//!
+//! This is plain code. Of a writer its contracts say only that no call failed so far.
+//!
+//! ```text
+//! note_cause(rt, terminal, &request, name);
+//! note_beginning(terminal, name);
+//! ```
+#![tactic(auto)]
+
+mod beginnings;
+mod causes;
+mod errors;
+mod losses;
+mod names;
+
+pub use beginnings::note_beginning;
+pub use causes::{note_cause, note_failure, note_marks, takes_output};
+pub use errors::{Errors, errors_of};
+pub use losses::{exit_after, note_audit, note_left_out};
+pub use names::{has_control, shown};

@@ -1,0 +1,66 @@
+//! A command's report and its errors, its standard input, and its progress line.
+ghost use Rattle.std.specs.Prelude.{◌≡◌};
+ghost use Rattle.s2_console.specs.Screens.{CanNote};
+
+use crate::noting::{Named, Noting};
+use crate::thinned::Thinned;
+use either::{Either, Left, Right};
+use s2_console::Console;
+use s2_files::{Disk, Explaining, Role, StandardStreams};
+use s2_notes::{Errors, errors_of};
+use s2_progress::{Clearing, Pace, Show, Terminal};
+use s2_words::Progress;
+use std::time::Clock;
+
+/// Standard output, or standard error if the data of a command go to standard output.
+type Report<R> = Either<<R as StandardStreams>::Output, <R as StandardStreams>::Errors>;
+
+/// A command's report and its errors.
+pub type Screen<'t, 'r, R> = Console<
+    Clearing<'t, 'r, Thinned<Noting<Explaining<Report<R>>, Named<'t, 'r, 't, R>>>, R>,
+    Errors<'t, 'r, R>,
+>;
+
+/// The output of a command. Its report goes to standard error if one of its files takes standard output. Of `every`
+/// frames only one has a line there; if this is 0, each has one.
+pub fn screen_beside<'t, 'r, R: Disk + AllocGlobal>(
+    terminal: &'t Terminal<'r, R>,
+    taken: bool,
+    every: u32,
+) -> Screen<'t, 'r, R>
+    ensures { CanNote result }
+{
+    let report = if taken {
+        Right(terminal.host().errors())
+    } else {
+        Left(terminal.host().output())
+    };
+    let name = Named::new(terminal, Role::Output, "-");
+    let report = Noting::new(Explaining::new(report), name);
+    let output = Clearing::reporting(Thinned::new(report, every), terminal);
+    Console::new(output, errors_of(terminal))
+}
+
+/// Shows the progress of a command, if it is requested.
+pub fn show_on<'t, 'r, R: Disk + Clock>(
+    terminal: &'t Terminal<'r, R>,
+    pace: Pace,
+    progress: Progress,
+) -> Show<'t, 'r, R> {
+    let wanted = match progress {
+        Progress::Shown => true,
+        Progress::OnTerminal => terminal.is_there(),
+        Progress::Hidden => false,
+    };
+    Show::new(terminal, pace, wanted)
+}
+
+/// Standard input.
+pub fn standard_input<'t, 'r, R: Disk>(
+    terminal: &'t Terminal<'r, R>,
+) -> Noting<Explaining<<R as StandardStreams>::Input>, Named<'t, 'r, 't, R>>
+    ensures { result.inner.failed ≡ 0 }
+{
+    let name = Named::new(terminal, Role::Input, "-");
+    Noting::new(Explaining::new(terminal.host().input()), name)
+}
