@@ -3,7 +3,7 @@ _s2() {
   local now=${COMP_WORDS[COMP_CWORD]} before=${COMP_WORDS[COMP_CWORD-1]} words=""
   COMPREPLY=()
   if ((COMP_CWORD == 1)); then
-    COMPREPLY=($(compgen -W "demod scan mod run noise modes rows table judge check audit compare join help --help --version" -- "$now"))
+    COMPREPLY=($(compgen -W "demod scan mod run noise modes rows table judge check audit join help --help --version" -- "$now"))
     return
   fi
   case "$before" in
@@ -23,9 +23,8 @@ _s2() {
     judge) words="--group --groups --q --modcod --short --each --hard --cert --passes --uncertified --factor --quiet --help" ;;
     check) words="--each --quiet --help" ;;
     audit) words="--modcod --short --pilots --number --ro --divisor --tuned --help" ;;
-    compare) words="--group --groups --q --modcod --short --bbframes --bits --quiet --help" ;;
     join) words="--modcod --short --help" ;;
-    help) words="demod scan mod run noise modes rows table judge check audit compare join" ;;
+    help) words="demod scan mod run noise modes rows table judge check audit join" ;;
   esac
   if [[ $now == -* || ${COMP_WORDS[1]} == help ]]; then
     COMPREPLY=($(compgen -W "$words" -- "$now"))
