@@ -100,14 +100,14 @@ def limited(value):
 
 
 def through(symbols, gain, degrees=0, turns=0):
-    """The symbols times a complex gain that turns by a number of cycles with each symbol."""
+    """The symbols times a complex gain that rotates by a part of a cycle with each symbol."""
     factors = (cmath.rect(gain, math.radians(degrees) + 2 * math.pi * turns * t) for t in range(len(symbols) // 4))
     products = (complex(*symbol) * factor for symbol, factor in zip(samples(symbols), factors))
     return in_bytes([(limited(it.real), limited(it.imag)) for it in products])
 
 
 def rotated_back(received):
-    """A frame as it was before it was rotated by quarters."""
+    """A frame, rotated back by the rotation of its header."""
     turn = rotation_of(received[:HEADER], OWN)
     return [turned(symbol, 4 - turn) for symbol in received]
 
@@ -158,7 +158,7 @@ def cases(made_by):
     for each in borne:
         options = f"demod {words} --turns --equalize --tuned made in out"
         yield Case(options, ANY, all_delivered(count), ANY, reads={"in": through(noisy, *each)}, writes={"out": FOUR})
-    # what arrives without noise, times a whole gain and rotated, is received as it was sent
+    # what arrives without noise, times a whole gain and rotated, gives the packets that were sent
     for gain, turn in ((1, 0), (2, 3), (33, 1), (46, 2)):
         came = ahead(through(sent, gain), turn)
         yield Case(f"demod {words} --turns --equalize made in out", 0, all_delivered(count), ANY, reads={"in": came}, writes={"out": FOUR})
