@@ -1,20 +1,19 @@
-"""The common parts of the flow graphs of this folder: both ends of the modem as child processes with pipes, pulses, noise, pictures, and the
-check of the received packets."""
+"""The common parts of the flow graphs of this folder: both ends of the modem as blocks, pulses, noise, pictures, and the check of the received
+packets."""
 import argparse
 import os
 import random
-import subprocess
 import sys
 import tempfile
-import threading
 
+import gnuradio
 import numpy
+import pmt
 from gnuradio import analog, blocks, filter as filters, gr
 from gnuradio.filter import firdes
 
-S2 = os.environ.get("S2", os.path.join(os.path.dirname(os.path.abspath(__file__)), "../../s2"))
-# QPSK 3/4, normal frames, pilots: the options, the packets per frame, and the amplitude in a symbol file for 1.
-MODE = ["--modcod", "7", "--pilots"]
+TOP = os.path.dirname(os.path.dirname(os.path.dirname(os.path.abspath(__file__))))
+# QPSK 3/4, normal frames, pilots: the numbers in its headers, the packets per frame, and the amplitude in a symbol file for 1.
 MODCOD, TYPE = 7, 1
 PACKETS_A_FRAME = 32
 AMPLITUDE = 990
@@ -22,6 +21,14 @@ AMPLITUDE = 990
 SAMPLES, ROLL_OFF, SPAN = 4, 0.35, 32
 # The number of symbols drawn, of symbols in the spectrum, and of samples in one transform.
 DRAWN, HEARD, LINE = 8000, 60000, 512
+
+
+def ends():
+    """The blocks of the modem: those in the folder gnuradio/ beside examples/."""
+    gnuradio.__path__.append(os.path.join(TOP, "gnuradio"))
+    from gnuradio import sembarohy
+
+    return sembarohy
 
 
 def pulse(gain, rate=SAMPLES, roll_off=ROLL_OFF):
@@ -69,8 +76,24 @@ class Keep(gr.sync_block):
         return numpy.concatenate(self.kept)
 
 
+class Lines(gr.basic_block):
+    """Prints a line for each frame, and keeps these lines."""
+
+    def __init__(self):
+        gr.basic_block.__init__(self, "lines", None, None)
+        self.kept = []
+        self.message_port_register_in(pmt.intern("frames"))
+        self.set_msg_handler(pmt.intern("frames"), self.tell)
+
+    def tell(self, frame):
+        words = pmt.to_python(frame)
+        ending = f"fixed {words['fixed']}" if "fixed" in words else "lost"
+        self.kept.append(f"frame {words['number']} at {words['at']} {words['verdict']} {ending}")
+        print(self.kept[-1], flush=True)
+
+
 class Link:
-    """The packets that are sent, and the two ends of the modem: child processes, with pipes to and from the flow graph."""
+    """The packets that are sent, and the two ends of the modem: blocks of the flow graph."""
 
     def __init__(self, chosen):
         self.chosen, self.room = chosen, tempfile.TemporaryDirectory(prefix="flow-")
@@ -78,50 +101,40 @@ class Link:
         self.packets = [b"\x47" + draw.randbytes(187) for _ in range(PACKETS_A_FRAME * chosen.frames)]
         with open(self.place("packets"), "wb") as file:
             file.write(b"".join(self.packets))
-        self.ends, self.report = [], []
+        self.ends, self.lines = [], Lines()
 
     def place(self, name):
         return os.path.join(self.room.name, name)
 
-    def begin(self, words, end):
-        """Starts an end of the modem with an end of a pipe, and closes that end in this process."""
-        self.ends.append(subprocess.Popen([S2, *words], stdout=subprocess.PIPE, text=True, pass_fds=[end]))
-        os.close(end)
+    def end(self, kind, **options):
+        """An end of the modem: `transmitter` or `receiver`."""
+        try:
+            self.ends.append(getattr(ends(), kind)(self.chosen.rows, MODCOD, pilots=True, **options))
+        except Exception as fault:  # a file or a number that is refused, or no library
+            sys.exit(f"{kind}: {fault}")
+        return self.ends[-1]
 
     def sent(self, graph):
-        """The symbols of `s2 mod`, amplitude 1. A dummy frame follows each frame, so that the symbols that the filters hold back at
+        """The symbols of the transmitter, amplitude 1. A dummy frame follows each frame, so that the symbols that the filters hold back at
         the end belong to no frame with packets."""
-        read, written = os.pipe()
-        self.begin(["mod", *MODE, "--dummy", "1", self.chosen.rows, self.place("packets"), f"/dev/fd/{written}"], written)
-        symbols = blocks.interleaved_short_to_complex(False, False, AMPLITUDE)
-        graph.connect(blocks.file_descriptor_source(gr.sizeof_short, read), blocks.endian_swap(2), symbols)
-        return symbols
+        sender = self.end("transmitter", dummy_every=1, packets=len(self.packets))
+        graph.connect(blocks.file_source(gr.sizeof_char, self.place("packets")), sender)
+        return sender
 
     def receive(self, graph, symbols):
-        """Symbols of amplitude 1 into `s2 demod`."""
-        read, self.written = os.pipe()
-        self.begin(["demod", *MODE, "--passes", str(self.chosen.passes), self.chosen.rows, f"/dev/fd/{read}", self.place("received")], read)
-        self.sink = blocks.file_sink(gr.sizeof_short, f"/dev/fd/{self.written}")
-        graph.connect(symbols, *numbers(), self.sink)
-
-    def tell(self, end):
-        for line in end.stdout:
-            self.report.append(line)
-            print(line, end="", flush=True)
+        """Symbols of amplitude 1 into the receiver."""
+        receiver, self.sink = self.end("receiver", tuned=False, passes=self.chosen.passes), blocks.file_sink(gr.sizeof_char, self.place("received"))
+        graph.connect(symbols, receiver, self.sink)
+        graph.msg_connect(receiver, "frames", self.lines, "frames")
 
     def run(self, graph):
-        """Runs the flow graph and both ends until they end, and prints the lines of the reports as they come."""
-        tellers = [threading.Thread(target=self.tell, args=[end]) for end in self.ends]
-        for teller in tellers:
-            teller.start()
-        os.close(self.written)
+        """Runs the flow graph until it ends, and prints the lines of frames as they come."""
         graph.run()
         self.sink.close()
-        self.sink.do_update()  # without which it closes its end of the pipe much later
-        for end, teller in zip(self.ends, tellers):
-            teller.join()
-            if end.wait() == 1:  # it has reported its error on standard error
-                sys.exit(f"s2 {end.args[1]} failed")
+        self.sink.do_update()  # without which the file is closed much later
+        for end in self.ends:
+            if end.fault:
+                sys.exit(f"{end.name()}: {end.fault}")
 
     def finish(self, graph, what, samples, symbols, passed=SPAN):
         """Runs the flow graph and judges the received packets. If a picture is requested, it draws these samples on the channel, and these
@@ -143,7 +156,7 @@ class Link:
 
     def frames(self):
         """The words of each frame's line."""
-        return [line.split() for line in self.report if line.startswith("frame ")]
+        return [line.split() for line in self.lines.kept]
 
     def judge(self, most_lost):
         """Prints the numbers of packets, and exits with 1 if packets are wrong, out of order or missing after the first received one, or if

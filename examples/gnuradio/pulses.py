@@ -1,6 +1,6 @@
-"""Sends packets by `s2 mod` in root raised cosine pulses through noise, and receives them by a matched filter and `s2 demod`.
+"""Sends packets by our transmitter in root raised cosine pulses through noise, and receives them by a matched filter and our receiver.
 
-Both ends are child processes with pipes, and each frame is reported as it comes. All packets must be received."""
+Each frame is reported as it comes. All packets must be received."""
 from gnuradio import gr
 
 import flow
@@ -14,7 +14,7 @@ def main():
     noisy = flow.noised(graph, shaped, chosen.ratio, chosen.seed)
     graph.connect(noisy, matched)
     link.receive(graph, matched)
-    link.finish(graph, "s2 mod", noisy, matched)
+    link.finish(graph, "our transmitter", noisy, matched)
 
 
 main()

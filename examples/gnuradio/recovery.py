@@ -1,5 +1,5 @@
-"""Sends packets by `s2 mod` through a channel with a fractional delay, a frequency offset, an unknown phase and noise, and receives
-them by GNU Radio's loops and `s2 demod`.
+"""Sends packets by our transmitter through a channel with a fractional delay, a frequency offset, an unknown phase and noise, and receives
+them by GNU Radio's loops and our receiver.
 
 A band edge loop corrects the frequency, symbol_sync recovers the symbol timing with matched filters, and a Costas loop corrects the rest of
 the frequency, and the phase up to a multiple of 90 degrees. The headers of the frames determine that multiple. The first frames are lost while

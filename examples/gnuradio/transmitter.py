@@ -1,4 +1,4 @@
-"""Sends packets by GNU Radio's own DVB-S2 transmitter through noise, and receives them by a matched filter and `s2 demod`.
+"""Sends packets by GNU Radio's own DVB-S2 transmitter through noise, and receives them by a matched filter and our receiver.
 
 The row file must be the standard's, which that transmitter has built in. An incomplete frame at the end is never sent, and the filters hold
 back some symbols of the last complete one."""

@@ -85,7 +85,19 @@ def offset_of(seed):
     return float(re.search(r"offset (\S+) of the symbol rate", told.getvalue())[1]), turn * flow.SAMPLES
 
 
+def failed_end():
+    """What `run` ends with if an end of the modem has a fault."""
+    link = flow.Link(argparse.Namespace(seed=1, frames=1))
+    link.ends, link.sink = [argparse.Namespace(fault="no sync", name=lambda: "an end")], blocks.file_sink(1, link.place("received"))
+    try:
+        link.run(gr.top_block())
+    except SystemExit as ended:
+        return str(ended)
+    return ""
+
+
 def parts():
+    yield "a fault of an end", failed_end() == "an end: no sync"
     for quarters in ((0, 0, 0), (1, 1, 1), (2, 2, 2), (3, 3, 3), (0, 1, 3), (2, 3, 1)):
         yield f"turns of {quarters} quarters", turned_back(quarters)
     yield from judgements()

@@ -21,7 +21,7 @@ use s2_check::CertView;
 use s2_link::{Link, LinkSetup, Setup, SetupFault};
 use s2_matrix::Matrix;
 use s2_mode::{CountedRead, CountedWrite, StreamFault};
-use s2_receive::{Fault, MAX_SYMBOLS, Received, Sink, Step, receive_all, receive_with};
+use s2_receive::{Fault, MAX_SYMBOLS, Received, Sink, Step, Totals, receive_all, receive_with};
 use s2_tuning::Tuning;
 use std::alloc::{AllocError, Global};
 use std::marker::Model;
@@ -50,6 +50,7 @@ pub(crate) fn build<'a>(
     s2_receive::Receiver::new(
         alloc,
         mode,
+        tuning.has_turns(),
         tuning.max_header_errors(),
         decider,
         MAX_SYMBOLS,
@@ -173,6 +174,13 @@ impl<'a> Receiver<'a> {
             × (self.new.limit ≡ self.old.limit) }
     {
         self.inner.advance(bytes)
+    }
+
+    /// The totals so far. They count all frames, also those not delivered; a cut frame is not counted.
+    pub fn totals(&self) -> Totals
+        ensures { result ≡ self.now.state.standing.totals }
+    {
+        self.inner.totals()
     }
 
     /// The packets that end in the frame of the last step, in stream order.

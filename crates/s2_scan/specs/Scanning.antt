@@ -9,6 +9,7 @@ use Rattle.s2_scan.specs.Pilots.{IsNumber, front_of}
 use Rattle.s2_scan.specs.Candidates.{candidates_of}
 use Rattle.s2_scan.specs.Lines.{scan_text, scan_exit}
 use Rattle.s2_scan.specs.declared.passes.Pass.{Pass}
+use Rattle.s2_scan.specs.declared.candidate.Candidate.{Candidate}
 
 -- the limit of a recording's bytes: 2^40 positions
 abbrev pub max_bytes : ℕ
@@ -25,6 +26,10 @@ IsRecording known said = IfSome known (λ bytes. recorded bytes ≡ said)
 -- these are the passes and the first bytes of the recording
 abbrev pub AreSeen : Option (List ℕ) → List Pass → List ℕ → Type 0
 AreSeen known passes front = (bytes : List ℕ) × IsRecording known (Ok bytes) × (passes ≡ all_passes bytes) × (front ≡ front_of bytes)
+
+-- these are the headers that are seen in the recording, the likeliest first
+abbrev pub AreHeadersOf : Option (List ℕ) → List Candidate → Type 0
+AreHeadersOf known found = (bytes : List ℕ) × IsRecording known (Ok bytes) × (found ≡ candidates_of (all_passes bytes))
 
 -- a read failed, or memory was refused
 abbrev pub IsOutside : Fault → Type 0

@@ -9,17 +9,23 @@ use crate::passes::Pass;
 use crate::tally::usual_distance;
 use std::alloc::{AllocError, Global};
 
-/// A header in a form. It has the number of passes, the number of those at the frame's distance from the one before,
-/// the first position, the most frequent distance, and the amplitude.
+/// A header that is seen in a recording, in one of the sixteen forms of its symbols.
 #[derive(Clone, Copy)]
-pub(crate) struct Candidate {
-    pub(crate) form: usize,
-    pub(crate) header: usize,
-    pub(crate) seen: usize,
-    pub(crate) pairs: usize,
-    pub(crate) first: u64,
-    pub(crate) every: u64,
-    pub(crate) amplitude: u64,
+pub struct Candidate {
+    /// The form, 0 to 15. Bytes are little endian if it is 8 or more, symbols are conjugated if `form % 8` is 4 or more.
+    pub form: usize,
+    /// The header, 0 to 115: four times its MODCOD, and its TYPE.
+    pub header: usize,
+    /// The number of positions that pass as this header.
+    pub seen: usize,
+    /// The number of these at the frame's distance from the one before.
+    pub pairs: usize,
+    /// The first position, in symbols from 0.
+    pub first: u64,
+    /// The most frequent distance, in symbols.
+    pub every: u64,
+    /// The amplitude of its symbols.
+    pub amplitude: u64,
 }
 
 /// Appends the candidate of passes to others, if two passes have their frame's distance.

@@ -5,7 +5,7 @@
 //! passes with at most 4 wrong bits of the 26 of the SOF and at most 12 of all 90. A header that comes twice at its
 //! frame's distance has a line. The last line is the command that receives the likeliest frames. If there is no such header,
 //! two lines say how strong the symbols are. [`amplitude_by`], [`is_usual`] and [`gain_of`] say how strong symbols are, and
-//! which gain they need. A [`Beginning`] is the first symbols of a recording. [`push_name`] writes a file's name as a word of
+//! which gain they need. A [`Beginning`] is the first symbols of a recording. [`find_headers`] lists the headers of a recording in memory. [`push_name`] writes a file's name as a word of
 //! a shell.
 //!
 //! ```text
@@ -29,6 +29,7 @@ mod passes;
 mod pilots;
 mod ranking;
 mod reading;
+mod recording;
 mod shell;
 mod strength;
 mod sums;
@@ -41,5 +42,7 @@ mod windows;
 pub use advice::{gain_of, is_usual};
 pub use amplitude::amplitude_by;
 pub use beginning::Beginning;
+pub use candidate::Candidate;
 pub use command::scan_command;
+pub use recording::find_headers;
 pub use shell::push_name;

@@ -4,7 +4,7 @@
 //! The text of a row file is hashed, with the addresses of each row in rising order. [`table_command`] prints whether
 //! rows have the digest of a mode's code, and if not, the first line that differs, by the digests of single rows.
 //! [`read_noted`] reads rows for a command, and writes a note to its errors if they are not the standard's. If rows are
-//! refused, [`finish_noted`] notes which rows the mode needs.
+//! refused, [`finish_noted`] notes which rows the mode needs. [`is_standard`] tests the rows of a matrix.
 //!
 //! ```text
 //! let matrix = read_noted(alloc, &mode, &mut file, quiet, &mut console.errors)?;
@@ -23,4 +23,5 @@ mod wanted;
 
 pub use command::table_command;
 pub use note::{read_noted, write_note};
+pub use standard::is_standard;
 pub use wanted::{finish_noted, report_noted};

@@ -19,7 +19,7 @@ pub(crate) fn has_sum(matrix: &Matrix, sum: &str) -> bool
 }
 
 /// Whether rows are the standard's for the code of a mode, whatever the order within each row.
-pub(crate) fn is_standard(mode: &Mode, matrix: &Matrix) -> bool
+pub fn is_standard(mode: &Mode, matrix: &Matrix) -> bool
     ensures { HasSum matrix.now (standard_sum mode.now) result }
 {
     has_sum(matrix, sum_of(mode))

@@ -4,7 +4,7 @@ ghost use Rattle.s2_mode.specs.Counts.{CanCount};
 ghost use Rattle.s2_console.specs.Screens.{CanNote};
 
 use crate::opening::open_judge;
-use crate::options::{channel_of, demod_options, divisor_of, judging_of, run_options};
+use crate::options::{channel_of, demod_options, demodulation_of, judging_of, run_options};
 use s2_audit::audit_command;
 use s2_commands::{noise_command, rows_command};
 use s2_compare::{Form, compare_command};
@@ -486,12 +486,12 @@ fn serve_audit<'a, R: Disk + AllocGlobal, O: CountedWrite, E: CountedWrite>(
     ensures { OnErr result (CanCount console.new.errors_failed) }
 {
     let setup = setup_of(words.link)?;
-    let divisor = divisor_of(&setup.mode, words)?;
+    let how = demodulation_of(&setup.mode, words)?;
     let (mut rows, mut symbols, mut report, mut certificates) = open_audit(terminal, words)?;
     let exit = audit_command(
         rt.alloc(),
         setup,
-        divisor,
+        how,
         &mut rows,
         &mut symbols,
         &mut report,

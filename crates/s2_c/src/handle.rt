@@ -1,0 +1,63 @@
+//! Handles.
+ghost use Rattle.std.specs.Prelude.{◌≡◌, ◌↔◌, None, Some, MatchOption};
+
+use crate::cell::Cell;
+use crate::loose::Loose;
+use s2_library::{Refusal, Slot};
+use std::alloc::Global;
+
+/// A handle of C: a pointer, and whether it is in use.
+#[repr(C)]
+#[derive(Drop)]
+pub struct Handle {
+    pub(crate) cell: Cell,
+    pub(crate) live: u64,
+    ghost tied: { (live ≡ 0) ↔ (cell.value ≡ None) },
+}
+
+impl Handle {
+    /// Takes the contents of the handle, and leaves it empty. `None` if it is empty.
+    pub(crate) fn open(&mut self, alloc: Global) -> Option<Box<Slot>>
+        ensures found { MatchOption result (self.old.cell.value ≡ None) (λ slot. self.old.cell.value ≡ Some slot.value) }
+        ensures taken { self.new.cell.value ≡ None }
+    {
+        if self.live == 0 {
+            return None;
+        }
+        self.live = 0;
+        Some(self.cell.take(alloc).into_box())
+    }
+
+    /// Puts a slot into an empty handle.
+    pub(crate) fn close(&mut self, slot: Box<Slot>)
+        requires { self.old.cell.value ≡ None }
+        ensures { self.new.cell.value ≡ Some slot.value }
+    {
+        self.cell.put(Loose::of(slot));
+        self.live = 1;
+    }
+}
+
+/// Puts a new slot into an empty handle, and returns the number of the result.
+pub(crate) fn fill(alloc: Global, made: Result<Slot, Refusal>, handle: &mut Handle) -> i32
+    requires { handle.old.cell.value ≡ None }
+{
+    match made {
+        Ok(slot) => match Box::new(alloc, slot) {
+            Ok(slot) => {
+                handle.close(slot);
+                0
+            }
+            Err(_) => Refusal::NoMemory.number(),
+        },
+        Err(refusal) => refusal.number(),
+    }
+}
+
+/// Ends the contents of a handle, and leaves it empty.
+#[unsafe(no_mangle)]
+pub extern "C" fn s2_end(alloc: Global, handle: &mut Handle)
+    ensures { handle.new.cell.value ≡ None }
+{
+    drop(handle.open(alloc));
+}

@@ -1,0 +1,77 @@
+-- The link and the tuning of the options of C (own).
+use Rattle.std.specs.Prelude.{◌≡◌, ℕ, ◌%◌, ◌/◌, nat_eq, Bool, if◌then◌else◌, min, Option, None}
+use Rattle.s2_mode.specs.Mode.{Mode, mode_of}
+use Rattle.s2_rows.specs.Rows.{Rows}
+use Rattle.s2_link.specs.Link.{Link, link_of}
+use Rattle.s2_tuning.specs.Tuning.{Tuning}
+use Rattle.s2_tuning.specs.Wanted.{tuning_by}
+use Rattle.s2_tuning.specs.declared.wanted.Number.{Number}
+use Rattle.s2_tuning.specs.declared.wanted.Wanted.{Wanted}
+use Rattle.s2_modem.specs.Reception.{IsNew}
+use Rattle.s2_bbframe.specs.DataStream.{field_bytes}
+use Rattle.s2_send.specs.Limits.{max_packets}
+use Rattle.s2_send.specs.Sender.{at_first}
+use Rattle.s2_library.specs.declared.options.Flags.{Flags}
+use Rattle.s2_library.specs.declared.options.Options.{Options}
+use Rattle.s2_library.specs.declared.receiver.Reception.{Reception}
+use Rattle.s2_library.specs.declared.slot.Slot.{Slot}
+use Rattle.s2_library.specs.declared.slot.Slot.TheVariants as slots
+
+-- a member is 1
+abbrev pub is_set : ℕ → Bool
+is_set value = nat_eq value 1
+
+-- the members for 0 or 1, and the frames between dummy frames
+abbrev pub flags_of : Options → Flags
+flags_of o = record {
+  is_short = is_set o.is_short;
+  has_pilots = is_set o.has_pilots;
+  tuned = is_set o.tuned;
+  uncertified = is_set o.uncertified;
+  figures = is_set o.figures;
+  turns = is_set o.turns;
+  equalize = is_set o.equalize;
+  dummy_every = o.dummy_every;
+}
+
+-- a number that is given, or its default
+abbrev pub number_by : Bool → ℕ → ℕ → Number
+number_by is_given value default = record { is_given = is_given; value = (if is_given then value else default) }
+
+-- the tuning that is requested
+abbrev pub wanted_by : Flags → Options → Wanted
+wanted_by flags o = record {
+  rounds = number_by (nat_eq (o.given % 2) 1) o.rounds 50;
+  passes = number_by (nat_eq (o.given / 2 % 2) 1) o.passes 0;
+  divisor = number_by (nat_eq (o.given / 4 % 2) 1) o.divisor 4096;
+  factor = number_by (nat_eq (o.given / 8 % 2) 1) o.factor 12;
+  max_header_errors = number_by (nat_eq (o.given / 16 % 2) 1) o.max_header_errors 12;
+  tuned = flags.tuned;
+  uncertified = flags.uncertified;
+  figures = flags.figures;
+  turns = flags.turns;
+  equalize = flags.equalize;
+}
+
+-- the mode of options
+abbrev pub mode_in : Options → Mode
+mode_in o = mode_of o.modcod (is_set o.is_short) (is_set o.has_pilots)
+
+-- the link of options on a code
+abbrev pub link_in : Options → Rows → Link
+link_in o rows = link_of (record { mode = mode_in o; number = o.scrambling; roll_off = min o.roll_off 255 }) rows
+
+-- the tuning of options
+abbrev pub tuning_in : Options → Tuning
+tuning_in o = tuning_by (mode_in o) (wanted_by (flags_of o) o)
+
+-- a new receiver of the link and the tuning of options, which has made no step
+abbrev pub IsReceiverOf : Options → Rows → Slot → Type 0
+IsReceiverOf o rows (slots.Receiver r) = IsNew (link_in o rows) (tuning_in o) r.receiver × (r.link ≡ link_in o rows) × (r.tuning ≡ tuning_in o) × (r.step ≡ None)
+IsReceiverOf o rows slot = ⊥
+
+-- a transmitter of the link of options, at the start of its stream
+abbrev pub IsSenderOf : Options → Rows → Slot → Type 0
+IsSenderOf o rows (slots.Transmitter s) =
+    (s.link ≡ link_in o rows) × (s.dummy_every ≡ o.dummy_every) × (s.stream ≡ at_first (field_bytes (mode_in o)) max_packets)
+IsSenderOf o rows slot = ⊥

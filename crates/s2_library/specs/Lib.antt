@@ -1,0 +1,6 @@
+pub mod Asked
+pub mod Codes
+pub mod Copying
+pub mod Fields
+pub mod Results
+pub mod Slots

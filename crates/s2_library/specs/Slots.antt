@@ -1,0 +1,182 @@
+-- The contents of a slot, and the calls on them (own).
+use Rattle.std.specs.Prelude.{◌≡◌, ◌≢◌, ℕ, ◌<◌, ◌≤◌, ℤ, List, length, Bool, true, false, Option, Some, None, Result, Ok, Err, All}
+use Rattle.s2_receive.specs.Receiving.{asked}
+use Rattle.s2_receive.specs.declared.report.Totals.{Totals}
+use Rattle.s2_modem.specs.Reception.{Receiver, IsNew, rules_for, seen}
+use Rattle.s2_send.specs.Sender.{Sender, Closes, MakesFrame, PutsBytes, ended}
+use Rattle.s2_bbframe.specs.DataStream.{IsReady}
+use Rattle.s2_receive.specs.Answers.{Advances}
+use Rattle.s2_receive.specs.declared.report.Step.{Step}
+use Rattle.s2_receive.specs.declared.report.Step.TheVariants as steps
+use Rattle.s2_receive.specs.declared.figures.Figures.{Figures}
+use Rattle.s2_receive.specs.declared.figures.Sums.{Sums}
+use Rattle.s2_check.specs.Views.{IsSoft}
+use Rattle.s2_matrix.specs.Code.{code_of}
+use Rattle.s2_judge.specs.Judging.{Judging}
+use Rattle.s2_judge.specs.Deciding.{decided}
+use Rattle.s2_scan.specs.Scanning.{AreHeadersOf}
+use Rattle.s2_library.specs.Copying.{Copies, digits_of}
+use Rattle.s2_library.specs.declared.scanner.Scanner.{Scanner}
+use Rattle.s2_library.specs.Fields.{step_fields, verdict_number}
+use Rattle.s2_library.specs.declared.step.StepFields.{StepFields}
+use Rattle.s2_library.specs.declared.refusal.Refusal.{Refusal}
+use Rattle.s2_library.specs.declared.refusal.Refusal.TheVariants.{OtherKind, BadSize, BadSoft, Closed, TooMany, NoneThere, NoMemory}
+use Rattle.s2_library.specs.declared.receiver.Reception.{Reception}
+use Rattle.s2_library.specs.declared.slot.Slot.{Slot}
+use Rattle.s2_library.specs.declared.slot.Slot.TheVariants as slots
+
+-- the receiver of a slot
+abbrev pub receiver_in : Slot → Option Receiver
+receiver_in (slots.Receiver r) = Some r.receiver
+receiver_in slot = None
+
+-- the transmitter of a slot
+abbrev pub sender_in : Slot → Option Sender
+sender_in (slots.Transmitter s) = Some s
+sender_in slot = None
+
+-- the judge of a slot
+abbrev pub judge_in : Slot → Option Judging
+judge_in (slots.Judge j) = Some j
+judge_in slot = None
+
+-- a list of a slot's contents, if they are of this kind
+abbrev pub listed : {X A : Type 0} → (X → List A) → Option X → Option (List A)
+listed list None = None
+listed list (Some x) = Some (list x)
+
+-- A list of a slot is copied to a buffer, and its length is given. If the slot is of another kind, nothing is written
+abbrev pub CopiesOf : {A T : Type 0} → Option (List A) → (old new : List A) → (count_old count_new : ℕ) → Result T Refusal → Type 0
+CopiesOf None old new n m result = (result ≡ Err OtherKind) × (new ≡ old) × (m ≡ n)
+CopiesOf (Some items) old new n m result = Copies items old new m result
+
+-- a value of a slot is given, if the slot is of this kind
+abbrev pub Gives : {A : Type 0} → Option A → (old new : A) → Result (Unit {0}) Refusal → Type 0
+Gives None old new result = (result ≡ Err OtherKind) × (new ≡ old)
+Gives (Some x) old new result = (result ≡ Ok tt) × (new ≡ x)
+
+-- the number of bytes that a receiver takes next
+abbrev pub room_in : Option Receiver → Option ℕ
+room_in None = None
+room_in (Some r) = Some (asked (rules_for r) r.state)
+
+-- what a slot has of a receiver: it, its link and tuning, and its last step
+abbrev pub reception_in : Slot → Option Reception
+reception_in (slots.Receiver r) = Some r
+reception_in slot = None
+
+-- the figures of a step
+abbrev pub figures_in : Option Step → Option Figures
+figures_in (Some (steps.Frame report)) = report.figures
+figures_in step = None
+
+-- the figures of the last step of a receiver
+abbrev pub last_figures : Option Reception → Option (Option Figures)
+last_figures None = None
+last_figures (Some r) = Some (figures_in r.step)
+
+-- the sums of a receiver's figures
+abbrev pub sums_in : Option Receiver → Option (Option Sums)
+sums_in None = None
+sums_in (Some r) = Some r.state.standing.totals.sums
+
+-- the totals of a receiver
+abbrev pub totals_in : Option Receiver → Option Totals
+totals_in None = None
+totals_in (Some r) = Some r.state.standing.totals
+
+-- A value of a slot is written as fields, if the slot is of this kind and the caller set their size. Otherwise nothing is
+abbrev pub GivesFields : {A F : Type 0} → (A → F) → Option A → (is_sized : Bool) → (old new : F) → Result (Unit {0}) Refusal → Type 0
+GivesFields fields None is_sized old new result = (result ≡ Err OtherKind) × (new ≡ old)
+GivesFields fields (Some x) false old new result = (result ≡ Err BadSize) × (new ≡ old)
+GivesFields fields (Some x) true old new result = (result ≡ Ok tt) × (new ≡ fields x)
+
+-- the same of a value that may be missing
+abbrev pub GivesFieldsIf : {A F : Type 0} → (A → F) → Option (Option A) → (is_sized : Bool) → (old new : F) → Result (Unit {0}) Refusal → Type 0
+GivesFieldsIf fields None is_sized old new result = (result ≡ Err OtherKind) × (new ≡ old)
+GivesFieldsIf fields (Some value) false old new result = (result ≡ Err BadSize) × (new ≡ old)
+GivesFieldsIf fields (Some None) true old new result = (result ≡ Err NoneThere) × (new ≡ old)
+GivesFieldsIf fields (Some (Some x)) true old new result = (result ≡ Ok tt) × (new ≡ fields x)
+
+-- The result of a receiver that is given bytes. It takes them if they are no more than it takes next, and the caller set
+-- the size of the step. Then the step is written, and kept as the last one
+abbrev pub TakesBytes : (old new : Reception) → List ℕ → StepFields → Type 0
+TakesBytes old new bytes step =
+    (length bytes ≤ asked (rules_for old.receiver) old.receiver.state) × Advances (seen old.receiver) (seen new.receiver) bytes new.step
+    × (step ≡ step_fields new.step) × (new.link ≡ old.link) × (new.tuning ≡ old.tuning)
+
+-- the cause of a refusal of bytes
+abbrev pub RefusesBytes : Reception → List ℕ → (size : ℕ) → Refusal → Type 0
+RefusesBytes r bytes size BadSize = size ≢ 80
+RefusesBytes r bytes size TooMany = asked (rules_for r.receiver) r.receiver.state < length bytes
+RefusesBytes r bytes size refusal = ⊥
+
+-- the result for a receiver; if it is refused, nothing changes
+abbrev pub AdvancesReception : (old new : Reception) → List ℕ → (before behind : StepFields) → Result (Unit {0}) Refusal → Type 0
+AdvancesReception old new bytes before behind (Ok done) = TakesBytes old new bytes behind
+AdvancesReception old new bytes before behind (Err refusal) = RefusesBytes old bytes before.size refusal × (new ≡ old) × (behind ≡ before)
+
+-- the result for a slot
+abbrev pub AdvancesSlot : (old new : Slot) → List ℕ → (before behind : StepFields) → Result (Unit {0}) Refusal → Type 0
+AdvancesSlot (slots.Receiver r) (slots.Receiver q) bytes before behind result = AdvancesReception r q bytes before behind result
+AdvancesSlot old new bytes before behind result = (result ≡ Err OtherKind) × (new ≡ old) × (behind ≡ before)
+
+-- a receiver begins anew on its link, with its tuning; or memory was refused, and nothing changes
+abbrev pub ResetsReception : (old new : Reception) → Result (Unit {0}) Refusal → Type 0
+ResetsReception old new (Ok done) = IsNew old.link old.tuning new.receiver × (new.step ≡ None) × (new.link ≡ old.link) × (new.tuning ≡ old.tuning)
+ResetsReception old new (Err refusal) = (refusal ≡ NoMemory) × (new ≡ old)
+
+-- the same for a slot
+abbrev pub ResetsSlot : (old new : Slot) → Result (Unit {0}) Refusal → Type 0
+ResetsSlot (slots.Receiver r) (slots.Receiver q) result = ResetsReception r q result
+ResetsSlot old new result = (result ≡ Err OtherKind) × (new ≡ old)
+
+-- A transmitter makes its next frame, and its symbols are copied. If the buffer is too short for them, the frame is made all the same.
+-- If no frame is complete, nothing changes
+abbrev pub TakesFrame : (old new : Sender) → (before behind : List ℕ) → (n m : ℕ) → Result (Unit {0}) Refusal → Type 0
+TakesFrame old new before behind n m (Err NoneThere) = (IsReady old.stream.slicing → ⊥) × (new ≡ old) × (behind ≡ before) × (m ≡ n)
+TakesFrame old new before behind n m result = MakesFrame old new × Copies new.unit before behind m result
+
+-- the same for a slot
+abbrev pub TakesFrameOf : (old new : Slot) → (before behind : List ℕ) → (n m : ℕ) → Result (Unit {0}) Refusal → Type 0
+TakesFrameOf (slots.Transmitter s) (slots.Transmitter t) before behind n m result = TakesFrame s t before behind n m result
+TakesFrameOf old new before behind n m result = (result ≡ Err OtherKind) × (new ≡ old) × (behind ≡ before) × (m ≡ n)
+
+-- a scanner has found the headers of its bytes; or memory was refused, and nothing changes
+abbrev pub Finds : (old new : Scanner) → (n m : ℕ) → Result (Unit {0}) Refusal → Type 0
+Finds old new n m (Ok done) = AreHeadersOf (Some old.bytes.items) new.found.items × (m ≡ length new.found.items) × (new.bytes ≡ old.bytes)
+Finds old new n m (Err refusal) = (refusal ≡ NoMemory) × (new ≡ old) × (m ≡ n)
+
+-- A transmitter takes bytes, and their number is given. If its stream was closed, nothing changes
+abbrev pub PutsPackets : (old new : Sender) → List ℕ → (n m : ℕ) → Result (Unit {0}) Refusal → Type 0
+PutsPackets old new bytes n m (Ok done) = PutsBytes old new bytes (Ok m)
+PutsPackets old new bytes n m (Err Closed) = (old.stream.slicing.closed ≡ true) × (new ≡ old) × (m ≡ n)
+PutsPackets old new bytes n m (Err refusal) = (old.stream.slicing.closed ≡ false) × (m ≡ n)
+
+-- the same for a slot
+abbrev pub PutsPacketsOf : (old new : Slot) → List ℕ → (n m : ℕ) → Result (Unit {0}) Refusal → Type 0
+PutsPacketsOf (slots.Transmitter s) (slots.Transmitter t) bytes n m result = PutsPackets s t bytes n m result
+PutsPacketsOf old new bytes n m result = (result ≡ Err OtherKind) × (new ≡ old) × (m ≡ n)
+
+-- a transmitter's stream ends, or it is refused and nothing changes
+abbrev pub ClosesStream : (old new : Sender) → Result (Unit {0}) Refusal → Type 0
+ClosesStream old new (Ok done) = new ≡ record old { stream = ended old.stream }
+ClosesStream old new (Err refusal) = new ≡ old
+
+-- the same for a slot
+abbrev pub ClosesStreamOf : (old new : Slot) → Result (Unit {0}) Refusal → Type 0
+ClosesStreamOf (slots.Transmitter s) (slots.Transmitter t) result = ClosesStream s t result
+ClosesStreamOf old new result = (result ≡ Err OtherKind) × (new ≡ old)
+
+-- A judge decides on n soft values, and the number of the verdict is given. Otherwise nothing changes
+abbrev pub DecidesOn : (old new : Judging) → List ℤ → (n m : ℕ) → Result (Unit {0}) Refusal → Type 0
+DecidesOn old new soft n m (Ok done) =
+    (length soft ≡ (code_of old.rows).bits) × All IsSoft soft × (m ≡ verdict_number (decided old.rows old.tuning soft).verdict)
+    × (new.bits ≡ (decided old.rows old.tuning soft).bits) × (new.certificate ≡ (decided old.rows old.tuning soft).certificate)
+    × (new.rows ≡ old.rows) × (new.tuning ≡ old.tuning)
+DecidesOn old new soft n m (Err refusal) = (refusal ≡ BadSoft) × (new ≡ old) × (m ≡ n)
+
+-- the same for a slot
+abbrev pub DecidesOnOf : (old new : Slot) → List ℤ → (n m : ℕ) → Result (Unit {0}) Refusal → Type 0
+DecidesOnOf (slots.Judge i) (slots.Judge j) soft n m result = DecidesOn i j soft n m result
+DecidesOnOf old new soft n m result = (result ≡ Err OtherKind) × (new ≡ old) × (m ≡ n)

@@ -1,0 +1,205 @@
+//! Codes, and a shelf on which they are found again.
+ghost use Rattle.std.specs.Prelude.{◌≡◌, false, IfOk, Some};
+ghost use Rattle.s2_mode.specs.Mode.{mode_of};
+ghost use Rattle.s2_library.specs.Asked.{is_set};
+ghost use Rattle.s2_library.specs.Codes.{AreRowsOf, HasCodeOf, IsCodeOf, code_in as code_in_slot};
+
+use crate::options::{flag, mode_by};
+use crate::refusal::Refusal;
+use crate::slot::Slot;
+use s2_matrix::Matrix;
+use s2_mode::{Mode, Shape};
+use s2_rows::{RowFault, Rows, read_rows};
+use s2_table::is_standard;
+use std::alloc::Global;
+
+/// The code of a row file. Its tables stay until the process ends, as receivers share them.
+#[derive(Clone, Copy)]
+pub struct Code {
+    pub(crate) matrix: &'static Matrix,
+    pub(crate) is_standard: bool,
+}
+
+/// Codes that are found again by their rows.
+pub struct Shelf {
+    codes: Vec<Code>,
+}
+
+impl Drop for Shelf {
+    fn drop(self) {
+        let Shelf { codes: _ } = self;
+    }
+}
+
+/// The rows of a text.
+fn rows_of(alloc: Global, text: &[u8], shape: Shape) -> Result<Rows, Refusal>
+    ensures { IfOk result (AreRowsOf text.now shape) }
+{
+    match read_rows(alloc, text, shape) {
+        Ok(rows) => Ok(rows),
+        Err(RowFault::NoMemory) => Err(Refusal::NoMemory),
+        Err(_) => Err(Refusal::BadRows),
+    }
+}
+
+/// The matrix of a text's rows.
+fn matrix_of(alloc: Global, text: &[u8], shape: Shape) -> Result<Matrix, Refusal>
+    ensures { IfOk result (AreRowsOf text.now shape) }
+{
+    let rows = rows_of(alloc, text, shape)?;
+    match Matrix::build(alloc, &rows) {
+        Ok(matrix) => Ok(matrix),
+        Err(_) => Err(Refusal::NoMemory),
+    }
+}
+
+/// A matrix that stays until the process ends.
+fn keep(alloc: Global, matrix: Matrix) -> Result<&'static Matrix, Refusal>
+    ensures { IfOk result (λ m. m.now ≡ matrix) }
+{
+    match Box::new(alloc, matrix) {
+        Ok(matrix) => Ok(Box::leak(matrix)),
+        Err(_) => Err(Refusal::NoMemory),
+    }
+}
+
+/// The mode of a code, without pilots.
+fn mode_of_code(modcod: u32, is_short: u32) -> Result<Mode, Refusal>
+    ensures { IfOk result (λ mode. mode ≡ mode_of modcod (is_set is_short) false) }
+{
+    mode_by(modcod, flag(is_short)?, false)
+}
+
+/// The code of a mode, from the text of a row file.
+fn code_of_mode(alloc: Global, text: &[u8], mode: Mode) -> Result<Code, Refusal>
+    ensures { IfOk result (IsCodeOf text.now mode) }
+{
+    let matrix = matrix_of(alloc, text, mode.shape())?;
+    let is_standard = is_standard(&mode, &matrix);
+    Ok(Code {
+        matrix: keep(alloc, matrix)?,
+        is_standard,
+    })
+}
+
+/// The code of a mode, from the text of a row file.
+pub fn new_code(alloc: Global, text: &[u8], modcod: u32, is_short: u32) -> Result<Slot, Refusal>
+    ensures { IfOk result (HasCodeOf text.now (mode_of modcod (is_set is_short) false)) }
+{
+    let mode = mode_of_code(modcod, is_short)?;
+    Ok(Slot::Code(code_of_mode(alloc, text, mode)?))
+}
+
+/// The code of any shape, from the text of a row file. Whether its rows are the standard's is not tested.
+pub fn shape_code(
+    alloc: Global,
+    text: &[u8],
+    group: u32,
+    groups: u32,
+    q: u32,
+) -> Result<Slot, Refusal> {
+    let Some(shape) = Shape::new(group as usize, groups as usize, q as usize) else {
+        return Err(Refusal::BadShape);
+    };
+    let matrix = matrix_of(alloc, text, shape)?;
+    Ok(Slot::Code(Code {
+        matrix: keep(alloc, matrix)?,
+        is_standard: false,
+    }))
+}
+
+/// The code in a slot.
+pub(crate) fn code_in(slot: &Slot) -> Result<Code, Refusal>
+    ensures { IfOk result (λ code. code_in_slot slot.now ≡ Some code) }
+{
+    match slot {
+        Slot::Code(code) => Ok(*code),
+        _ => Err(Refusal::OtherKind),
+    }
+}
+
+/// The numbers n and k of a code, and whether its rows are the standard's, 1 or 0.
+pub fn code_facts(
+    slot: &Slot,
+    n: &mut u32,
+    k: &mut u32,
+    is_standard: &mut u32,
+) -> Result<(), Refusal> {
+    let code = code_in(slot)?;
+    let shape = code.matrix.shape();
+    *n = shape.n() as u32;
+    *k = shape.k() as u32;
+    *is_standard = u32::from(code.is_standard);
+    Ok(())
+}
+
+/// An empty shelf.
+pub fn new_shelf(alloc: Global) -> Slot {
+    Slot::Shelf(Shelf {
+        codes: Vec::new(alloc),
+    })
+}
+
+/// Whether two codes have the same rows.
+fn are_same(a: &Matrix, b: &Matrix) -> bool {
+    if a.shape() != b.shape() {
+        return false;
+    }
+    let groups = a.shape().groups();
+    if b.shape().groups() != groups {
+        return false;
+    }
+    for group in 0..groups {
+        if a.addresses(group) != b.addresses(group) {
+            return false;
+        }
+    }
+    true
+}
+
+impl Shelf {
+    /// The code of these rows, if it is here.
+    fn find(&self, matrix: &Matrix) -> Option<Code> {
+        for code in &self.codes {
+            if are_same(code.matrix, matrix) {
+                return Some(*code);
+            }
+        }
+        None
+    }
+
+    /// The code of a matrix: the one that is here, or a new one that is put here.
+    fn code(&mut self, alloc: Global, matrix: Matrix, is_standard: bool) -> Result<Code, Refusal> {
+        if let Some(code) = self.find(&matrix) {
+            return Ok(code);
+        }
+        if self.codes.reserve(1).is_err() {
+            return Err(Refusal::NoMemory);
+        }
+        let code = Code {
+            matrix: keep(alloc, matrix)?,
+            is_standard,
+        };
+        match self.codes.push(code) {
+            Ok(()) => Ok(code),
+            Err(_) => Err(Refusal::NoMemory),
+        }
+    }
+}
+
+/// The code of a mode, from the text of a row file: the one on the shelf, or a new one that is put there.
+pub fn shelf_code(
+    alloc: Global,
+    slot: &mut Slot,
+    text: &[u8],
+    modcod: u32,
+    is_short: u32,
+) -> Result<Slot, Refusal> {
+    let Slot::Shelf(shelf) = slot else {
+        return Err(Refusal::OtherKind);
+    };
+    let mode = mode_of_code(modcod, is_short)?;
+    let matrix = matrix_of(alloc, text, mode.shape())?;
+    let is_standard = is_standard(&mode, &matrix);
+    Ok(Slot::Code(shelf.code(alloc, matrix, is_standard)?))
+}

@@ -1,0 +1,116 @@
+//! Judges.
+ghost use Rattle.std.specs.Prelude.{All, IsTrue};
+ghost use Rattle.s2_library.specs.Copying.{digits_of};
+ghost use Rattle.s2_library.specs.Slots.{CopiesOf, DecidesOn, DecidesOnOf, judge_in, listed};
+ghost use Rattle.s2_check.specs.Views.{IsSoft};
+
+use crate::code::{Code, code_in};
+use crate::copying::copy_bits;
+use crate::options::{Flags, Options, mode_by, read_flags, wanted_by};
+use crate::receiver::copy_certificate;
+use crate::refusal::Refusal;
+use crate::slot::Slot;
+use crate::step::verdict_number;
+use s2_modem::Judge;
+use s2_tuning::{Tuning, judging_by, tuning_by};
+use std::alloc::Global;
+
+/// The tuning of a judge of a mode, whose code must be of the mode's shape.
+fn mode_tuning(code: Code, flags: Flags, options: &Options) -> Result<Tuning, Refusal> {
+    let mode = mode_by(options.modcod, flags.is_short, flags.has_pilots)?;
+    if code.matrix.shape() != mode.shape() {
+        return Err(Refusal::OtherShape);
+    }
+    match tuning_by(&mode, wanted_by(flags, options)) {
+        Some(tuning) => Ok(tuning),
+        None => Err(Refusal::BadTuning),
+    }
+}
+
+/// The tuning of a judge without a mode.
+fn plain_tuning(flags: Flags, options: &Options) -> Result<Tuning, Refusal> {
+    let wanted = wanted_by(flags, options);
+    match judging_by(wanted.passes.value, wanted.factor.value, flags.uncertified) {
+        Some(tuning) => Ok(tuning),
+        None => Err(Refusal::BadTuning),
+    }
+}
+
+/// The tuning of a judge.
+fn tuning_of(code: Code, options: &Options) -> Result<Tuning, Refusal> {
+    let flags = read_flags(options)?;
+    if options.modcod == 0 {
+        plain_tuning(flags, options)
+    } else {
+        mode_tuning(code, flags, options)
+    }
+}
+
+/// A judge on a code, by options. The first refusal is returned.
+pub fn new_judge(alloc: Global, code: &Slot, options: &Options) -> Result<Slot, Refusal> {
+    let code = code_in(code)?;
+    let tuning = tuning_of(code, options)?;
+    match Judge::new(alloc, code.matrix, tuning) {
+        Ok(judge) => Ok(Slot::Judge(judge)),
+        Err(_) => Err(Refusal::NoMemory),
+    }
+}
+
+/// Whether all values are -511 to 511.
+fn are_soft(values: &[i16]) -> bool
+    ensures { IsTrue result → All IsSoft values.now }
+{
+    for value in values {
+        if *value < -511 || *value > 511 {
+            return false;
+        }
+    }
+    true
+}
+
+/// Decides on soft values, and gives the number of the verdict.
+fn decide(judge: &mut Judge<'static>, soft: &[i16], verdict: &mut u32) -> Result<(), Refusal>
+    ensures { DecidesOn judge.old judge.new soft.now verdict.old verdict.new result }
+{
+    if soft.len() != judge.soft().len() || !are_soft(soft) {
+        return Err(Refusal::BadSoft);
+    }
+    *verdict = verdict_number(judge.judge(soft));
+    Ok(())
+}
+
+/// Has the judge of a slot decide on soft values, and gives the number of the verdict.
+pub fn judge_decide(slot: &mut Slot, soft: &[i16], verdict: &mut u32) -> Result<(), Refusal>
+    ensures { DecidesOnOf slot.old slot.new soft.now verdict.old verdict.new result }
+{
+    match slot {
+        Slot::Judge(judge) => decide(judge, soft, verdict),
+        _ => Err(Refusal::OtherKind),
+    }
+}
+
+/// Copies the bits that were decided last.
+pub fn judge_word(slot: &Slot, out: &mut [u8], count: &mut usize) -> Result<(), Refusal>
+    ensures { CopiesOf (listed (λ j. digits_of j.bits) (judge_in slot.now)) out.old out.new count.old count.new result }
+{
+    match slot {
+        Slot::Judge(judge) => copy_bits(judge.word().truths(), out, count),
+        _ => Err(Refusal::OtherKind),
+    }
+}
+
+/// Copies the certificate of the last decision.
+pub fn judge_certificate(
+    alloc: Global,
+    slot: &Slot,
+    out: &mut [u8],
+    count: &mut usize,
+) -> Result<(), Refusal> {
+    let Slot::Judge(judge) = slot else {
+        return Err(Refusal::OtherKind);
+    };
+    match judge.certificate() {
+        Some(view) => copy_certificate(alloc, &view, out, count),
+        None => Err(Refusal::NoneThere),
+    }
+}

@@ -1,0 +1,78 @@
+//! Figures, as C has them.
+ghost use Rattle.std.specs.Prelude.{◌≡◌};
+ghost use Rattle.s2_library.specs.Fields as fields;
+
+use s2_receive::{Figures, Sums};
+
+/// The size of [`FiguresFields`] in bytes.
+pub(crate) const SIZE: u32 = 112;
+
+/// The figures of a frame, or their sums.
+#[repr(C)]
+#[derive(Clone, Copy)]
+pub struct FiguresFields {
+    pub size: u32,
+    pub header: u32,
+    pub rounds: u32,
+    pub reserved: u32,
+    pub changed: u64,
+    pub changed_of: u64,
+    pub known: u64,
+    pub known_of: u64,
+    pub payload: u64,
+    pub payload_of: u64,
+    pub known_power: u64,
+    pub known_along: i64,
+    pub known_across: i64,
+    pub payload_power: u64,
+    pub payload_along: i64,
+    pub payload_across: i64,
+}
+
+/// The figures of a frame.
+pub(crate) fn figures_fields(figures: Figures) -> FiguresFields
+    ensures { result ≡ fields.figures_fields figures }
+{
+    FiguresFields {
+        size: SIZE,
+        header: figures.header,
+        rounds: figures.rounds,
+        reserved: 0,
+        changed: figures.changed.sum,
+        changed_of: figures.changed.of,
+        known: figures.known.sum,
+        known_of: figures.known.of,
+        payload: figures.payload.sum,
+        payload_of: figures.payload.of,
+        known_power: figures.known_correlation.power,
+        known_along: figures.known_correlation.along,
+        known_across: figures.known_correlation.across,
+        payload_power: figures.payload_correlation.power,
+        payload_along: figures.payload_correlation.along,
+        payload_across: figures.payload_correlation.across,
+    }
+}
+
+/// The sums of figures. Those of header, rounds and correlations are not kept, and are 0.
+pub(crate) fn sums_fields(sums: Sums) -> FiguresFields
+    ensures { result ≡ fields.sums_fields sums }
+{
+    FiguresFields {
+        size: SIZE,
+        header: 0,
+        rounds: 0,
+        reserved: 0,
+        changed: sums.changed.sum,
+        changed_of: sums.changed.of,
+        known: sums.known.sum,
+        known_of: sums.known.of,
+        payload: sums.payload.sum,
+        payload_of: sums.payload.of,
+        known_power: sums.known_power,
+        known_along: 0,
+        known_across: 0,
+        payload_power: sums.payload_power,
+        payload_along: 0,
+        payload_across: 0,
+    }
+}

@@ -1,0 +1,127 @@
+//! Scanners of unknown recordings.
+ghost use Rattle.s2_library.specs.Slots.{Finds};
+
+use crate::refusal::Refusal;
+use crate::slot::Slot;
+use s2_scan::{Candidate, find_headers};
+use std::alloc::Global;
+
+/// The size of [`SeenFields`] in bytes.
+const SIZE: u32 = 96;
+
+/// The most bytes that a scanner keeps.
+const MOST: usize = 67_108_864;
+
+/// A kind of header that was seen, as C has it.
+#[repr(C)]
+#[derive(Clone, Copy)]
+pub struct SeenFields {
+    pub size: u32,
+    pub modcod: u32,
+    pub is_short: u32,
+    pub has_pilots: u32,
+    pub turn: u32,
+    pub conjugate: u32,
+    pub little_endian: u32,
+    pub reserved0: u32,
+    pub seen: u64,
+    pub pairs: u64,
+    pub first: u64,
+    pub every: u64,
+    pub amplitude: u64,
+    pub reserved: [u64; 3],
+}
+
+/// The bytes of a recording so far, and the headers that the last search found.
+pub struct Scanner {
+    bytes: Vec<u8>,
+    found: Vec<Candidate>,
+}
+
+impl Drop for Scanner {
+    fn drop(self) {
+        let Scanner { bytes: _, found: _ } = self;
+    }
+}
+
+/// A scanner that has seen nothing.
+pub fn new_scanner(alloc: Global) -> Slot {
+    Slot::Scanner(Scanner {
+        bytes: Vec::new(alloc),
+        found: Vec::new(alloc),
+    })
+}
+
+/// Gives a scanner bytes of symbols.
+pub fn scan_feed(slot: &mut Slot, bytes: &[u8]) -> Result<(), Refusal> {
+    let Slot::Scanner(scanner) = slot else {
+        return Err(Refusal::OtherKind);
+    };
+    if bytes.len() > MOST || scanner.bytes.len() > MOST - bytes.len() {
+        return Err(Refusal::TooMany);
+    }
+    match scanner.bytes.extend_from_slice(bytes) {
+        Ok(()) => Ok(()),
+        Err(_) => Err(Refusal::NoMemory),
+    }
+}
+
+/// Searches the bytes so far, and gives the number of kinds of headers that were seen.
+fn find(alloc: Global, scanner: &mut Scanner, count: &mut usize) -> Result<(), Refusal>
+    ensures { Finds scanner.old scanner.new count.old count.new result }
+{
+    match find_headers(alloc, &scanner.bytes) {
+        Ok(found) => {
+            *count = found.len();
+            scanner.found = found;
+            Ok(())
+        }
+        Err(_) => Err(Refusal::NoMemory),
+    }
+}
+
+/// Searches the bytes of a slot's scanner so far, and gives the number of kinds of headers that were seen.
+pub fn scan_find(alloc: Global, slot: &mut Slot, count: &mut usize) -> Result<(), Refusal> {
+    match slot {
+        Slot::Scanner(scanner) => find(alloc, scanner, count),
+        _ => Err(Refusal::OtherKind),
+    }
+}
+
+/// The fields of a kind of headers.
+fn fields_of(seen: &Candidate) -> SeenFields {
+    let form = seen.form % 8;
+    SeenFields {
+        size: SIZE,
+        modcod: (seen.header / 4).min(28) as u32,
+        is_short: (seen.header / 2 % 2) as u32,
+        has_pilots: (seen.header % 2) as u32,
+        turn: ((4 - form % 4) % 4) as u32,
+        conjugate: u32::from(form >= 4),
+        little_endian: u32::from(seen.form >= 8),
+        reserved0: 0,
+        seen: seen.seen as u64,
+        pairs: seen.pairs as u64,
+        first: seen.first,
+        every: seen.every,
+        amplitude: seen.amplitude,
+        reserved: [0; 3],
+    }
+}
+
+/// Gives the kind of headers that the last search found at a place.
+pub fn scan_at(slot: &Slot, place: usize, out: &mut SeenFields) -> Result<(), Refusal> {
+    let Slot::Scanner(scanner) = slot else {
+        return Err(Refusal::OtherKind);
+    };
+    if out.size != SIZE {
+        return Err(Refusal::BadSize);
+    }
+    match scanner.found.get(place) {
+        Some(seen) => {
+            *out = fields_of(seen);
+            Ok(())
+        }
+        None => Err(Refusal::NoneThere),
+    }
+}

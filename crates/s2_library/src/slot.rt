@@ -1,0 +1,29 @@
+//! The contents of a handle.
+use crate::code::{Code, Shelf};
+use crate::receiver::Reception;
+use crate::scanner::Scanner;
+use s2_modem::Judge;
+use s2_send::Sender;
+
+/// The contents of a handle.
+pub enum Slot {
+    Code(Code),
+    Shelf(Shelf),
+    Receiver(Reception),
+    Transmitter(Sender<'static>),
+    Judge(Judge<'static>),
+    Scanner(Scanner),
+}
+
+impl Drop for Slot {
+    fn drop(self) {
+        match self {
+            Slot::Code(_) => {}
+            Slot::Shelf(shelf) => drop(shelf),
+            Slot::Receiver(receiver) => drop(receiver),
+            Slot::Transmitter(sender) => drop(sender),
+            Slot::Judge(judge) => drop(judge),
+            Slot::Scanner(scanner) => drop(scanner),
+        }
+    }
+}

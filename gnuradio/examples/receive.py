@@ -1,0 +1,21 @@
+"""Receives a file of complex symbols: receive.py ROWS SYMBOLS PACKETS
+
+The mode is QPSK 3/4 with pilots. SYMBOLS has 32-bit floats, amplitude 1: the form cf32_le of tools/convert. It prints the dictionary of each
+frame."""
+import sys
+
+from gnuradio import blocks, gr, sembarohy
+
+
+def main(rows, symbols, packets):
+    graph = gr.top_block("receive")
+    received, printer = sembarohy.receiver(rows, "qpsk3/4", pilots=True), blocks.message_debug()
+    graph.connect(blocks.file_source(gr.sizeof_gr_complex, symbols), received, blocks.file_sink(gr.sizeof_char, packets))
+    graph.msg_connect(received, "frames", printer, "print")
+    graph.run()
+    print(received.totals)
+    return 1 if received.fault else 0
+
+
+if __name__ == "__main__":
+    sys.exit(main(*sys.argv[1:]) if len(sys.argv) == 4 else __doc__)
