@@ -35,19 +35,28 @@ fn conflict_of(told: &str) -> Option<Misuse<'_>> {
     if told.contains("' cannot be used multiple times") {
         return Some(Misuse::Twice(option));
     }
-    let others = between(told, "' cannot be used with:\n  ", "\n\n").or(between(
-        told,
-        "' cannot be used with '",
-        "'\n",
-    ))?;
-    Some(Misuse::Excluded(option, others))
+    Some(Misuse::Excluded(option, others_of(told)?))
 }
 
-/// A value that is missing or refused. A value may have any characters, but the text after it has none of them.
+/// The options that an option excludes, one per line.
+fn others_of(told: &str) -> Option<&str> {
+    match between(told, "' cannot be used with:\n  ", "\n\n") {
+        Some(others) => Some(others),
+        None => between(told, "' cannot be used with '", "'\n"),
+    }
+}
+
+/// A value that is missing or refused.
 fn value_of(told: &str) -> Option<Misuse<'_>> {
     if told.starts_with("error: a value is required") {
-        return Some(Misuse::LacksValue(between(told, " for '", "' but none")?));
+        between(told, " for '", "' but none").map(Misuse::LacksValue)
+    } else {
+        refused_value_of(told)
     }
+}
+
+/// A value that is refused. It may have any characters, but the text after it has none of them.
+fn refused_value_of(told: &str) -> Option<Misuse<'_>> {
     let (before, behind) = told.rsplit_once("' for '")?;
     let (option, _) = behind.split_once('\'')?;
     let value = before.strip_prefix("error: invalid value '")?;

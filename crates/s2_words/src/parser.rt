@@ -39,12 +39,23 @@ fn by_rule<'a>(arg: Arg<'a>, rule: Option<Rule>) -> Result<Arg<'a>, AllocError> 
     }
 }
 
+/// Adds an argument of a command.
+fn push_arg<'a>(
+    alloc: Global,
+    args: &mut Vec<Arg<'a>>,
+    command: CommandName,
+    argument: Argument,
+) -> Result<(), AllocError> {
+    let rule = rule_of(command, argument.name);
+    args.push(by_rule(arg_of(alloc, argument), rule)?)?;
+    Ok(())
+}
+
 /// The arguments of a command.
 fn args_of<'a>(alloc: Global, command: CommandName) -> Result<Vec<Arg<'a>>, AllocError> {
     let mut args = Vec::new(alloc);
     for argument in arguments_of(command) {
-        let rule = rule_of(command, argument.name);
-        args.push(by_rule(arg_of(alloc, *argument), rule)?)?;
+        push_arg(alloc, &mut args, command, *argument)?;
     }
     Ok(args)
 }
@@ -63,22 +74,35 @@ fn groups_of<'a>(alloc: Global, command: CommandName) -> Result<Vec<ArgGroup<'a>
     Ok(groups)
 }
 
+/// A command with its help, without arguments.
+fn described<'a>(alloc: Global, entry: CommandHelp) -> Command<'a> {
+    Command::new(alloc, entry.name)
+        .about(entry.about)
+        .after_help(more_of(entry.command))
+}
+
 /// A command. Its parts are made first: a vector is dropped in one step, and a command in about twenty.
 fn command_of<'a>(alloc: Global, entry: CommandHelp) -> Result<Command<'a>, AllocError> {
     let args = args_of(alloc, entry.command)?;
     let groups = groups_of(alloc, entry.command)?;
-    Command::new(alloc, entry.name)
-        .about(entry.about)
-        .after_help(more_of(entry.command))
-        .args(args)?
-        .groups(groups)
+    described(alloc, entry).args(args)?.groups(groups)
+}
+
+/// Adds a command.
+fn push_command<'a>(
+    alloc: Global,
+    all: &mut Vec<Command<'a>>,
+    entry: CommandHelp,
+) -> Result<(), AllocError> {
+    all.push(command_of(alloc, entry)?)?;
+    Ok(())
 }
 
 /// All commands.
 fn commands_of<'a>(alloc: Global) -> Result<Vec<Command<'a>>, AllocError> {
     let mut all = Vec::new(alloc);
     for entry in commands() {
-        all.push(command_of(alloc, *entry)?)?;
+        push_command(alloc, &mut all, *entry)?;
     }
     Ok(all)
 }

@@ -14,26 +14,91 @@ use crate::request::{
 };
 use crate::seed_range::read_seeds;
 use crate::unread::Unread;
-use clap::ArgMatches;
 use clap::parser::ValueSource;
+use clap::{ArgMatches, Error};
 use s2_names::SymbolRate;
 use std::alloc::Global;
 
-fn shape_of(m: &ArgMatches<'_>) -> Option<ShapeArguments> {
-    Some(ShapeArguments {
-        group: m.get_one::<u16>("group")?,
-        groups: m.get_one::<u16>("groups")?,
-        q: m.get_one::<u16>("q")?,
-    })
+/// Reads the values of a command's options, and notices if one is missing or invalid.
+#[derive(Drop)]
+struct Reader<'m, 'a> {
+    matches: &'m ArgMatches<'a>,
+    lacks: bool,
 }
 
-fn code_of(m: &ArgMatches<'_>) -> Option<CodeArguments> {
-    match m.get_str("modcod") {
-        Some(text) => Some(CodeArguments::Mode {
-            modcod: read_modcod(text)?,
-            short: m.get_flag("short"),
-        }),
-        None => Some(CodeArguments::Shape(shape_of(m)?)),
+impl<'m, 'a> Reader<'m, 'a> {
+    /// A value that was read, or another in its place.
+    fn or<T: Copy>(&mut self, value: Option<T>, other: T) -> T {
+        match value {
+            Some(value) => value,
+            None => {
+                self.lacks = true;
+                other
+            }
+        }
+    }
+
+    /// The text of an option that may be missing.
+    fn given(&self, name: &str) -> Option<&'a str> {
+        self.matches.get_str(name)
+    }
+
+    /// The text of an option, or the name of a file.
+    fn text(&mut self, name: &str) -> &'a str {
+        let text = self.given(name);
+        self.or(text, "")
+    }
+
+    fn flag(&self, name: &str) -> bool {
+        self.matches.get_flag(name)
+    }
+
+    fn number(&mut self, name: &str) -> u32 {
+        let number = self.matches.get_one::<u32>(name);
+        self.or(number, 0)
+    }
+
+    fn small(&mut self, name: &str) -> u16 {
+        let number = self.matches.get_one::<u16>(name);
+        self.or(number, 0)
+    }
+
+    fn seed(&mut self) -> u64 {
+        let seed = self.matches.get_one::<u64>("seed");
+        self.or(seed, 0)
+    }
+
+    fn weight(&mut self) -> u8 {
+        let weight = self.matches.get_one::<u8>("weight");
+        self.or(weight, 0)
+    }
+
+    fn modcod(&mut self) -> u8 {
+        let modcod = read_modcod(self.text("modcod"));
+        self.or(modcod, 0)
+    }
+
+    fn roll_off(&mut self) -> u8 {
+        let number = roll_off_of(self.matches);
+        self.or(number, 0)
+    }
+}
+
+fn shape_of(r: &mut Reader<'_, '_>) -> ShapeArguments {
+    ShapeArguments {
+        group: r.small("group"),
+        groups: r.small("groups"),
+        q: r.small("q"),
+    }
+}
+
+fn code_of(r: &mut Reader<'_, '_>) -> CodeArguments {
+    if r.given("modcod").is_none() {
+        return CodeArguments::Shape(shape_of(r));
+    }
+    CodeArguments::Mode {
+        modcod: r.modcod(),
+        short: r.flag("short"),
     }
 }
 
@@ -45,14 +110,14 @@ pub(crate) fn roll_off_of(m: &ArgMatches<'_>) -> Option<u8> {
     }
 }
 
-fn link_of(m: &ArgMatches<'_>) -> Option<LinkArguments> {
-    Some(LinkArguments {
-        modcod: read_modcod(m.get_str("modcod")?)?,
-        short: m.get_flag("short"),
-        pilots: m.get_flag("pilots"),
-        number: m.get_one::<u32>("number")?,
-        roll_off: roll_off_of(m)?,
-    })
+fn link_of(r: &mut Reader<'_, '_>) -> LinkArguments {
+    LinkArguments {
+        modcod: r.modcod(),
+        short: r.flag("short"),
+        pilots: r.flag("pilots"),
+        number: r.number("number"),
+        roll_off: r.roll_off(),
+    }
 }
 
 fn is_given(m: &ArgMatches<'_>, name: &str) -> bool {
@@ -62,75 +127,79 @@ fn is_given(m: &ArgMatches<'_>, name: &str) -> bool {
     }
 }
 
-fn number_of(m: &ArgMatches<'_>, name: &str) -> Option<NumberArguments> {
-    Some(NumberArguments {
-        is_given: is_given(m, name),
-        value: m.get_one::<u32>(name)?,
-    })
-}
-
-fn tuning_of(m: &ArgMatches<'_>) -> Option<TuningArguments> {
-    Some(TuningArguments {
-        rounds: number_of(m, "rounds")?,
-        passes: number_of(m, "passes")?,
-        divisor: number_of(m, "divisor")?,
-        factor: number_of(m, "factor")?,
-        max_header_errors: number_of(m, "lock")?,
-        tuned: m.get_flag("tuned"),
-        uncertified: m.get_flag("uncertified"),
-        figures: m.get_flag("figures"),
-        turns: m.get_flag("turns"),
-        equalize: m.get_flag("equalize"),
-    })
-}
-
-fn strength_of(m: &ArgMatches<'_>) -> Option<StrengthArguments> {
-    match m.get_str("esn0") {
-        Some(text) => read_esn0(text).map(StrengthArguments::EsN0),
-        None => m.get_one::<u16>("level").map(StrengthArguments::Level),
+fn number_of(r: &mut Reader<'_, '_>, name: &str) -> NumberArguments {
+    NumberArguments {
+        is_given: is_given(r.matches, name),
+        value: r.number(name),
     }
 }
 
-fn channel_of(m: &ArgMatches<'_>) -> Option<ChannelArguments> {
-    Some(ChannelArguments {
-        seed: m.get_one::<u64>("seed")?,
-        strength: strength_of(m)?,
-    })
+fn tuning_of(r: &mut Reader<'_, '_>) -> TuningArguments {
+    TuningArguments {
+        rounds: number_of(r, "rounds"),
+        passes: number_of(r, "passes"),
+        divisor: number_of(r, "divisor"),
+        factor: number_of(r, "factor"),
+        max_header_errors: number_of(r, "lock"),
+        tuned: r.flag("tuned"),
+        uncertified: r.flag("uncertified"),
+        figures: r.flag("figures"),
+        turns: r.flag("turns"),
+        equalize: r.flag("equalize"),
+    }
 }
 
-fn seeds_of(m: &ArgMatches<'_>) -> Option<Option<Seeds>> {
-    match m.get_str("seeds") {
-        Some(text) => read_seeds(text).map(Some),
-        None => Some(None),
+fn strength_of(r: &mut Reader<'_, '_>) -> StrengthArguments {
+    match r.given("esn0") {
+        Some(text) => StrengthArguments::EsN0(r.or(read_esn0(text), 0)),
+        None => StrengthArguments::Level(r.small("level")),
     }
+}
+
+fn channel_of(r: &mut Reader<'_, '_>) -> ChannelArguments {
+    ChannelArguments {
+        seed: r.seed(),
+        strength: strength_of(r),
+    }
+}
+
+fn seeds_of(r: &mut Reader<'_, '_>) -> Option<Seeds> {
+    let seeds = read_seeds(r.given("seeds")?);
+    if seeds.is_none() {
+        r.lacks = true;
+    }
+    seeds
 }
 
 /// The channel of the first run.
-fn first_channel_of(m: &ArgMatches<'_>, seeds: Option<Seeds>) -> Option<ChannelArguments> {
+fn first_channel_of(r: &mut Reader<'_, '_>, seeds: Option<Seeds>) -> ChannelArguments {
     match seeds {
-        Some(seeds) => Some(ChannelArguments {
+        Some(seeds) => ChannelArguments {
             seed: seeds.first,
-            strength: strength_of(m)?,
-        }),
-        None => channel_of(m),
+            strength: strength_of(r),
+        },
+        None => channel_of(r),
     }
 }
 
-fn exit_by_of(m: &ArgMatches<'_>) -> Option<ExitBy> {
-    match m.get_str("exit-by")? {
-        CERTAINTY_TEXT => Some(ExitBy::Certainty),
-        DELIVERY_TEXT => Some(ExitBy::Delivery),
-        _ => None,
+fn exit_by_of(r: &mut Reader<'_, '_>) -> ExitBy {
+    let text = r.text("exit-by");
+    if text == DELIVERY_TEXT {
+        return ExitBy::Delivery;
     }
+    if text != CERTAINTY_TEXT {
+        r.lacks = true;
+    }
+    ExitBy::Certainty
 }
 
-fn notes_of(m: &ArgMatches<'_>) -> Option<NoteArguments> {
-    Some(NoteArguments {
-        exit_by: exit_by_of(m)?,
-        strict: m.get_flag("strict"),
-        tuned: m.get_flag("tuned"),
-        quiet: m.get_flag("quiet"),
-    })
+fn notes_of(r: &mut Reader<'_, '_>) -> NoteArguments {
+    NoteArguments {
+        exit_by: exit_by_of(r),
+        strict: r.flag("strict"),
+        tuned: r.flag("tuned"),
+        quiet: r.flag("quiet"),
+    }
 }
 
 /// N if every N-th frame has a line, or 0 if each frame has one.
@@ -138,230 +207,241 @@ fn every_of(m: &ArgMatches<'_>) -> u32 {
     m.get_one::<u32>("every").unwrap_or(0)
 }
 
-fn records_of<'a>(m: &ArgMatches<'a>) -> RecordArguments<'a> {
+fn records_of<'a>(r: &mut Reader<'_, 'a>) -> RecordArguments<'a> {
     RecordArguments {
-        certificates: m.get_str("certificates"),
-        values: m.get_str("values"),
-        codewords: m.get_str("codewords"),
-        bbframes: m.get_str("bbframes"),
+        certificates: r.given("certificates"),
+        values: r.given("values"),
+        codewords: r.given("codewords"),
+        bbframes: r.given("bbframes"),
     }
 }
 
 /// The records of a transmitter.
-fn sent_records_of<'a>(m: &ArgMatches<'a>) -> RecordArguments<'a> {
+fn sent_records_of<'a>(r: &mut Reader<'_, 'a>) -> RecordArguments<'a> {
     RecordArguments {
         certificates: None,
         values: None,
-        codewords: m.get_str("codewords"),
-        bbframes: m.get_str("bbframes"),
+        codewords: r.given("codewords"),
+        bbframes: r.given("bbframes"),
     }
 }
 
-fn progress_of(m: &ArgMatches<'_>) -> Progress {
-    progress_by(m.get_flag("progress"), m.get_flag("quiet"))
+fn progress_of(r: &mut Reader<'_, '_>) -> Progress {
+    progress_by(r.flag("progress"), r.flag("quiet"))
 }
 
-fn rows_of<'a>(m: &ArgMatches<'a>) -> Option<Request<'a>> {
+fn rows_of<'a>(r: &mut Reader<'_, 'a>) -> Option<Request<'a>> {
     Some(Request::Rows(RowsArguments {
-        shape: shape_of(m)?,
-        weight: m.get_one::<u8>("weight")?,
-        seed: m.get_one::<u64>("seed")?,
+        shape: shape_of(r),
+        weight: r.weight(),
+        seed: r.seed(),
     }))
 }
 
-fn table_of<'a>(m: &ArgMatches<'a>) -> Option<Request<'a>> {
+fn table_of<'a>(r: &mut Reader<'_, 'a>) -> Option<Request<'a>> {
     Some(Request::Table(TableArguments {
-        modcod: read_modcod(m.get_str("modcod")?)?,
-        short: m.get_flag("short"),
-        quiet: m.get_flag("quiet"),
-        rows: m.get_str("ROWS")?,
+        modcod: r.modcod(),
+        short: r.flag("short"),
+        quiet: r.flag("quiet"),
+        rows: r.text("ROWS"),
     }))
 }
 
-fn rate_of(m: &ArgMatches<'_>) -> Option<Option<SymbolRate>> {
-    match m.get_str("rate") {
-        Some(text) => SymbolRate::read(text).map(Some),
-        None => Some(None),
+fn rate_of(r: &mut Reader<'_, '_>) -> Option<SymbolRate> {
+    let rate = SymbolRate::read(r.given("rate")?);
+    if rate.is_none() {
+        r.lacks = true;
     }
+    rate
 }
 
-fn mode_of(m: &ArgMatches<'_>) -> Option<Option<(u8, bool)>> {
-    match m.get_str("modcod") {
-        Some(text) => read_modcod(text).map(|modcod| Some((modcod, m.get_flag("short")))),
-        None => Some(None),
+fn mode_of(r: &mut Reader<'_, '_>) -> Option<(u8, bool)> {
+    if r.given("modcod").is_none() {
+        return None;
     }
+    Some((r.modcod(), r.flag("short")))
 }
 
-fn modes_of<'a>(m: &ArgMatches<'a>) -> Option<Request<'a>> {
+fn modes_of<'a>(r: &mut Reader<'_, 'a>) -> Option<Request<'a>> {
     Some(Request::Modes(ModesArguments {
-        rate: rate_of(m)?,
-        mode: mode_of(m)?,
+        rate: rate_of(r),
+        mode: mode_of(r),
     }))
 }
 
-fn judge_of<'a>(m: &ArgMatches<'a>) -> Option<Request<'a>> {
+fn judge_of<'a>(r: &mut Reader<'_, 'a>) -> Option<Request<'a>> {
     Some(Request::Judge(JudgeArguments {
-        code: code_of(m)?,
-        each: m.get_flag("each"),
-        hard: m.get_flag("hard"),
-        quiet: m.get_flag("quiet"),
-        passes: m.get_one::<u32>("passes")?,
-        factor: m.get_one::<u32>("factor")?,
-        uncertified: m.get_flag("uncertified"),
-        certificate: m.get_str("cert"),
-        rows: m.get_str("ROWS")?,
-        soft: m.get_str("SOFT")?,
+        code: code_of(r),
+        each: r.flag("each"),
+        hard: r.flag("hard"),
+        quiet: r.flag("quiet"),
+        passes: r.number("passes"),
+        factor: r.number("factor"),
+        uncertified: r.flag("uncertified"),
+        certificate: r.given("cert"),
+        rows: r.text("ROWS"),
+        soft: r.text("SOFT"),
     }))
 }
 
-fn check_of<'a>(m: &ArgMatches<'a>) -> Option<Request<'a>> {
+fn check_of<'a>(r: &mut Reader<'_, 'a>) -> Option<Request<'a>> {
     Some(Request::Check(CheckArguments {
-        each: m.get_flag("each"),
-        rows: m.get_str("ROWS")?,
-        certificate: m.get_str("CERT")?,
+        each: r.flag("each"),
+        rows: r.text("ROWS"),
+        certificate: r.text("CERT"),
     }))
 }
 
 /// The form of the words. The parser refuses both options at once.
-fn words_form_of(m: &ArgMatches<'_>) -> WordsArguments {
-    match (m.get_flag("bbframes"), m.get_flag("bits")) {
+fn words_form_of(r: &mut Reader<'_, '_>) -> WordsArguments {
+    match (r.flag("bbframes"), r.flag("bits")) {
         (true, _) => WordsArguments::Bbframes,
         (false, true) => WordsArguments::Digits,
         (false, false) => WordsArguments::Bytes,
     }
 }
 
-fn compare_of<'a>(m: &ArgMatches<'a>) -> Option<Request<'a>> {
+fn compare_of<'a>(r: &mut Reader<'_, 'a>) -> Option<Request<'a>> {
     Some(Request::Compare(CompareArguments {
-        code: code_of(m)?,
-        form: words_form_of(m),
-        rows: m.get_str("ROWS")?,
-        certificates: m.get_str("CERTIFICATES")?,
-        words: m.get_str("WORDS")?,
+        code: code_of(r),
+        form: words_form_of(r),
+        rows: r.text("ROWS"),
+        certificates: r.text("CERTIFICATES"),
+        words: r.text("WORDS"),
     }))
 }
 
-fn mod_of<'a>(m: &ArgMatches<'a>) -> Option<Request<'a>> {
+fn mod_of<'a>(r: &mut Reader<'_, 'a>) -> Option<Request<'a>> {
     Some(Request::Mod(ModArguments {
-        link: link_of(m)?,
-        dummy: m.get_one::<u16>("dummy")?,
-        resync: m.get_flag("resync"),
-        quiet: m.get_flag("quiet"),
-        progress: progress_of(m),
-        records: sent_records_of(m),
-        rows: m.get_str("ROWS")?,
-        packets: m.get_str("PACKETS")?,
-        symbols: m.get_str("SYMBOLS")?,
+        link: link_of(r),
+        dummy: r.small("dummy"),
+        resync: r.flag("resync"),
+        quiet: r.flag("quiet"),
+        progress: progress_of(r),
+        records: sent_records_of(r),
+        rows: r.text("ROWS"),
+        packets: r.text("PACKETS"),
+        symbols: r.text("SYMBOLS"),
     }))
 }
 
-fn noise_of<'a>(m: &ArgMatches<'a>) -> Option<Request<'a>> {
+fn noise_of<'a>(r: &mut Reader<'_, 'a>) -> Option<Request<'a>> {
     Some(Request::Noise(NoiseArguments {
-        channel: channel_of(m)?,
-        progress: progress_of(m),
-        from: m.get_str("IN")?,
-        to: m.get_str("OUT")?,
+        channel: channel_of(r),
+        progress: progress_of(r),
+        from: r.text("IN"),
+        to: r.text("OUT"),
     }))
 }
 
-fn demod_of<'a>(m: &ArgMatches<'a>) -> Option<Request<'a>> {
+fn demod_of<'a>(r: &mut Reader<'_, 'a>) -> Option<Request<'a>> {
     Some(Request::Demod(DemodArguments {
-        link: link_of(m)?,
-        tuning: tuning_of(m)?,
-        notes: notes_of(m)?,
-        every: every_of(m),
-        progress: progress_of(m),
-        records: records_of(m),
-        rows: m.get_str("ROWS")?,
-        symbols: m.get_str("SYMBOLS")?,
-        packets: m.get_str("PACKETS")?,
+        link: link_of(r),
+        tuning: tuning_of(r),
+        notes: notes_of(r),
+        every: every_of(r.matches),
+        progress: progress_of(r),
+        records: records_of(r),
+        rows: r.text("ROWS"),
+        symbols: r.text("SYMBOLS"),
+        packets: r.text("PACKETS"),
     }))
 }
 
-fn run_of<'a>(m: &ArgMatches<'a>) -> Option<Request<'a>> {
-    let seeds = seeds_of(m)?;
+fn run_of<'a>(r: &mut Reader<'_, 'a>) -> Option<Request<'a>> {
+    let seeds = seeds_of(r);
     Some(Request::Run(RunArguments {
-        link: link_of(m)?,
-        dummy: m.get_one::<u16>("dummy")?,
-        resync: m.get_flag("resync"),
-        tuning: tuning_of(m)?,
-        channel: first_channel_of(m, seeds)?,
+        link: link_of(r),
+        dummy: r.small("dummy"),
+        resync: r.flag("resync"),
+        tuning: tuning_of(r),
+        channel: first_channel_of(r, seeds),
         seeds,
-        notes: notes_of(m)?,
-        every: every_of(m),
-        progress: progress_of(m),
-        records: records_of(m),
-        rows: m.get_str("ROWS")?,
-        packets: m.get_str("PACKETS")?,
-        to: m.get_str("OUT")?,
+        notes: notes_of(r),
+        every: every_of(r.matches),
+        progress: progress_of(r),
+        records: records_of(r),
+        rows: r.text("ROWS"),
+        packets: r.text("PACKETS"),
+        to: r.text("OUT"),
     }))
 }
 
-fn scan_of<'a>(m: &ArgMatches<'a>) -> Option<Request<'a>> {
+fn scan_of<'a>(r: &mut Reader<'_, 'a>) -> Option<Request<'a>> {
     Some(Request::Scan(ScanArguments {
-        first: m.get_one::<u32>("first"),
-        progress: progress_of(m),
-        symbols: m.get_str("SYMBOLS")?,
+        first: r.matches.get_one::<u32>("first"),
+        progress: progress_of(r),
+        symbols: r.text("SYMBOLS"),
     }))
 }
 
-fn join_of<'a>(m: &ArgMatches<'a>) -> Option<Request<'a>> {
+fn join_of<'a>(r: &mut Reader<'_, 'a>) -> Option<Request<'a>> {
     Some(Request::Join(JoinArguments {
-        modcod: read_modcod(m.get_str("modcod")?)?,
-        short: m.get_flag("short"),
-        bbframes: m.get_str("BBFRAMES")?,
-        packets: m.get_str("PACKETS")?,
+        modcod: r.modcod(),
+        short: r.flag("short"),
+        bbframes: r.text("BBFRAMES"),
+        packets: r.text("PACKETS"),
     }))
 }
 
-fn audit_of<'a>(m: &ArgMatches<'a>) -> Option<Request<'a>> {
+fn audit_of<'a>(r: &mut Reader<'_, 'a>) -> Option<Request<'a>> {
     Some(Request::Audit(AuditArguments {
-        link: link_of(m)?,
-        divisor: number_of(m, "divisor")?,
-        tuned: m.get_flag("tuned"),
-        turns: m.get_flag("turns"),
-        equalize: m.get_flag("equalize"),
-        rows: m.get_str("ROWS")?,
-        symbols: m.get_str("SYMBOLS")?,
-        report: m.get_str("REPORT")?,
-        certificates: m.get_str("CERTIFICATES")?,
+        link: link_of(r),
+        divisor: number_of(r, "divisor"),
+        tuned: r.flag("tuned"),
+        turns: r.flag("turns"),
+        equalize: r.flag("equalize"),
+        rows: r.text("ROWS"),
+        symbols: r.text("SYMBOLS"),
+        report: r.text("REPORT"),
+        certificates: r.text("CERTIFICATES"),
     }))
 }
 
-fn request_of<'a>(name: &str, m: &ArgMatches<'a>) -> Option<Request<'a>> {
+/// The request of a command with this name.
+fn request_of<'a>(name: &str, r: &mut Reader<'_, 'a>) -> Option<Request<'a>> {
     match name {
-        "modes" => modes_of(m),
-        "rows" => rows_of(m),
-        "table" => table_of(m),
-        "judge" => judge_of(m),
-        "check" => check_of(m),
-        "mod" => mod_of(m),
-        "noise" => noise_of(m),
-        "demod" => demod_of(m),
-        "run" => run_of(m),
-        "scan" => scan_of(m),
-        "join" => join_of(m),
-        "audit" => audit_of(m),
-        "compare" => compare_of(m),
+        "modes" => modes_of(r),
+        "rows" => rows_of(r),
+        "table" => table_of(r),
+        "judge" => judge_of(r),
+        "check" => check_of(r),
+        "mod" => mod_of(r),
+        "noise" => noise_of(r),
+        "demod" => demod_of(r),
+        "run" => run_of(r),
+        "scan" => scan_of(r),
+        "join" => join_of(r),
+        "audit" => audit_of(r),
+        "compare" => compare_of(r),
         _ => None,
     }
 }
 
 /// The request of parsed arguments.
 fn request_in<'a>(alloc: Global, matches: &ArgMatches<'a>) -> Result<Request<'a>, Unread> {
-    match matches.subcommand() {
-        None => Ok(Request::Demo),
-        Some((name, inner)) => match request_of(name, inner) {
-            Some(request) => Ok(request),
-            None => Err(not_understood(alloc, name, inner)?),
-        },
+    let Some((name, inner)) = matches.subcommand() else {
+        return Ok(Request::Demo);
+    };
+    let mut reader = Reader {
+        matches: inner,
+        lacks: false,
+    };
+    match request_of(name, &mut reader) {
+        Some(request) if !reader.lacks => Ok(request),
+        _ => Err(not_understood(alloc, name, inner)?),
     }
+}
+
+/// The parsed arguments.
+fn matches_of<'a>(alloc: Global, arguments: &'a [String]) -> Result<ArgMatches<'a>, Error> {
+    program(alloc)?.try_get_matches_from(arguments)
 }
 
 /// The request of the command line, or why there is none. The parser accepts any text for a few values: it is a usage
 /// error too if one of these is invalid.
 pub fn parse_arguments<'a>(alloc: Global, arguments: &'a [String]) -> Result<Request<'a>, Unread> {
-    match program(alloc)?.try_get_matches_from(arguments) {
+    match matches_of(alloc, arguments) {
         Ok(matches) => request_in(alloc, &matches),
         Err(error) => Err(unread_of(alloc, arguments, error)?),
     }

@@ -14,6 +14,9 @@ use s2_mode::{MAX_MODCOD, Mode, Modulation};
 use s2_names::{Case, SymbolRate, constellation};
 use std::alloc::{AllocError, Global};
 
+/// What is said of arguments that nothing else describes.
+const NOT_UNDERSTOOD: &str = "the arguments are not understood";
+
 /// The command of this name.
 fn entry_of(name: &str) -> Option<CommandHelp> {
     for entry in commands() {
@@ -29,13 +32,18 @@ fn command_in(arguments: &[String]) -> Option<CommandHelp> {
     entry_of(arguments.get(1)?.as_str())
 }
 
+/// Appends texts in turn.
+fn push_all(text: &mut String, parts: &[&str]) -> Result<(), AllocError> {
+    for part in parts {
+        text.push_str(part)?;
+    }
+    Ok(())
+}
+
 /// Appends the end of a line: the command that prints the help of a command or of the program.
 fn push_way(text: &mut String, command: Option<CommandHelp>) -> Result<(), AllocError> {
     match command {
-        Some(entry) => {
-            let name = entry.name;
-            write!(text, "; see s2 {name} --help\n")
-        }
+        Some(entry) => push_all(text, &["; see s2 ", entry.name, " --help\n"]),
         None => text.push_str("; see s2 --help\n"),
     }
 }
@@ -47,6 +55,12 @@ fn push_word(text: &mut String, word: &str) -> Result<(), AllocError> {
     } else {
         text.push_str(word)
     }
+}
+
+/// Appends an argument, and what is said of it.
+fn push_said(text: &mut String, word: &str, said: &str) -> Result<(), AllocError> {
+    push_word(text, word)?;
+    text.push_str(said)
 }
 
 /// Appends the numbers or names that a parser accepts.
@@ -95,10 +109,8 @@ fn bare(option: &str) -> &str {
 
 /// Appends that an option does not accept a value.
 fn push_refused(text: &mut String, option: &str, value: &str) -> Result<(), AllocError> {
-    text.push_str(bare(option))?;
-    text.push_str(": ")?;
-    push_word(text, value)?;
-    text.push_str(" is not ")
+    push_all(text, &[bare(option), ": "])?;
+    push_said(text, value, " is not ")
 }
 
 /// Appends that a word is neither an option nor a file.
@@ -107,21 +119,42 @@ fn push_unknown(
     command: Option<CommandHelp>,
     word: &str,
 ) -> Result<(), AllocError> {
-    push_word(text, word)?;
     if !word.starts_with('-') {
-        return text.push_str(" is an unexpected argument");
+        return push_said(text, word, " is an unexpected argument");
     }
-    text.push_str(" is not an option of ")?;
+    push_said(text, word, " is not an option of ")?;
+    text.push_str(name_of(command))
+}
+
+/// The name of a command, or that of the program.
+fn name_of(command: Option<CommandHelp>) -> &'static str {
     match command {
-        Some(entry) => text.push_str(entry.name),
-        None => text.push_str("s2"),
+        Some(entry) => entry.name,
+        None => "s2",
     }
 }
 
-/// Appends lines of names, with commas between them.
-fn push_lines(alloc: Global, text: &mut String, lines: &str) -> Result<(), AllocError> {
+/// Appends words, and lines of names with commas between them.
+fn push_lines(
+    alloc: Global,
+    text: &mut String,
+    words: &[&str],
+    lines: &str,
+) -> Result<(), AllocError> {
     let names = lines.replace(alloc, "\n  ", ", ")?;
+    push_all(text, words)?;
     text.push_str(names.as_str())
+}
+
+/// Appends that an option does not accept a value, and which values it accepts.
+fn push_not_accepted(
+    text: &mut String,
+    command: Option<CommandHelp>,
+    option: &str,
+    value: &str,
+) -> Result<(), AllocError> {
+    push_refused(text, option, value)?;
+    push_accepted(text, parser_of(command, option))
 }
 
 /// Appends a description of a mistake.
@@ -133,28 +166,15 @@ fn push_misuse(
 ) -> Result<(), AllocError> {
     match misuse {
         Misuse::Unknown(word) => push_unknown(text, command, word),
-        Misuse::NoCommand(word) => {
-            push_word(text, word)?;
-            text.push_str(" is not a command")
-        }
-        Misuse::Missing(lines) => {
-            text.push_str("missing: ")?;
-            push_lines(alloc, text, lines)
-        }
-        Misuse::Twice(option) => write!(text, "{option} is given twice"),
+        Misuse::NoCommand(word) => push_said(text, word, " is not a command"),
+        Misuse::Missing(lines) => push_lines(alloc, text, &["missing: "], lines),
+        Misuse::Twice(option) => push_all(text, &[option, " is given twice"]),
         Misuse::Excluded(option, others) => {
-            write!(text, "{option} cannot be used with ")?;
-            push_lines(alloc, text, others)
+            push_lines(alloc, text, &[option, " cannot be used with "], others)
         }
-        Misuse::TakesNone(option) => write!(text, "{option} takes no value"),
-        Misuse::LacksValue(option) => {
-            let name = bare(option);
-            write!(text, "{name}: the value is missing")
-        }
-        Misuse::Refused { option, value } => {
-            push_refused(text, option, value)?;
-            push_accepted(text, parser_of(command, option))
-        }
+        Misuse::TakesNone(option) => push_all(text, &[option, " takes no value"]),
+        Misuse::LacksValue(option) => push_all(text, &[bare(option), ": the value is missing"]),
+        Misuse::Refused { option, value } => push_not_accepted(text, command, option, value),
     }
 }
 
@@ -190,6 +210,20 @@ fn mistake_of<'t>(arguments: &[String], kind: ErrorKind, told: &'t str) -> Optio
     }
 }
 
+/// Appends a description of an error of clap.
+fn push_fault(
+    alloc: Global,
+    text: &mut String,
+    arguments: &[String],
+    kind: ErrorKind,
+    told: &str,
+) -> Result<(), AllocError> {
+    match mistake_of(arguments, kind, told) {
+        Some(misuse) => push_misuse(alloc, text, command_in(arguments), misuse),
+        None => text.push_str(kind.as_str().unwrap_or(NOT_UNDERSTOOD)),
+    }
+}
+
 /// The line of a usage error, from the kind and the text of clap's error.
 fn fault_line(
     alloc: Global,
@@ -197,13 +231,9 @@ fn fault_line(
     kind: ErrorKind,
     told: &str,
 ) -> Result<String, AllocError> {
-    let command = command_in(arguments);
     let mut text = String::from_str(alloc, "s2: ")?;
-    match mistake_of(arguments, kind, told) {
-        Some(misuse) => push_misuse(alloc, &mut text, command, misuse)?,
-        None => text.push_str(kind.as_str().unwrap_or("the arguments are not understood"))?,
-    }
-    push_way(&mut text, command)?;
+    push_fault(alloc, &mut text, arguments, kind, told)?;
+    push_way(&mut text, command_in(arguments))?;
     Ok(text)
 }
 
@@ -320,15 +350,18 @@ fn refused_in<'a>(m: &ArgMatches<'a>) -> Option<Refused<'a>> {
     ))
 }
 
+/// Appends that an option does not accept its value, and what it accepts.
+fn push_said_of(text: &mut String, refused: Refused<'_>) -> Result<(), AllocError> {
+    push_refused(text, refused.option, refused.value)?;
+    text.push_str(refused.accepted)
+}
+
 /// The line for the first invalid value.
 fn refused_line(alloc: Global, name: &str, m: &ArgMatches<'_>) -> Result<String, AllocError> {
     let mut text = String::from_str(alloc, "s2: ")?;
     match refused_in(m) {
-        Some(refused) => {
-            push_refused(&mut text, refused.option, refused.value)?;
-            text.push_str(refused.accepted)?;
-        }
-        None => text.push_str("the arguments are not understood")?,
+        Some(refused) => push_said_of(&mut text, refused)?,
+        None => text.push_str(NOT_UNDERSTOOD)?,
     }
     push_way(&mut text, entry_of(name))?;
     Ok(text)
@@ -351,8 +384,7 @@ pub(crate) fn not_understood(
 /// The usage error of an argument that is not text.
 pub fn not_text(alloc: Global, argument: &str) -> Result<Unread, AllocError> {
     let mut text = String::from_str(alloc, "s2: ")?;
-    push_word(&mut text, argument)?;
-    text.push_str(" is not valid UTF-8")?;
+    push_said(&mut text, argument, " is not valid UTF-8")?;
     push_way(&mut text, None)?;
     Ok(Unread::Fault(text))
 }
