@@ -124,11 +124,14 @@ fn exit_by_of(m: &ArgMatches<'_>) -> Option<ExitBy> {
     }
 }
 
-fn notes_of(m: &ArgMatches<'_>) -> Option<NoteArguments> {
+/// `slips` says whether the carrier of these symbols may have slipped.
+fn notes_of(m: &ArgMatches<'_>, slips: bool) -> Option<NoteArguments> {
     Some(NoteArguments {
         exit_by: exit_by_of(m)?,
         strict: m.get_flag("strict"),
         tuned: m.get_flag("tuned"),
+        slips: slips && !m.get_flag("turns") && !m.get_flag("tuned"),
+        equalize: m.get_flag("equalize"),
         quiet: m.get_flag("quiet"),
     })
 }
@@ -268,7 +271,7 @@ fn demod_of<'a>(m: &ArgMatches<'a>) -> Option<Request<'a>> {
     Some(Request::Demod(DemodArguments {
         link: link_of(m)?,
         tuning: tuning_of(m)?,
-        notes: notes_of(m)?,
+        notes: notes_of(m, true)?,
         every: every_of(m),
         progress: progress_of(m),
         records: records_of(m),
@@ -287,7 +290,7 @@ fn run_of<'a>(m: &ArgMatches<'a>) -> Option<Request<'a>> {
         tuning: tuning_of(m)?,
         channel: first_channel_of(m, seeds)?,
         seeds,
-        notes: notes_of(m)?,
+        notes: notes_of(m, false)?,
         every: every_of(m),
         progress: progress_of(m),
         records: records_of(m),
