@@ -5,7 +5,7 @@ from dataclasses import dataclass, field
 
 from cases import audit, comparing, equalized, figured, links, listing, progress, records, rotations
 from cases.common import (
-    ANY, FINE, LINK, NO, PACKET, PAIR, STORED, STORED_CERTIFICATE, STORED_MOVED, TOY, TWO, UNDECODED, WANTED, Case, Rule, digest, ending, noted,
+    ANY, FINE, LINK, NO, PACKET, PAIR, SLIPPED, STORED, STORED_CERTIFICATE, STORED_MOVED, TOY, TWO, UNDECODED, WANTED, Case, Rule, digest, ending, noted,
 )  # fmt: skip
 from cases.drawn import gaussian, made_rows, spoilt
 from cases.judging import HARD_NOTE, LEFT
@@ -226,7 +226,8 @@ EVERY = {"": WELL, "--every 1": received(f"every 1\n{FIRST}{SUMS[0]}{SECOND}{SUM
 EVERY |= {"--every 2": received(f"every 2\n{SECOND}{SUMS[1]}{LAST}")} | {f"--every {count}": received(f"every {count}\n{LAST}") for count in (3, 2**32 - 1)}
 # If the second of two frames is not found.
 PASSED = ["8190 symbols skipped in 1 place, the first at 8190"]
-UNFOUND = received("frame 1 at 0 sole fixed 0\nend frames 1 delivered 1 packets 1 bad 0\n", FINE, PACKET, PASSED)
+UNFOUND = received("frame 1 at 0 sole fixed 0\nend frames 1 delivered 1 packets 1 bad 0\n", FINE, PACKET, [*PASSED, SLIPPED])
+UNFOUND_TURNED = received("frame 1 at 0 sole fixed 0\nend frames 1 delivered 1 packets 1 bad 0\n", FINE, PACKET, PASSED)
 
 
 def both(option, words, ends, channel, more):
@@ -300,7 +301,7 @@ def demod_effects(two, pilots):
         by_lock = {f"--lock {lock}": WELL if wrong <= lock else UNFOUND for lock in sorted({12, wrong - 1, wrong, 30, 40})}
         yield Effect("--lock", f"demod {LINK} {{}} made in out", {"": UNFOUND} | by_lock, {"reads": {"in": wrong_headers(two, wrong)}})
     for wrong in (20, 30, 40):
-        by_lock = {f"--lock {lock}": WELL if wrong <= lock else UNFOUND for lock in sorted({12, wrong - 1, wrong, 30, 40})}
+        by_lock = {f"--lock {lock}": WELL if wrong <= lock else UNFOUND_TURNED for lock in sorted({12, wrong - 1, wrong, 30, 40})}
         ends = {"": by_lock["--lock 30"]} | by_lock
         yield Effect("--lock", f"demod {LINK} --tuned {{}} made in out", ends, {"reads": {"in": rotations.scattered(two, wrong)}})
     # the second frame one quarter ahead
