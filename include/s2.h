@@ -54,16 +54,15 @@ enum s2_result {
     S2_BAD_ROLL_OFF = -11,    /* the roll-off is over 2 */
     S2_BAD_TUNING = -12,      /* a number of the tuning is out of its range */
     S2_BAD_OPTION = -13,      /* a member for 0 or 1 has another value, dummy_every is over 65535, or reserved is not 0 */
-    S2_NOT_DONE = -14,        /* `turns` and `equalize` are not in this version: they must be 0 */
-    S2_TOO_MANY = -15,        /* more was given than can be taken */
-    S2_TOO_SHORT = -16,       /* there is no room for all: *count has the length */
-    S2_NO_SYNC = -17,         /* a packet does not begin with 47 hexadecimal */
-    S2_CUT_PACKET = -18,      /* 1 to 187 bytes are left after the last packet */
-    S2_CLOSED = -19,          /* the stream was closed */
-    S2_FULL = -20,            /* the stream has 2^62 packets */
-    S2_BAD_SOFT = -21,        /* not n soft values, or one that is not -511 to 511 */
-    S2_BAD_CERTIFICATE = -22, /* the bytes are no certificate file */
-    S2_NONE_THERE = -23       /* there is none at this place, or none of this frame */
+    S2_TOO_MANY = -14,        /* more was given than can be taken */
+    S2_TOO_SHORT = -15,       /* there is no room for all: *count has the length */
+    S2_NO_SYNC = -16,         /* a packet does not begin with 47 hexadecimal */
+    S2_CUT_PACKET = -17,      /* 1 to 187 bytes are left after the last packet */
+    S2_CLOSED = -18,          /* the stream was closed */
+    S2_FULL = -19,            /* the stream has 2^62 packets */
+    S2_BAD_SOFT = -20,        /* not n soft values, or one that is not -511 to 511 */
+    S2_BAD_CERTIFICATE = -21, /* the bytes are no certificate file */
+    S2_NONE_THERE = -22       /* there is none at this place, or none of this frame */
 };
 
 /* Copies the text of a result, English, lower case, without a zero at its end; "unknown result" for another number. */
@@ -146,8 +145,8 @@ typedef struct s2_options {
     uint32_t tuned;             /* 1: the best numbers of the mode are the defaults */
     uint32_t uncertified;       /* 1: no search for certificates after min-sum; passes count as 0 */
     uint32_t figures;           /* 1: each frame has figures */
-    uint32_t turns;             /* 0 in this version */
-    uint32_t equalize;          /* 0 in this version */
+    uint32_t turns;             /* 1: also frames whose symbols are rotated by quarter turns; `tuned` turns it on */
+    uint32_t equalize;          /* 1: the gain of the channel is taken out of each frame before it is decided */
     uint32_t reserved[14];
 } s2_options;
 
@@ -190,7 +189,7 @@ typedef struct s2_step {
     uint32_t outcome;        /* of a frame: of enum s2_outcome */
     uint32_t fixed;          /* of a delivered frame: bits that the outer code changed */
     uint32_t has_figures;    /* 1: s2_receiver_figures has those of this frame */
-    uint32_t turn;           /* 0 in this version */
+    uint32_t turn;           /* of a frame: the quarter turns by which its symbols are rotated, 0 to 3 */
     uint32_t reserved0;
     uint64_t number;         /* of a frame: counted from 1 */
     uint64_t at;             /* of a frame or a cut one: its first symbol, counted from 0 */
@@ -215,7 +214,7 @@ typedef struct s2_totals {
 } s2_totals;
 
 /* A receiver on a code. Codes: S2_IN_USE (of `receiver`), S2_EMPTY, S2_OTHER_KIND (of `code`), S2_BAD_SIZE, S2_BAD_OPTION,
- * S2_NOT_DONE, S2_BAD_MODE, S2_OTHER_SHAPE, S2_BAD_SCRAMBLING, S2_BAD_ROLL_OFF, S2_BAD_TUNING, S2_NO_MEMORY: the first that applies. The
+ * S2_BAD_MODE, S2_OTHER_SHAPE, S2_BAD_SCRAMBLING, S2_BAD_ROLL_OFF, S2_BAD_TUNING, S2_NO_MEMORY: the first that applies. The
  * code may be ended before the receiver. */
 int32_t s2_receiver_new(s2_handle *code, const s2_options *options, s2_handle *receiver);
 

@@ -37,12 +37,12 @@ STANDARD = ("-", "/dev/stdout")
 CERTIFIED = ("sole", "most-likely")
 # The options of demod that are passed on, each with the name of its value if it has one.
 OPTIONS = {"modcod": "M", "short": None, "pilots": None, "number": "N", "ro": "R", "rounds": "K", "passes": "P", "uncertified": None}
-OPTIONS |= {"divisor": "D", "factor": "F", "lock": "H", "tuned": None, "figures": None, "exit-by": "BY"}
+OPTIONS |= {"divisor": "D", "factor": "F", "lock": "H", "turns": None, "equalize": None, "tuned": None, "figures": None, "exit-by": "BY"}
 FRAME = re.compile(rb"frame \d+ at (\d+) (([a-z-]+) (fixed \d+|lost).*)\n")
 CUT = re.compile(rb"cut at (\d+) symbols (\d+)\n")
 END = re.compile(rb"end frames (\d+) delivered (\d+) packets (\d+) bad (\d+)")
 # Those figures of a frame's line that the end line has sums of, and the greatest sum.
-FIGURES = rb" changed (\d+) rounds \d+ known (\d+) power (\d+) along -?\d+ across -?\d+ payload (\d+) power (\d+) along -?\d+ across -?\d+$"
+FIGURES = rb" changed (\d+) rounds \d+ known (\d+) power (\d+) along -?\d+ across -?\d+ payload (\d+) power (\d+) along -?\d+ across -?\d+(?: turn [123])?$"
 FIGURES = re.compile(FIGURES)
 GREATEST = (1 << 64) - 1
 SKIPPED_NOTE = re.compile(rb"s2: note: (\d+) symbols? skipped in (\d+) places?, the first at (\d+)\n")

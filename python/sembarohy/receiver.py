@@ -89,7 +89,8 @@ class Frame:
 
     `number` counts from 1, and `at` is its first symbol, counted from 0. `verdict` is one of `VERDICTS`. `outcome` is one of `OUTCOMES`, and
     `fixed` the number of bits that the outer code changed in a delivered frame, else None. `packets` are the bytes of the packets that end
-    in this frame. `figures` are its figures, or None if the receiver makes none.
+    in this frame. `figures` are its figures, or None if the receiver makes none. `turn` is the number of quarter turns by which its symbols are
+    rotated, 0 to 3.
 
     `soft`, `word`, `bbframe` and `certificate` are read from the receiver when they are first used, so use them before its next frame.
     A receiver that is made with `keep` reads them at once."""
@@ -101,6 +102,7 @@ class Frame:
         self.outcome: str = OUTCOMES[step.outcome]
         self.fixed: int | None = step.fixed if step.outcome == 0 else None
         self.packets, self.figures = packets, figures
+        self.turn: int = step.turn
         self._receiver, self._place, self._kept = receiver, place, {}  # type: Receiver, int, dict[str, Any]
 
     @property
@@ -131,7 +133,8 @@ class Frame:
     def __str__(self) -> str:
         """Its line in the report of `s2 demod`."""
         ending = "lost" if self.fixed is None else f"fixed {self.fixed}"
-        return f"frame {self.number} at {self.at} {self.verdict} {ending}{self.figures._words() if self.figures else ''}"
+        turn = f" turn {self.turn}" if self.turn else ""
+        return f"frame {self.number} at {self.at} {self.verdict} {ending}{self.figures._words() if self.figures else ''}{turn}"
 
     def __repr__(self) -> str:
         return f"<{self}>"
@@ -142,8 +145,9 @@ class Receiver(Held):
 
     The options are those of `s2 demod` (`docs/formats.md`). `mode` is a MODCOD or a name. `tuned` selects the numbers that were measured
     to be best for the mode; `rounds`, `passes`, `divisor`, `factor` and `max_header_errors` (`--lock`) win over them. `uncertified` skips
-    the search for certificates, `figures` measures each frame, `scrambling` is the number of the scrambling sequence. `keep` names records
-    that each frame reads at once, of `RECORDS`.
+    the search for certificates, and `figures` measures each frame. With `turns` frames are also received whose symbols are rotated by quarter
+    turns; `tuned` turns it on. `equalize` takes the gain of the channel out of each frame before it is decided. `scrambling` is the number of
+    the scrambling sequence. `keep` names records that each frame reads at once, of `RECORDS`.
 
     >>> code = Code.from_file("normal_3_4.rows", "qpsk3/4")
     >>> with Receiver(code, "qpsk3/4", pilots=True, tuned=True) as receiver:
@@ -166,14 +170,14 @@ class Receiver(Held):
         tuned: bool = False,
         uncertified: bool = False,
         figures: bool = False,
+        turns: bool = False,
+        equalize: bool = False,
         scrambling: int = 0,
         rounds: int | None = None,
         passes: int | None = None,
         divisor: int | None = None,
         factor: int | None = None,
         max_header_errors: int | None = None,
-        turns: int = 0,
-        equalize: int = 0,
         keep: Iterable[str] = (),
     ):
         super().__init__()

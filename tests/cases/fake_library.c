@@ -140,7 +140,6 @@ int32_t s2_code_facts(s2_handle *code, uint32_t *n, uint32_t *k, uint32_t *is_st
 static int32_t on_code(s2_handle *code, const s2_options *options, s2_handle *handle, int kind) {
     ENTER(code, CODE)
     if (options->size != sizeof *options) return leave(fake, S2_BAD_SIZE);
-    if (options->turns || options->equalize) return leave(fake, S2_NOT_DONE);
     if (options->modcod > 17 || (kind != JUDGE && !options->modcod)) return leave(fake, S2_BAD_MODE);
     if (options->scrambling > 262141) return leave(fake, S2_BAD_SCRAMBLING);
     if ((options->given & S2_GIVEN_ROUNDS) && (options->rounds < 1 || options->rounds > 200)) return leave(fake, S2_BAD_TUNING);

@@ -3,7 +3,7 @@
 import re
 from dataclasses import dataclass, field
 
-from cases import audit, comparing, figured, links, listing, progress, records
+from cases import audit, comparing, equalized, figured, links, listing, progress, records, rotations
 from cases.common import (
     ANY, FINE, LINK, NO, PACKET, PAIR, STORED, STORED_CERTIFICATE, STORED_MOVED, TOY, TWO, UNDECODED, WANTED, Case, Rule, digest, ending, noted,
 )  # fmt: skip
@@ -179,6 +179,13 @@ def audit_effects(two):
     yield Effect("--ro", f"audit {LINK} {{}} {files}", dict.fromkeys(("", "--ro 0", "--ro 1", "--ro 2"), fine), reads)
     yield Effect("--divisor", f"audit {LINK} {{}} {files}", by_default("--divisor", 4096, 8192, fine, other), reads)
     yield Effect("--tuned", f"audit {LINK} {{}} {files}", {"": fine, "--tuned": other, "--tuned --divisor 4096": fine}, reads)
+    # the same frames and their certificates, with the symbols of both frames ahead by quarters
+    half = len(two) // 2
+    ahead = {"reads": reads["reads"] | {"in": rotations.ahead(two[:half], 3) + rotations.ahead(two[half:], 1)}}
+    yield Effect("--turns", f"audit {LINK} {{}} {files}", {"": other, "--turns": fine, "--tuned --divisor 4096": fine}, ahead)
+    # the same frames with three times their amplitude, whose equalized symbols are those that were sent
+    faint = {"reads": reads["reads"] | {"in": equalized.through(two, 3)}}
+    yield Effect("--equalize", f"audit {LINK} {{}} {files}", {"": other, "--equalize": fine, "--equalize --turns": fine}, faint)
 
 
 def mod_effects(two, dummy):
@@ -295,6 +302,14 @@ def demod_effects(two, pilots):
         by_lock = {f"--lock {lock}": WELL if wrong <= lock else UNFOUND for lock in sorted({12, wrong - 1, wrong, 30, 40})}
         ends = {"": by_lock["--lock 30"]} | by_lock
         yield Effect("--lock", f"demod {LINK} --tuned {{}} made in out", ends, {"reads": {"in": wrong_headers(two, wrong)}})
+    # the second frame one quarter ahead
+    rotated = two[: len(two) // 2] + rotations.ahead(two[len(two) // 2 :], 1)
+    both_frames = received(TWO.replace("8190 sole fixed 0", "8190 sole fixed 0 turn 1"))
+    ends = {"": UNFOUND, "--turns": both_frames, "--turns --lock 40": both_frames}
+    yield Effect("--turns", f"demod {LINK} {{}} made in out", ends, {"reads": {"in": rotated}})
+    # frames with three times their amplitude, which are received either way; tests/cases/equalized.py has those that are not
+    ends = {"": WELL, "--equalize": WELL, "--equalize --turns": WELL}
+    yield Effect("--equalize", f"demod {LINK} {{}} made in out", ends, {"reads": {"in": equalized.through(two, 3)}})
     gap = ["100 symbols skipped in 1 place, the first at 16380"]
     ends = {"": received(TWO, notes=gap), "--strict": received(TWO, NO, notes=gap)}
     yield Effect("--strict", f"demod {LINK} {{}} made in out", ends, {"reads": {"in": two + bytes(400)}})
@@ -319,6 +334,10 @@ def run_effects(report, others):
     ends = {"--seeds 1..1": one, "--seeds 5..5": one, "--seeds 0..2": three, f"--seeds {2**64 - 3}..{2**64 - 1}": three}
     yield Effect("--seeds", f"run {LINK} --level 0 {{}} made packets out", ends)
     yield Effect("--every", f"run {LINK} --seed 1 --level 0 {{}} made packets out", EVERY)
+    # a channel without a gain
+    yield Effect("--equalize", f"run {LINK} --seed 1 --level 0 {{}} made packets out", dict.fromkeys(("", "--equalize"), WELL))
+    # a channel without slips
+    yield Effect("--turns", f"run {LINK} --seed 1 --level 0 {{}} made packets out", dict.fromkeys(("", "--turns"), WELL))
     yield Effect("--seed", f"{words} --level {NOISY[1]} {{}} made packets out", each("--seed", (NOISY[0], 15), (usual, other)))
     yield Effect("--pilots", f"run {LINK} --seed 1 --level 0 {{}} made packets out", {"": WELL, "--pilots": received(TWO.replace("8190", "8370"))})
     apart = received(TWO.replace("8190", "11520"))

@@ -88,8 +88,8 @@ static void wrong_options(s2_handle *code) {
     REFUSES(o.dummy_every = 65536, S2_BAD_OPTION);
     REFUSES(o.given = 32, S2_BAD_OPTION);
     REFUSES(o.reserved[13] = 1, S2_BAD_OPTION);
-    REFUSES(o.turns = 1, S2_NOT_DONE);
-    REFUSES(o.equalize = 1, S2_NOT_DONE);
+    REFUSES(o.turns = 2, S2_BAD_OPTION);
+    REFUSES(o.equalize = 2, S2_BAD_OPTION);
     REFUSES(o.is_short = 1, S2_OTHER_SHAPE);
     REFUSES(o.modcod = 6, S2_OTHER_SHAPE);
     REFUSES(o.scrambling = 262142, S2_BAD_SCRAMBLING);

@@ -10,6 +10,7 @@ use Rattle.s2_console.specs.declared.fault.Fault.TheVariants as faults
 use Rattle.s2_link.specs.Link.{Link, link_of}
 use Rattle.s2_link.specs.declared.setup.Setup.{Setup}
 use Rattle.s2_inputs.specs.Inputs.{rows_in}
+use Rattle.s2_audit.specs.declared.demodulation.Demodulation.{Demodulation}
 use Rattle.s2_audit.specs.Auditing.{ReachesLimit}
 use Rattle.s2_audit.specs.Commands.{AuditExits, AuditRuns, AuditsLink, Causes, Files}
 use Rattle.std.specs.Io.KnownBytes.{Appends}
@@ -17,14 +18,14 @@ use Rattle.s2_console.specs.Faults.{fault_line}
 use Rattle.s2_console.specs.Exits.{Complains, exit_of}
 use Rattle.s2_console.specs.Screens.{Screen}
 
-pub on_rows : (setup : Setup) (divisor : ℕ) (old new : Files) (o o' : Option (List ℕ)) (result : Result Exit Fault) (shape : Shape) (link : Link) (rows : Rows)
+pub on_rows : (setup : Setup) (how : Demodulation) (old new : Files) (o o' : Option (List ℕ)) (result : Result Exit Fault) (shape : Shape) (link : Link) (rows : Rows)
     → shape ≡ shape_in setup.mode → link ≡ link_of setup rows → IfSome old.rows (λ xs. rows_in shape xs ≡ Ok rows)
-    → AuditsLink link divisor old.report new.report old.evidence new.evidence o o' result → AuditRuns setup divisor old new o o' result
-on_rows setup divisor old new o o' result shape link rows is made read h =
+    → AuditsLink link how old.report new.report old.evidence new.evidence o o' result → AuditRuns setup how old new o o' result
+on_rows setup how old new o o' result shape link rows is made read h =
     inr (
       rows,
       subst (λ (s : Shape). IfSome old.rows (λ xs. rows_in s xs ≡ Ok rows)) is read,
-      subst (λ (l : Link). AuditsLink l divisor old.report new.report old.evidence new.evidence o o' result) made h,
+      subst (λ (l : Link). AuditsLink l how old.report new.report old.evidence new.evidence o o' result) made h,
     )
 
 pub causes : (ended : Result Exit Fault) (r r' : Option (List ℕ)) (a b c d : ℕ) → (ended ≡ Err faults.Read → (b ≡ a + 1) ⊎ ReachesLimit r r') → (ended ≢ Err faults.Read → b ≡ a) → (ended ≡ Err faults.Write → d ≡ c + 1) → (ended ≢ Err faults.Write → d ≡ c) → Causes ended r r' a b c d
@@ -46,16 +47,16 @@ complains_from : (ended : Result Exit Fault) (between old new : Screen) → betw
 complains_from (Ok exit) between old new same kept (failed, errors) = (failed ∙ kept, errors ∙ same)
 complains_from (Err f) between old new same kept told = λ e. subst (λ o. Appends o new.errors (fault_line f)) same (told (e ∙ sym kept))
 
-pub ran : (setup : Setup) (divisor : ℕ) (old new : Files) (before after between screen_old screen_new : Screen) (ended : Result Exit Fault) (exit : Exit)
+pub ran : (setup : Setup) (how : Demodulation) (old new : Files) (before after between screen_old screen_new : Screen) (ended : Result Exit Fault) (exit : Exit)
     → before.output ≡ screen_old.output → before.output_failed ≡ screen_old.output_failed → after.output ≡ screen_new.output → after.output_failed ≡ screen_new.output_failed
     → between.errors ≡ screen_old.errors → between.errors_failed ≡ screen_old.errors_failed
-    → exit ≡ exit_of ended → AuditRuns setup divisor old new before.output after.output ended
+    → exit ≡ exit_of ended → AuditRuns setup how old new before.output after.output ended
     → (ended ≡ Err faults.Read → (new.failed ≡ old.failed + 1) ⊎ ReachesLimit old.report new.report) → (ended ≢ Err faults.Read → new.failed ≡ old.failed) → (ended ≡ Err faults.Write → after.output_failed ≡ before.output_failed + 1) → (ended ≢ Err faults.Write → after.output_failed ≡ before.output_failed)
-    → Complains ended between screen_new → AuditExits setup divisor old new screen_old screen_new exit
-ran setup divisor old new before after between screen_old screen_new ended exit out count out' count' same kept is runs read no_read write no_write told = (
+    → Complains ended between screen_new → AuditExits setup how old new screen_old screen_new exit
+ran setup how old new before after between screen_old screen_new ended exit out count out' count' same kept is runs read no_read write no_write told = (
   ended,
   is,
-  subst (λ o. AuditRuns setup divisor old new o screen_new.output ended) out (subst (λ o. AuditRuns setup divisor old new before.output o ended) out' runs),
+  subst (λ o. AuditRuns setup how old new o screen_new.output ended) out (subst (λ o. AuditRuns setup how old new before.output o ended) out' runs),
   subst (λ n. Causes ended old.report new.report old.failed new.failed n screen_new.output_failed) count (subst (λ n. Causes ended old.report new.report old.failed new.failed before.output_failed n) count' (causes ended old.report new.report old.failed new.failed before.output_failed after.output_failed read no_read write no_write)),
   complains_from ended between screen_old screen_new same kept told,
 )

@@ -1,30 +1,41 @@
 -- The soft values of a frame of a recording (EN 302 307-1, 5.4 and 5.5).
-use Rattle.std.specs.Prelude.{◌≡◌, ◌⊎◌, ℕ, ◌+◌, ◌-◌, ◌*◌, ◌<◌, ◌≤◌, Bool, true, false, List, ◌++◌, length, take, Option, ℤ}
+use Rattle.std.specs.Prelude.{◌≡◌, ◌⊎◌, ℕ, ◌+◌, ◌-◌, ◌*◌, ◌<◌, ◌≤◌, Bool, true, false, List, ◌++◌, length, take, Option, ℤ, if◌then◌else◌}
 use Rattle.std.specs.Io.KnownBytes.{Consumes, IsAtEnd}
 use Rattle.s2_mode.specs.Mode.{Mode, n_of, slots_of, symbols_in}
 use Rattle.s2_rows.specs.Rows.{Rows}
 use Rattle.s2_link.specs.Link.{Link}
 use Rattle.s2_mode.specs.Symbols.{symbols_of}
+use Rattle.s2_mode.specs.declared.symbols.Symbol.{Symbol}
 use Rattle.s2_plframe.specs.Payload.{received_payload}
+use Rattle.s2_plframe.specs.Turns.{derotated}
+use Rattle.s2_equalize.specs.Wanted.{levelled}
+use Rattle.s2_audit.specs.declared.demodulation.Demodulation.{Demodulation}
 use Rattle.s2_soft.specs.Soft.{soft_values}
 use Rattle.s2_audit.specs.Limits.{certificate_bytes, frame_bytes}
 use Rattle.s2_audit.specs.Reading.{EndsBefore}
 
--- the rows and the mode of a link, its scrambling number, and a divisor of soft values
+-- the rows and the mode of a link, its scrambling number, a divisor of soft values, whether frames that arrived rotated are
+-- rotated back
 pub record Terms : Type 0 where
   pub rows : Rows
   pub mode : Mode
   pub number : ℕ
   pub divisor : ℕ
+  pub turns : Bool
+  pub equalize : Bool
 
 -- those of a link
-abbrev pub terms_of : Link → ℕ → Terms
-terms_of link divisor =
-    record { rows = link.rows; mode = link.setup.mode; number = link.setup.number; divisor = divisor }
+abbrev pub terms_of : Link → Demodulation → Terms
+terms_of link how =
+    record { rows = link.rows; mode = link.setup.mode; number = link.setup.number; divisor = how.divisor; turns = how.turns; equalize = how.equalize }
+
+-- the symbols that were decided: a frame's, rotated back by its rotation or not
+abbrev pub upright : Mode → Bool → List Symbol → List Symbol
+upright m turns symbols = if turns then derotated m symbols else symbols
 
 -- the soft values of the codeword of a frame, by the bytes of its symbols
 abbrev pub frame_soft : Terms → List ℕ → List ℤ
-frame_soft t bytes = soft_values t.divisor t.mode (received_payload t.mode t.number (symbols_of bytes))
+frame_soft t bytes = soft_values t.divisor t.mode (received_payload t.mode t.number (levelled t.mode t.number t.equalize (upright t.mode t.turns (symbols_of bytes))))
 
 -- the state of an audit: its options, the number of symbols read, the soft values of the last frame, and the bytes of
 -- the last certificate

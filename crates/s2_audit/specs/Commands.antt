@@ -12,6 +12,7 @@ use Rattle.s2_link.specs.Link.{Link, link_of}
 use Rattle.s2_link.specs.declared.setup.Setup.{Setup}
 use Rattle.s2_inputs.specs.Inputs.{rows_in}
 use Rattle.s2_audit.specs.Auditors.{terms_of}
+use Rattle.s2_audit.specs.declared.demodulation.Demodulation.{Demodulation}
 use Rattle.s2_audit.specs.Outcomes.{Evidence}
 use Rattle.s2_audit.specs.Auditing.{AuditsToEnd, ReachesLimit}
 
@@ -36,9 +37,9 @@ abbrev pub LacksMemory : Option (List ℕ) → Option (List ℕ) → Result Exit
 LacksMemory out out_new result = (result ≡ Err faults.NoMemory) × (out_new ≡ out)
 
 -- the report was audited on a link
-abbrev pub AuditsLink : Link → (divisor : ℕ) → Option (List ℕ) → Option (List ℕ) → Evidence → Evidence → Option (List ℕ) → Option (List ℕ) → Result Exit Fault → Type 0
-AuditsLink link divisor report report_new old new out out_new result =
-    LacksMemory out out_new result ⊎ AuditsToEnd (terms_of link divisor) report report_new old new out out_new result
+abbrev pub AuditsLink : Link → (how : Demodulation) → Option (List ℕ) → Option (List ℕ) → Evidence → Evidence → Option (List ℕ) → Option (List ℕ) → Result Exit Fault → Type 0
+AuditsLink link how report report_new old new out out_new result =
+    LacksMemory out out_new result ⊎ AuditsToEnd (terms_of link how) report report_new old new out out_new result
 
 -- the rows are refused, memory ran out or a read failed, and nothing is printed
 abbrev pub RefusesRows : Setup → Option (List ℕ) → Option (List ℕ) → Option (List ℕ) → Result Exit Fault → Type 0
@@ -46,10 +47,10 @@ RefusesRows setup rows out out_new result =
     (f : Fault) × (result ≡ Err f) × IfSome rows (λ xs. Follows (λ (m : Rows). m) (Err f) (rows_in (shape_in setup.mode) xs)) × (out_new ≡ out)
 
 -- The rows are read, and the report is audited under them. Or the rows are refused
-abbrev pub AuditRuns : Setup → (divisor : ℕ) → Files → Files → Option (List ℕ) → Option (List ℕ) → Result Exit Fault → Type 0
-AuditRuns setup divisor old new out out_new result =
+abbrev pub AuditRuns : Setup → (how : Demodulation) → Files → Files → Option (List ℕ) → Option (List ℕ) → Result Exit Fault → Type 0
+AuditRuns setup how old new out out_new result =
     RefusesRows setup old.rows out out_new result
-    ⊎ ((rows : Rows) × IfSome old.rows (λ xs. rows_in (shape_in setup.mode) xs ≡ Ok rows) × AuditsLink (link_of setup rows) divisor old.report new.report old.evidence new.evidence out out_new result)
+    ⊎ ((rows : Rows) × IfSome old.rows (λ xs. rows_in (shape_in setup.mode) xs ≡ Ok rows) × AuditsLink (link_of setup rows) how old.report new.report old.evidence new.evidence out out_new result)
 
 -- Only failed calls were counted, and their fault is reported. If a read fault is reported, a read failed, or
 -- the maximum number of lines was read
@@ -59,7 +60,7 @@ pub record Causes (ended : Result Exit Fault) (report report_new : Option (List 
 
 -- `audit` has ended with this exit: so it ran on its files and its output, only failed calls were counted, and the line
 -- of a fault is on the errors
-abbrev pub AuditExits : Setup → (divisor : ℕ) → Files → Files → Screen → Screen → Exit → Type 0
-AuditExits setup divisor old new screen_old screen_new exit =
-    (ended : Result Exit Fault) × (exit ≡ exit_of ended) × AuditRuns setup divisor old new screen_old.output screen_new.output ended
+abbrev pub AuditExits : Setup → (how : Demodulation) → Files → Files → Screen → Screen → Exit → Type 0
+AuditExits setup how old new screen_old screen_new exit =
+    (ended : Result Exit Fault) × (exit ≡ exit_of ended) × AuditRuns setup how old new screen_old.output screen_new.output ended
     × Causes ended old.report new.report old.failed new.failed screen_old.output_failed screen_new.output_failed × Complains ended screen_old screen_new

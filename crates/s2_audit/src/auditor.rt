@@ -1,23 +1,26 @@
 //! Reads frames of a recording, and finds the soft values of their codewords.
-ghost use Rattle.std.specs.Prelude.{◌≡◌, ◌*◌, ◌+◌, ◌<◌, length, IfOk, IsOkUnless};
+ghost use Rattle.std.specs.Prelude.{◌≡◌, ◌*◌, ◌+◌, ◌<◌, ◌≤◌, length, IfOk, IsOkUnless};
 ghost use Rattle.s2_mode.specs.Counts.{CanCount, CountsFault};
-ghost use Rattle.s2_mode.specs.Limits.{max_symbols};
+ghost use Rattle.s2_mode.specs.Limits.{header_symbols, max_symbols};
 ghost use Rattle.s2_mode.specs.Mode.{n_of, slots_of, symbols_in};
 ghost use Rattle.s2_mode.specs.Symbols.{symbols_of};
 ghost use Rattle.s2_plframe.specs.Payload.{received_payload};
+ghost use Rattle.s2_equalize.specs.Wanted.{equalizer_by, levelled};
 ghost use Rattle.s2_soft.specs.Soft.{soft_values};
-ghost use Rattle.s2_audit.specs.Auditors.{terms_of, FindsOrLacks, TakesBlock};
+ghost use Rattle.s2_audit.specs.Auditors.{terms_of, upright, FindsOrLacks, TakesBlock};
 ghost use Rattle.s2_audit.specs.Limits.{certificate_bytes, frame_bytes};
 ghost use Rattle.s2_audit.specs.Reading.{ReadsAt, SkipsBytes};
 ghost use Rattle.s2_audit.specs.Showing.{Finds};
 
+use crate::demodulation::Demodulation;
 use crate::judging::{Finding, judge_bytes};
 use s2_check::Verdict;
 use s2_console::Fault;
+use s2_equalize::FrameEqualizer;
 use s2_link::Link;
 use s2_matrix::Matrix;
 use s2_mode::{CountedRead, Mode, ReadFault, Symbol, read_full, symbols_into};
-use s2_plframe::payload_of;
+use s2_plframe::{derotate, payload_of};
 use s2_scramble::Gold;
 use s2_soft::{Divisor, soft_into};
 use std::alloc::{AllocError, Global};
@@ -84,6 +87,18 @@ fn read_at<R: CountedRead>(
     Ok(true)
 }
 
+/// Rotates a frame's symbols back, or leaves them unchanged.
+fn turn_back(mode: Mode, turns: bool, symbols: &mut [Symbol])
+    requires frame { length symbols.old ≡ symbols_in mode }
+    requires header { header_symbols ≤ length symbols.old }
+    ensures { symbols.new ≡ upright mode turns symbols.old }
+{
+    if !turns {
+        return;
+    }
+    let _turn = derotate(mode, symbols);
+}
+
 /// Writes the soft values of a frame's codeword, by the symbols of the frame.
 fn find_soft(
     mode: Mode,
@@ -107,24 +122,36 @@ fn find_soft(
 /// Writes the soft values of a frame's codeword, by the bytes of its symbols.
 fn find_by_bytes(
     mode: Mode,
-    divisor: Divisor,
+    how: Demodulation,
     gold: &Gold,
     bytes: &[u8],
+    equalizer: &mut FrameEqualizer,
     symbols: &mut [Symbol],
     payload: &mut [Symbol],
     soft: &mut [i16],
 )
+    requires equalizer { equalizer.old.equalizer ≡ equalizer_by how.equalize mode gold.now }
     requires bytes { length bytes.now ≡ frame_bytes mode }
     requires frame { length symbols.old ≡ symbols_in mode }
     requires payload { length payload.old ≡ 90 * slots_of mode }
     requires soft { length soft.old ≡ n_of mode }
-    ensures is { soft.new ≡ soft_values divisor mode (received_payload mode gold.now (symbols_of bytes.now)) }
+    ensures is { soft.new ≡ soft_values how.divisor mode (received_payload mode gold.now (levelled mode gold.now how.equalize (upright mode how.turns (symbols_of bytes.now)))) }
+    ensures equalizer { equalizer.new.equalizer ≡ equalizer.old.equalizer }
     ensures long { length soft.new ≡ n_of mode }
     ensures payload { length payload.new ≡ 90 * slots_of mode }
     ensures frame { length symbols.new ≡ symbols_in mode }
 {
     symbols_into(bytes, symbols);
-    find_soft(mode, divisor, gold, symbols, payload, soft);
+    turn_back(mode, how.turns, symbols);
+    equalizer.equalize(symbols);
+    find_soft(
+        mode,
+        how.divisor,
+        gold,
+        equalizer.levelled(symbols),
+        payload,
+        soft,
+    );
 }
 
 /// The bytes of a certificate of version 2 of a mode.
@@ -138,8 +165,9 @@ fn certificate_bytes(mode: Mode) -> usize
 pub(crate) struct Auditor<'a> {
     matrix: &'a Matrix,
     mode: Mode,
-    divisor: Divisor,
+    how: Demodulation,
     gold: Gold,
+    equalizer: FrameEqualizer,
     place: u64,
     bytes: Vec<u8>,
     symbols: Vec<Symbol>,
@@ -153,8 +181,9 @@ impl Drop for Auditor<'_> {
         let Auditor {
             matrix: _,
             mode: _,
-            divisor: _,
+            how: _,
             gold: _,
+            equalizer: _,
             place: _,
             bytes: _,
             symbols: _,
@@ -168,18 +197,19 @@ impl Drop for Auditor<'_> {
 impl<'a> Model for Auditor<'a> {
     ghost use Rattle.std.specs.Prelude.{◌≡◌, length};
     ghost use Rattle.s2_mode.specs.Mode.{shape_in};
+    ghost use Rattle.s2_equalize.specs.Wanted.{equalizer_by};
     ghost use Rattle.s2_audit.specs.Auditors.{AuditorState, HasRoom};
 
     ghost Value = { AuditorState };
 
     ghost view = { λ d. record {
-      terms = record { rows = d.matrix.now; mode = d.mode; number = d.gold; divisor = d.divisor };
+      terms = record { rows = d.matrix.now; mode = d.mode; number = d.gold; divisor = d.how.divisor; turns = d.how.turns; equalize = d.how.equalize };
       place = d.place;
       soft = d.soft.items;
       block = d.block.items;
     } };
 
-    ghost invariant = { λ d. (d.matrix.now.shape ≡ shape_in d.mode)
+    ghost invariant = { λ d. (d.matrix.now.shape ≡ shape_in d.mode) × (d.equalizer.equalizer ≡ equalizer_by d.how.equalize d.mode d.gold)
         × HasRoom d.mode (length d.bytes.items) (length d.symbols.items) (length d.payload.items) (length d.soft.items) (length d.block.items) };
 }
 
@@ -188,9 +218,9 @@ impl<'a> Auditor<'a> {
     pub(crate) fn new(
         alloc: Global,
         link: &Link<'a>,
-        divisor: Divisor,
+        how: Demodulation,
     ) -> Result<Auditor<'a>, AllocError>
-        ensures terms { IfOk result (λ d. d.terms ≡ terms_of link.now divisor) }
+        ensures terms { IfOk result (λ d. d.terms ≡ terms_of link.now how) }
         ensures place { IfOk result (λ d. d.place ≡ 0) }
     {
         let mode = link.mode();
@@ -198,8 +228,9 @@ impl<'a> Auditor<'a> {
         Ok(Auditor {
             matrix: link.matrix(),
             mode,
-            divisor,
+            how,
             gold: Gold::of(alloc, link.number())?,
+            equalizer: FrameEqualizer::new(alloc, mode, link.number(), how.equalize)?,
             place: 0,
             bytes: vec![in alloc; 0u8; 4 * mode.symbols()]?,
             symbols: vec![in alloc; origin; mode.symbols()]?,
@@ -248,9 +279,10 @@ impl<'a> Auditor<'a> {
         }
         find_by_bytes(
             self.mode,
-            self.divisor,
+            self.how,
             &self.gold,
             &self.bytes,
+            &mut self.equalizer,
             &mut self.symbols,
             &mut self.payload,
             &mut self.soft,

@@ -9,18 +9,18 @@ ghost use Rattle.s2_audit.specs.Auditing.{ReachesLimit};
 
 use crate::auditing::audit_lines;
 use crate::auditor::Auditor;
+use crate::demodulation::Demodulation;
 use s2_console::{Console, Exit, Fault};
 use s2_inputs::read_matrix;
 use s2_link::{Link, LinkSetup};
 use s2_mode::{CountedRead, CountedWrite};
-use s2_soft::Divisor;
 use std::alloc::Global;
 
 /// Audits on a link. All memory but that of a certificate is allocated before the first line is read.
 fn audit_link<R: CountedRead, O: CountedWrite>(
     alloc: Global,
     link: &Link<'_>,
-    divisor: Divisor,
+    how: Demodulation,
     symbols: &mut R,
     report: &mut R,
     certificates: &mut R,
@@ -30,14 +30,14 @@ fn audit_link<R: CountedRead, O: CountedWrite>(
     requires report { CanCount (R.count report.old) }
     requires certificates { CanCount (R.count certificates.old) }
     requires out { CanCount (O.count out.old) }
-    ensures audits { let ends = evidence_by R.remaining in AuditsLink link.now divisor (R.remaining report.old) (R.remaining report.new)
+    ensures audits { let ends = evidence_by R.remaining in AuditsLink link.now how (R.remaining report.old) (R.remaining report.new)
         (ends symbols.old certificates.old) (ends symbols.new certificates.new) (O.contents out.old) (O.contents out.new) result }
     ensures read { result ≡ Err Fault.Read → (R.count report.new + R.count symbols.new + R.count certificates.new ≡ R.count report.old + R.count symbols.old + R.count certificates.old + 1) ⊎ ReachesLimit (R.remaining report.old) (R.remaining report.new) }
     ensures no_read { result ≢ Err Fault.Read → (R.count report.new ≡ R.count report.old) × (R.count symbols.new ≡ R.count symbols.old) × (R.count certificates.new ≡ R.count certificates.old) }
     ensures write { result ≡ Err Fault.Write → O.count out.new ≡ O.count out.old + 1 }
     ensures no_write { result ≢ Err Fault.Write → O.count out.new ≡ O.count out.old }
 {
-    match Auditor::new(alloc, link, divisor) {
+    match Auditor::new(alloc, link, how) {
         Ok(mut auditor) => audit_lines(alloc, &mut auditor, report, symbols, certificates, out),
         Err(_) => Err(Fault::NoMemory),
     }
@@ -47,7 +47,7 @@ fn audit_link<R: CountedRead, O: CountedWrite>(
 fn audit_files<R: CountedRead, O: CountedWrite>(
     alloc: Global,
     setup: LinkSetup,
-    divisor: Divisor,
+    how: Demodulation,
     rows: &mut R,
     symbols: &mut R,
     report: &mut R,
@@ -59,7 +59,7 @@ fn audit_files<R: CountedRead, O: CountedWrite>(
     requires report { CanCount (R.count report.old) }
     requires certificates { CanCount (R.count certificates.old) }
     requires out { CanCount (O.count out.old) }
-    ensures runs { let ends = files_by R.remaining R.count in AuditRuns (setup_of setup) divisor (ends rows.old symbols.old report.old certificates.old)
+    ensures runs { let ends = files_by R.remaining R.count in AuditRuns (setup_of setup) how (ends rows.old symbols.old report.old certificates.old)
         (ends rows.new symbols.new report.new certificates.new) (O.contents out.old) (O.contents out.new) result }
     ensures read { result ≡ Err Fault.Read → (R.count rows.new + R.count symbols.new + R.count report.new + R.count certificates.new ≡ R.count rows.old + R.count symbols.old + R.count report.old + R.count certificates.old + 1) ⊎ ReachesLimit (R.remaining report.old) (R.remaining report.new) }
     ensures no_read { result ≢ Err Fault.Read → R.count rows.new + R.count symbols.new + R.count report.new + R.count certificates.new ≡ R.count rows.old + R.count symbols.old + R.count report.old + R.count certificates.old }
@@ -69,7 +69,7 @@ fn audit_files<R: CountedRead, O: CountedWrite>(
     match read_matrix(alloc, rows, setup.mode.shape()) {
         Ok(matrix) => {
             let link = Link::of(setup, &matrix);
-            audit_link(alloc, &link, divisor, symbols, report, certificates, out)
+            audit_link(alloc, &link, how, symbols, report, certificates, out)
         }
         Err(fault) => Err(fault),
     }
@@ -77,7 +77,7 @@ fn audit_files<R: CountedRead, O: CountedWrite>(
 
 /// `audit`: checks the certificates of a receiver's report. For each line of a frame that is sole or most likely, in
 /// order, it takes the next certificate, and the frame's symbols from the recording. The certificate must have exactly
-/// their soft values by this divisor, and the checker must accept it, strictly if the frame is sole. A line for each
+/// their soft values by these options, and the checker must accept it, strictly if the frame is sole. A line for each
 /// such frame is printed before the next line of the report is read. The last line has the counts.
 ///
 /// Exit 0 if each such frame is proved and no certificate is left over. Else exit 2, after a line with the first
@@ -92,7 +92,7 @@ fn audit_files<R: CountedRead, O: CountedWrite>(
 pub fn audit_command<R: CountedRead, O: CountedWrite, E: CountedWrite>(
     alloc: Global,
     setup: LinkSetup,
-    divisor: Divisor,
+    how: Demodulation,
     rows: &mut R,
     symbols: &mut R,
     report: &mut R,
@@ -106,13 +106,13 @@ pub fn audit_command<R: CountedRead, O: CountedWrite, E: CountedWrite>(
     requires console { CanShow console.old }
     ensures quiet { result ≢ Exit.Fault → console.new.errors_failed ≡ console.old.errors_failed }
     ensures whole { result ≢ Exit.Fault → console.new.output_failed ≡ console.old.output_failed }
-    ensures run { let ends = files_by R.remaining R.count in AuditExits (setup_of setup) divisor (ends rows.old symbols.old report.old certificates.old)
+    ensures run { let ends = files_by R.remaining R.count in AuditExits (setup_of setup) how (ends rows.old symbols.old report.old certificates.old)
         (ends rows.new symbols.new report.new certificates.new) console.old console.new result }
 {
     let ended = audit_files(
         alloc,
         setup,
-        divisor,
+        how,
         rows,
         symbols,
         report,

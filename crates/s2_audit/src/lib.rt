@@ -9,7 +9,7 @@
 //! One line, one frame and one certificate are in memory at a time.
 //!
 //! ```text
-//! let exit = audit_command(alloc, setup, divisor, &mut rows, &mut symbols, &mut report, &mut certificates, &mut console);
+//! let exit = audit_command(alloc, setup, how, &mut rows, &mut symbols, &mut report, &mut certificates, &mut console);
 //! ```
 #![tactic(auto)]
 
@@ -17,6 +17,7 @@ mod auditing;
 mod auditor;
 mod command;
 mod counts;
+mod demodulation;
 mod entry;
 mod judging;
 pub mod laws;
@@ -27,4 +28,5 @@ mod outcome;
 mod report;
 
 pub use command::audit_command;
+pub use demodulation::Demodulation;
 pub use limits::MAX_LINES;

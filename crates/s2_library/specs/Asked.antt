@@ -29,6 +29,8 @@ flags_of o = record {
   tuned = is_set o.tuned;
   uncertified = is_set o.uncertified;
   figures = is_set o.figures;
+  turns = is_set o.turns;
+  equalize = is_set o.equalize;
   dummy_every = o.dummy_every;
 }
 
@@ -47,6 +49,8 @@ wanted_by flags o = record {
   tuned = flags.tuned;
   uncertified = flags.uncertified;
   figures = flags.figures;
+  turns = flags.turns;
+  equalize = flags.equalize;
 }
 
 -- the mode of options

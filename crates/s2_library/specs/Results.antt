@@ -3,7 +3,7 @@ use Rattle.std.specs.Prelude.{ℤ, pos, negsuc, List, [], ◌∷◌, get_or, Res
 use Rattle.s2_library.specs.declared.refusal.Refusal.{Refusal}
 use Rattle.s2_library.specs.declared.refusal.Refusal.TheVariants as refusals
 
--- a refusal is a negative number: -1 to -23
+-- a refusal is a negative number: -1 to -22
 abbrev pub refusal_number : Refusal → ℤ
 refusal_number refusals.NoMemory = negsuc 0
 refusal_number refusals.Empty = negsuc 1
@@ -18,16 +18,15 @@ refusal_number refusals.BadScrambling = negsuc 9
 refusal_number refusals.BadRollOff = negsuc 10
 refusal_number refusals.BadTuning = negsuc 11
 refusal_number refusals.BadOption = negsuc 12
-refusal_number refusals.NotDone = negsuc 13
-refusal_number refusals.TooMany = negsuc 14
-refusal_number refusals.TooShort = negsuc 15
-refusal_number refusals.NoSync = negsuc 16
-refusal_number refusals.CutPacket = negsuc 17
-refusal_number refusals.Closed = negsuc 18
-refusal_number refusals.Full = negsuc 19
-refusal_number refusals.BadSoft = negsuc 20
-refusal_number refusals.BadCertificate = negsuc 21
-refusal_number refusals.NoneThere = negsuc 22
+refusal_number refusals.TooMany = negsuc 13
+refusal_number refusals.TooShort = negsuc 14
+refusal_number refusals.NoSync = negsuc 15
+refusal_number refusals.CutPacket = negsuc 16
+refusal_number refusals.Closed = negsuc 17
+refusal_number refusals.Full = negsuc 18
+refusal_number refusals.BadSoft = negsuc 19
+refusal_number refusals.BadCertificate = negsuc 20
+refusal_number refusals.NoneThere = negsuc 21
 
 -- success is 0
 abbrev pub number_of : {T : Type 0} → Result T Refusal → ℤ
@@ -39,7 +38,7 @@ abbrev pub all_refusals : List Refusal
 all_refusals =
     refusals.NoMemory ∷ refusals.Empty ∷ refusals.OtherKind ∷ refusals.InUse ∷ refusals.BadSize ∷
     refusals.BadMode ∷ refusals.BadShape ∷ refusals.BadRows ∷ refusals.OtherShape ∷ refusals.BadScrambling ∷
-    refusals.BadRollOff ∷ refusals.BadTuning ∷ refusals.BadOption ∷ refusals.NotDone ∷ refusals.TooMany ∷
+    refusals.BadRollOff ∷ refusals.BadTuning ∷ refusals.BadOption ∷ refusals.TooMany ∷
     refusals.TooShort ∷ refusals.NoSync ∷ refusals.CutPacket ∷ refusals.Closed ∷ refusals.Full ∷
     refusals.BadSoft ∷ refusals.BadCertificate ∷ refusals.NoneThere ∷ []
 

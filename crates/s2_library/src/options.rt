@@ -66,6 +66,8 @@ pub(crate) struct Flags {
     pub(crate) tuned: bool,
     pub(crate) uncertified: bool,
     pub(crate) figures: bool,
+    pub(crate) turns: bool,
+    pub(crate) equalize: bool,
     pub(crate) dummy_every: u16,
 }
 
@@ -100,9 +102,6 @@ fn read_numbers(options: &Options) -> Result<u16, Refusal>
     if !are_zero(options.reserved.as_slice()) {
         return Err(Refusal::BadOption);
     }
-    if options.turns != 0 || options.equalize != 0 {
-        return Err(Refusal::NotDone);
-    }
     Ok(options.dummy_every as u16)
 }
 
@@ -118,6 +117,8 @@ pub(crate) fn read_flags(options: &Options) -> Result<Flags, Refusal>
     let tuned = flag(options.tuned)?;
     let uncertified = flag(options.uncertified)?;
     let figures = flag(options.figures)?;
+    let turns = flag(options.turns)?;
+    let equalize = flag(options.equalize)?;
     let dummy_every = read_numbers(options)?;
     Ok(Flags {
         is_short,
@@ -125,6 +126,8 @@ pub(crate) fn read_flags(options: &Options) -> Result<Flags, Refusal>
         tuned,
         uncertified,
         figures,
+        turns,
+        equalize,
         dummy_every,
     })
 }
@@ -181,5 +184,7 @@ pub(crate) fn wanted_by(flags: Flags, options: &Options) -> Wanted
         tuned: flags.tuned,
         uncertified: flags.uncertified,
         figures: flags.figures,
+        turns: flags.turns,
+        equalize: flags.equalize,
     }
 }

@@ -32,8 +32,6 @@ pub enum Refusal {
     /// A member for 0 or 1 has another value, a number that is not of the tuning is out of its range, or a reserved
     /// member is not 0.
     BadOption,
-    /// The option is not in this version.
-    NotDone,
     /// More was given than can be taken.
     TooMany,
     /// The buffer is too short.
@@ -55,7 +53,7 @@ pub enum Refusal {
 }
 
 impl Refusal {
-    /// The number of the refusal for C: -1 to -23.
+    /// The number of the refusal for C: -1 to -22.
     pub fn number(self) -> i32
         ensures is { result ≡ refusal_number self }
         ensures back { answer_of result ≡ Err self }
@@ -74,16 +72,15 @@ impl Refusal {
             Refusal::BadRollOff => -11,
             Refusal::BadTuning => -12,
             Refusal::BadOption => -13,
-            Refusal::NotDone => -14,
-            Refusal::TooMany => -15,
-            Refusal::TooShort => -16,
-            Refusal::NoSync => -17,
-            Refusal::CutPacket => -18,
-            Refusal::Closed => -19,
-            Refusal::Full => -20,
-            Refusal::BadSoft => -21,
-            Refusal::BadCertificate => -22,
-            Refusal::NoneThere => -23,
+            Refusal::TooMany => -14,
+            Refusal::TooShort => -15,
+            Refusal::NoSync => -16,
+            Refusal::CutPacket => -17,
+            Refusal::Closed => -18,
+            Refusal::Full => -19,
+            Refusal::BadSoft => -20,
+            Refusal::BadCertificate => -21,
+            Refusal::NoneThere => -22,
         }
     }
 }

@@ -93,7 +93,7 @@ fn frame_fields(report: Report) -> StepFields
         outcome: outcome_number(report.outcome),
         fixed: fixed_in(report.outcome),
         has_figures: u32::from(report.figures.is_some()),
-        turn: 0,
+        turn: u32::from(report.turn),
         reserved0: 0,
         number: report.number,
         at: report.at,

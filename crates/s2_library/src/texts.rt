@@ -24,16 +24,15 @@ pub fn text_of(number: i32) -> &'static str {
 fn text_beyond(number: i32) -> &'static str {
     match number {
         -13 => "an option has a value that it cannot have",
-        -14 => "the option is not in this version",
-        -15 => "more was given than can be taken",
-        -16 => "the buffer is too short",
-        -17 => "a packet does not begin with 47 hexadecimal",
-        -18 => "not a whole packet at the end",
-        -19 => "the stream was closed",
-        -20 => "the limit of packets is reached",
-        -21 => "not n soft values from -511 to 511",
-        -22 => "not a certificate file",
-        -23 => "there is none here",
+        -14 => "more was given than can be taken",
+        -15 => "the buffer is too short",
+        -16 => "a packet does not begin with 47 hexadecimal",
+        -17 => "not a whole packet at the end",
+        -18 => "the stream was closed",
+        -19 => "the limit of packets is reached",
+        -20 => "not n soft values from -511 to 511",
+        -21 => "not a certificate file",
+        -22 => "there is none here",
         _ => "unknown result",
     }
 }

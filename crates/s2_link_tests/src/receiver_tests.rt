@@ -17,6 +17,7 @@ pub(crate) fn frame(number: u64, at: u64) -> Step {
         verdict: Verdict::Sole,
         outcome: Outcome::Delivered { fixed: 0 },
         figures: None,
+        turn: 0,
     })
 }
 

@@ -54,7 +54,7 @@ count_codewords t number at (f ∷ fs) [] sent = absurd sent
 count_codewords t number at (f ∷ fs) (u ∷ us) sent = ap suc (count_codewords t (number + 1) (at + length f) fs us sent.1)
 
 module _ (t : Transmitter) (rules : Rules) (receives_all : ReceivesAll t.link rules) (figures : List Bool → Option Figures) (energy : ℕ)
-    (measures : (codeword : List Bool) → IsCodeword (code_of t.link.rows) codeword → ((rules.decide (sent_symbols t.link codeword)).figures ≡ figures codeword) × ((rules.decide (sent_symbols t.link codeword)).energy ≡ energy)) where
+    (measures : (codeword : List Bool) → IsCodeword (code_of t.link.rows) codeword → ((rules.decide (sent_symbols t.link codeword)).figures ≡ figures codeword) × ((rules.decide (sent_symbols t.link codeword)).energy ≡ energy) × ((rules.decide (sent_symbols t.link codeword)).turn ≡ 0)) where
   abbrev link : Link
   link = t.link
 
@@ -99,7 +99,7 @@ module _ (t : Transmitter) (rules : Rules) (receives_all : ReceivesAll t.link ru
         are = λ b. (one.0 b, more.are true);
         certified = (record { verdict = one.1.verdict; outcome = one.1.delivered.outcome }, more.certified);
         measured = (record { outcome = one.1.delivered.outcome; energy_is = seen.1 }, more.measured);
-        places_are = λ place i. record { at = place; verdict = one.2 i; figures = seen.0 i } ∷ more.places_are (place + rules.size) i;
+        places_are = λ place i. record { at = place; verdict = one.2 i; figures = seen.0 i; turn = seen.2 i } ∷ more.places_are (place + rules.size) i;
         symbols = λ rest.
             ap (λ l. symbols_of ((l ++ joined us) ++ rest)) (unit.spelt ∙ ap (λ l. l ++ behind) unit.is_frame.spelt)
             ∙ ap (λ l. symbols_of (l ++ rest)) (append_assoc (bytes_of_symbols s) behind (joined us))
@@ -114,10 +114,11 @@ called rules at [] s c = (refl, All-nil (λ (place : FramePlace). IsTrue (is_cer
 called rules at (coded l ∷ ps) s c =
     let verdict = (rules.decide l).verdict in
     let figures = (rules.decide l).figures in
-    let report : Outcome → Report = λ o. record { number = s.totals.frames + 1; at = at; verdict = verdict; outcome = o; figures = figures } in
+    let turn = (rules.decide l).turn in
+    let report : Outcome → Report = λ o. record { number = s.totals.frames + 1; at = at; verdict = verdict; outcome = o; figures = figures; turn = turn } in
     let more = called rules (at + rules.size) ps (after rules s (frame at no_gap l)) c.1 in (
       ap₂ (λ (o : Outcome) (lines : List ℕ). frame_line (report o) ++ lines) c.0.outcome more.0,
-      All-cons (λ (place : FramePlace). IsTrue (is_certified place.verdict)) (record { at = at; verdict = verdict; figures = figures }) (places_in rules (at + rules.size) ps) c.0.verdict more.1,
+      All-cons (λ (place : FramePlace). IsTrue (is_certified place.verdict)) (record { at = at; verdict = verdict; figures = figures; turn = turn }) (places_in rules (at + rules.size) ps) c.0.verdict more.1,
     )
 called rules at (dummy l ∷ ps) s c = called rules (at + 3330) ps s c
 

@@ -1,5 +1,5 @@
 -- The figures of a frame without noise: nothing is wrong.
-use Rattle.s2_modem.proofs.Names.{◌≡◌, ℕ, zero, suc, ◌+◌, ◌*◌, ◌%◌, ◌==◌, ◌<◌, Bool, true, false, cond, List, [], ◌∷◌, length, take, map, range_with_len, Option, Some, None, refl, sym, ap, ap₂, subst, ◌∙◌, arith, ints, ℤ, pos, neg_ℤ, length-take, length-map-range_with_len, get_or-map-range_with_len, ext_get_or, sum_by-cons, Mode, IsMode, HasCodeSizes, n_of, symbols_in, Symbol, symbol, symbol_at, symbols_least, decision, differences, IsCodeword, code_of, hard_decision, View, header_bit, header_point, header_symbol, frame_symbol, frame_symbols, payload_of, IsDivisor, Link, Tuning, IsLinkOf, Decided, decided, rounds_run, clean_lem, codeword_satisfied, rounds_hard, Figures, squared_distance, error_at, known_places, payload_places, sent_frame, figures_of, symbol_energy, energy_of, header_errors, frame_soft, figures_by, frame_decision, sent_symbols, clean_energy, clean_figures, clean_figures_by}
+use Rattle.s2_modem.proofs.Names.{◌≡◌, ℕ, zero, suc, ◌+◌, ◌*◌, ◌%◌, ◌==◌, ◌<◌, Bool, true, false, cond, List, [], ◌∷◌, length, take, map, range_with_len, Option, Some, None, refl, sym, ap, ap₂, subst, ◌∙◌, arith, ints, ℤ, pos, neg_ℤ, length-take, length-map-range_with_len, get_or-map-range_with_len, ext_get_or, sum_by-cons, Mode, IsMode, HasCodeSizes, n_of, symbols_in, Symbol, symbol, symbol_at, symbols_least, decision, differences, IsCodeword, code_of, hard_decision, View, header_bit, header_point, header_symbol, frame_symbol, frame_symbols, payload_of, IsDivisor, Link, Tuning, IsLinkOf, Decided, decided, rounds_run, clean_lem, codeword_satisfied, rounds_hard, Figures, squared_distance, error_at, known_places, payload_places, sent_frame, figures_of, symbol_energy, energy_of, header_errors, frame_soft, figures_by, frame_decision, sent_symbols, clean_energy, clean_figures, clean_figures_by, decided_symbols, upright_symbols, frame_turn, received_payload, soft_values}
 use Rattle.std.specs.Prelude.{negsuc, ◌+ℤ◌, ◌-ℤ◌, ◌*ℤ◌, unsigned_abs}
 use lib.IntN.{pos-*ℤ-pos, negsuc-*ℤ-negsuc, *ℤ_comm}
 use Rattle.std.specs.List.{sum_by}
@@ -9,7 +9,7 @@ use Rattle.s2_plframe.specs.Search.{mismatches}
 use Rattle.s2_plframe.specs.Header.{header_of}
 use Rattle.s2_plframe.proofs.HeaderFacts.{header_at, header_no_mismatch}
 use Rattle.s2_modem.proofs.DecisionLemmas.{code_is}
-use Rattle.s2_modem.proofs.CleanFrames.{received, differences_none, is_mode, has_sizes}
+use Rattle.s2_modem.proofs.CleanFrames.{received, differences_none, is_mode, has_sizes, sent_straight, sent_upright, sent_unturned}
 
 -- ---- distances
 
@@ -93,9 +93,10 @@ all_clean m number soft word is hard =
       payload_correlation = clean_over sent (payload_places m) i;
     }
 
--- the figures of a codeword's frame without noise, if they are wanted, and its header's energy
+-- the figures of a codeword's frame without noise, if they are wanted, its header's energy, and its turn
 pub clean_measures : (m : Mode) → IsMode m → HasCodeSizes m → (link : Link) → IsLinkOf m link → (tuning : Tuning) → IsDivisor tuning.divisor → (codeword : List Bool) → IsCodeword (code_of link.rows) codeword
     → ((frame_decision link tuning (sent_symbols link codeword)).figures ≡ clean_figures_by tuning link.setup.mode link.setup.number codeword) × ((frame_decision link tuning (sent_symbols link codeword)).energy ≡ clean_energy)
+    × ((frame_decision link tuning (sent_symbols link codeword)).turn ≡ 0)
 unfolding frame_decision
 clean_measures m valid sizes link linked tuning known codeword in_code =
     let mode = link.setup.mode in
@@ -104,11 +105,14 @@ clean_measures m valid sizes link linked tuning known codeword in_code =
     let symbols = sent_symbols link codeword in
     let soft = frame_soft link tuning symbols in
     let heard = received tuning.divisor mode number codeword known is (in_code.long ∙ code_is mode link.rows (has_sizes m valid sizes link linked) linked.1) in
-    let hard : hard_decision soft ≡ codeword = heard.soft.decided in
+    let upright : decided_symbols link tuning symbols ≡ symbols = sent_upright m valid sizes link linked tuning codeword in
+    let same : soft ≡ soft_values tuning.divisor mode (received_payload mode number symbols) = ap (λ (l : List Symbol). soft_values tuning.divisor mode (received_payload mode number l)) upright in
+    let hard : hard_decision soft ≡ codeword = ap hard_decision same ∙ heard.soft.decided in
     let word = subst (IsCodeword (code_of link.rows)) (sym hard) in_code in
     let sure = clean_lem link.rows tuning soft word in
     let bits : (decided link.rows tuning soft).bits ≡ codeword = ap (λ (d : Decided). d.bits) sure.0 ∙ hard in
     let rounds : rounds_run link.rows tuning soft ≡ 0 = rounds_hard link.rows tuning soft (codeword_satisfied (code_of link.rows) (hard_decision soft) word) in
-    let figures : figures_of mode number symbols soft (decided link.rows tuning soft).bits (rounds_run link.rows tuning soft) ≡ clean_figures mode number codeword =
-    (λ i. figures_of mode number symbols soft (bits i) (rounds i)) ∙ all_clean mode number soft codeword is hard in
-    (ap (λ (f : Figures). cond tuning.figures (Some f) None) figures, header_energy mode number (payload_of mode codeword) is)
+    let straight : upright_symbols link tuning symbols ≡ symbols = sent_straight m valid sizes link linked tuning codeword in
+    let figures : figures_of mode number (upright_symbols link tuning symbols) soft (decided link.rows tuning soft).bits (rounds_run link.rows tuning soft) ≡ clean_figures mode number codeword =
+    (λ i. figures_of mode number (straight i) soft (bits i) (rounds i)) ∙ all_clean mode number soft codeword is hard in
+    (ap (λ (f : Figures). cond tuning.figures (Some f) None) figures, header_energy mode number (payload_of mode codeword) is, sent_unturned m valid sizes link linked tuning codeword)

@@ -1,8 +1,9 @@
 -- A frame without noise is delivered, certified, with nothing changed.
-use Rattle.s2_modem.proofs.Names.{ap₂, xor_same, number, or_right, ◌≡◌, ℕ, zero, suc, ◌+◌, ◌-◌, ◌*◌, ◌/◌, ◌%◌, ◌<◌, ◌≤◌, Bool, true, false, List, [], ◌∷◌, ◌++◌, length, take, drop, map, get_or, Option, Some, None, Result, Ok, Err, refl, sym, ap, subst, ◌∙◌, arith, length-append, length-take, length-take-le, length-drop, ℤ, pos, int_lt, le-leb, eq-eqb, length-map, ext_get_or, get_or-take, get_or-drop, take_at, drop_at, take_all, fill_by_all, length-map-range_with_len, All-head, All-tail, All-append, All-from_recursion, Mode, IsMode, HasCodeSizes, k_of, kbch_of, n_of, t_of, slots_of, symbols_in, Symbol, symbols_least, Rows, bit_at, bits_of_byte, bits_of_bytes, byte_at, byte_of, bytes_from, differences, byte_back, code_of, IsCodeword, hard_decision, NoneIsZero, is_certified, IsSole, HeaderFault, Decision, header_bytes, has_valid_lengths, header_of_bytes, signalling, header_at, to_place, field_bytes, header_of_bytes-header_bytes, divided, scrambled, scrambled-scrambled, IsWithin, nearest, within_is_nearest, nearest_is_within, no_nearest, payload_symbol, payload_of, frame_symbol, frame_symbols, decision, found, clean_behind, IsDivisor, soft_bit, soft_values, DecidesTo, clean_says, payload_again, clean_passes, IsCleanFrame, IsReceived, Link, padded_bits, baseband_frame, IsCodewordFor, found_as, Decided, decided, IsShown, Tuning, frame_soft, received_word, message_of, header_in, field_in, outcome_by, delivered_by, decision_by, frame_decision, AllAsLikely, TrueReports, IsCertifiedBy, IsCorrected, IsSaidBy, link_rules, IsLinkOf, IsByte, AreBytes, sent_symbols, IsDelivered, IsDeliveredCertified, ReceivesAllLaw, ScatteredFrameLaw, BothCodesLaw, IsSent, IsMostLikely, received_payload, Sole, clean_lem, certified_lem, likely_lem, sole_lem, scattered_lem, decided_long, length-baseband_frame, length-bch_word, symbol, Header, count_of, cond, is_delivered, Figures, Outcome, Delivered, NoWord, BadHeader, figures_by, measured, energy_of}
+use Rattle.s2_modem.proofs.Names.{ap₂, xor_same, number, or_right, ◌≡◌, ℕ, zero, suc, ◌+◌, ◌-◌, ◌*◌, ◌/◌, ◌%◌, ◌<◌, ◌≤◌, Bool, true, false, List, [], ◌∷◌, ◌++◌, length, take, drop, map, get_or, Option, Some, None, Result, Ok, Err, refl, sym, ap, subst, ◌∙◌, arith, length-append, length-take, length-take-le, length-drop, ℤ, pos, int_lt, le-leb, eq-eqb, length-map, ext_get_or, get_or-take, get_or-drop, take_at, drop_at, take_all, fill_by_all, length-map-range_with_len, All-head, All-tail, All-append, All-from_recursion, Mode, IsMode, HasCodeSizes, k_of, kbch_of, n_of, t_of, slots_of, symbols_in, Symbol, symbols_least, Rows, bit_at, bits_of_byte, bits_of_bytes, byte_at, byte_of, bytes_from, differences, byte_back, code_of, IsCodeword, hard_decision, NoneIsZero, is_certified, IsSole, HeaderFault, Decision, header_bytes, has_valid_lengths, header_of_bytes, signalling, header_at, to_place, field_bytes, header_of_bytes-header_bytes, divided, scrambled, scrambled-scrambled, IsWithin, nearest, within_is_nearest, nearest_is_within, no_nearest, payload_symbol, payload_of, frame_symbol, frame_symbols, decision, found, clean_behind, IsDivisor, soft_bit, soft_values, DecidesTo, clean_says, payload_again, clean_passes, IsCleanFrame, IsReceived, Link, padded_bits, baseband_frame, IsCodewordFor, found_as, Decided, decided, IsShown, Tuning, frame_soft, received_word, message_of, header_in, field_in, outcome_by, delivered_by, decision_by, frame_decision, AllAsLikely, TrueReports, IsCertifiedBy, IsCorrected, IsSaidBy, link_rules, IsLinkOf, IsByte, AreBytes, sent_symbols, IsDelivered, IsDeliveredCertified, ReceivesAllLaw, ScatteredFrameLaw, BothCodesLaw, IsSent, IsMostLikely, received_payload, Sole, clean_lem, certified_lem, likely_lem, sole_lem, scattered_lem, decided_long, length-baseband_frame, length-bch_word, symbol, Header, count_of, cond, is_delivered, Figures, Outcome, Delivered, NoWord, BadHeader, figures_by, measured, energy_of, decided_symbols, upright_symbols, equalized, sent_back, frame_turn, sought_by, CameWithoutNoise, rotated, inl, inr, IsTurnedFrame, turned_frame_is, straight_is, frame_rotates, found_in, behind_in, sides, sought_of, derotated, turn_of, found_behind, map-id, AllRotateBack, if◌then◌else◌}
 use Rattle.s2_modem.proofs.Names.founds
 use Rattle.s2_modem.proofs.DecisionLemmas.{code_is, message_fits}
 use Rattle.s2_modem.proofs.Dummies.{dummy_is}
+use Rattle.s2_modem.proofs.Moderate.{payload_moderate}
 use Rattle.s2_modem.proofs.SymbolsBack.{payload_back}
 
 -- ---- from the mapper to the soft values
@@ -91,18 +92,18 @@ decision_is_of : (r : Rows) (m : Mode) (soft : List ℤ) (d : Decided) (o : Opti
 decision_is_of r m soft d (Some word) = record { soft_is = refl; verdict = refl; bits = refl; certified = λ h. h }
 decision_is_of r m soft d None = record { soft_is = refl; verdict = refl; bits = refl; certified = λ h. h }
 
--- figures and energy change nothing of that
-measured_is_of : (r : Rows) (soft : List ℤ) (d : Decided) (x : Decision) (figures : Option Figures) (energy : ℕ) → IsOf r soft d x → IsOf r soft d (measured x figures energy)
-measured_is_of r soft d x figures energy is = record { soft_is = is.soft_is; verdict = is.verdict; bits = is.bits; certified = is.certified }
+-- figures, energy and turn change nothing of that
+measured_is_of : (r : Rows) (soft : List ℤ) (d : Decided) (x : Decision) (figures : Option Figures) (energy turn : ℕ) → IsOf r soft d x → IsOf r soft d (measured x figures energy turn)
+measured_is_of r soft d x figures energy turn is = record { soft_is = is.soft_is; verdict = is.verdict; bits = is.bits; certified = is.certified }
 
-measured_corrected : (m : Mode) (x : Decision) (figures : Option Figures) (energy : ℕ) (o : Outcome) → IsCorrected m x o → IsCorrected m (measured x figures energy) o
-measured_corrected m x figures energy (Delivered fixed) h = h
-measured_corrected m x figures energy (BadHeader fault) h = h
-measured_corrected m x figures energy NoWord h = h
+measured_corrected : (m : Mode) (x : Decision) (figures : Option Figures) (energy turn : ℕ) (o : Outcome) → IsCorrected m x o → IsCorrected m (measured x figures energy turn) o
+measured_corrected m x figures energy turn (Delivered fixed) h = h
+measured_corrected m x figures energy turn (BadHeader fault) h = h
+measured_corrected m x figures energy turn NoWord h = h
 
-measured_delivers : (x : Decision) (figures : Option Figures) (energy fixed : ℕ) (message : List Bool) (header : Header) (field : List ℕ) → IsDelivered x fixed message header field
-    → IsDelivered (measured x figures energy) fixed message header field
-measured_delivers x figures energy fixed message header field h = record { outcome = h.outcome; message_is = h.message_is; delivered = h.delivered }
+measured_delivers : (x : Decision) (figures : Option Figures) (energy turn fixed : ℕ) (message : List Bool) (header : Header) (field : List ℕ) → IsDelivered x fixed message header field
+    → IsDelivered (measured x figures energy turn) fixed message header field
+measured_delivers x figures energy turn fixed message header field h = record { outcome = h.outcome; message_is = h.message_is; delivered = h.delivered }
 
 pub frame_is : (link : Link) (tuning : Tuning) (symbols : List Symbol) → IsOf link.rows (frame_soft link tuning symbols) (decided link.rows tuning (frame_soft link tuning symbols)) (frame_decision link tuning symbols)
 unfolding frame_decision
@@ -110,7 +111,7 @@ frame_is link tuning symbols =
     let soft = frame_soft link tuning symbols in
     let d = decided link.rows tuning soft in
     let o = nearest link.setup.mode (received_word link.setup.mode d.bits) in
-    measured_is_of link.rows soft d (decision_by link.setup.mode soft d o) (figures_by link tuning symbols) (energy_of (take 90 symbols)) (decision_is_of link.rows link.setup.mode soft d o)
+    measured_is_of link.rows soft d (decision_by link.setup.mode soft d o) (figures_by link tuning symbols) (energy_of (take 90 symbols)) (frame_turn link tuning symbols) (decision_is_of link.rows link.setup.mode soft d o)
 
 -- what is delivered is counted as its outcome says
 counts_by : (fixed : ℕ) (bits : List Bool) (r : Result Header HeaderFault) → count_of (delivered_by bits r) ≡ cond (is_delivered (outcome_by fixed r)) 1 0
@@ -138,7 +139,7 @@ module _ (m : Mode) (valid : IsMode m) (sizes : HasCodeSizes m) (link : Link) (l
   has_sizes = subst HasCodeSizes (sym linked.0) sizes
 
   length_soft : (tuning : Tuning) (symbols : List Symbol) → length (frame_soft link tuning symbols) ≡ (code_of link.rows).bits
-  length_soft tuning symbols = length-map-range_with_len (soft_bit tuning.divisor mode (received_payload mode link.setup.number symbols)) 0 (n_of mode) ∙ sym (code_is mode link.rows has_sizes linked.1)
+  length_soft tuning symbols = length-map-range_with_len (soft_bit tuning.divisor mode (received_payload mode link.setup.number (decided_symbols link tuning symbols))) 0 (n_of mode) ∙ sym (code_is mode link.rows has_sizes linked.1)
 
   length_received : (tuning : Tuning) (symbols : List Symbol) → length (received_word mode (decided link.rows tuning (frame_soft link tuning symbols)).bits) ≡ k_of mode
   length_received tuning symbols =
@@ -166,7 +167,7 @@ module _ (m : Mode) (valid : IsMode m) (sizes : HasCodeSizes m) (link : Link) (l
       let corrected = decision_corrected mode is_mode has_sizes soft d o (length_received tuning symbols) refl in
       record {
         certified = (frame_is link tuning symbols).certified (certified_lem link.rows tuning soft (length_soft tuning symbols));
-        within = measured_corrected mode x (figures_by link tuning symbols) (energy_of (take 90 symbols)) x.outcome corrected;
+        within = measured_corrected mode x (figures_by link tuning symbols) (energy_of (take 90 symbols)) (frame_turn link tuning symbols) x.outcome corrected;
         said = corrected_said mode x x.outcome has_sizes corrected;
       }
 
@@ -231,7 +232,7 @@ module _ (m : Mode) (valid : IsMode m) (sizes : HasCodeSizes m) (link : Link) (l
           message_is = refl;
           delivered = ap (delivered_by (scrambled message)) header_back ∙ ap (λ f. Some (header, f)) field_back;
         }) in
-        measured_delivers x (figures_by link tuning symbols) (energy_of (take 90 symbols)) fixed message header field given
+        measured_delivers x (figures_by link tuning symbols) (energy_of (take 90 symbols)) (frame_turn link tuning symbols) fixed message header field given
 
     -- and where the codeword that was sent was decided, it differs nowhere
     pub differs_nowhere : (bits : List Bool) → bits ≡ codeword → differences (k_of mode) (received_word mode bits) word ≡ 0
@@ -248,30 +249,104 @@ module _ (m : Mode) (valid : IsMode m) (sizes : HasCodeSizes m) (link : Link) (l
         let none = differs_nowhere (frame_decision link tuning symbols).bits bits in
         subst (λ n. IsDelivered (frame_decision link tuning symbols) n message header field) none (both_codes tuning symbols (omega (arith, none)))
 
-  module _ (ro : link.setup.roll_off ≤ 2) (tuning : Tuning) (known : IsDivisor tuning.divisor) (limit : ℕ) where
-    found_sent : (codeword : List Bool) → found mode (map decision (take 90 (sent_symbols link codeword))) ≡ founds.Coded
-        → (behind : Bool) → found_as mode tuning.max_header_errors behind (take 90 (sent_symbols link codeword)) ≡ founds.Coded
-    unfolding found_as
-    found_sent codeword coded true = clean_behind mode tuning.max_header_errors link.setup.number (payload_of mode codeword) is_mode
-    found_sent codeword coded false = coded
+  module _ (tuning : Tuning) where
+    -- what came without noise is found, and rotated back it is what was sent
+    pub record Came (codeword : List Bool) (symbols : List Symbol) : Type 0 where
+      pub long : length symbols ≡ symbols_in mode
+      pub finds : (behind : Bool) → found_as (sought_by link tuning) tuning.max_header_errors behind (take 90 symbols) ≡ founds.Coded
+      pub straight : upright_symbols link tuning symbols ≡ sent_symbols link codeword
+      pub upright : decided_symbols link tuning symbols ≡ sent_symbols link codeword
 
-    hears_frame : (at : ℕ) (field : List ℕ) (codeword : List Bool) → AreBytes field → to_place at < length field → length field ≤ field_bytes mode
-        → (is : IsCodewordFor mode link.rows (header_at link.setup.roll_off at field) field codeword)
-        → ((behind : Bool) → IsReceived (link_rules link tuning limit) behind (header_at link.setup.roll_off at field) field (sent_symbols link codeword))
-        × IsDeliveredCertified (frame_decision link tuning (sent_symbols link codeword)) codeword (message_of mode is.bch_word) (header_at link.setup.roll_off at field) field
-        × ((frame_decision link tuning (sent_symbols link codeword)).verdict ≡ Sole)
-    hears_frame at field codeword bytes place fits c =
-        let symbols = sent_symbols link codeword in
+    abbrev scrambling : ℕ
+    scrambling = link.setup.number
+
+    length_sent : (codeword : List Bool) → length (sent_symbols link codeword) ≡ symbols_in mode
+    length_sent codeword = length-map-range_with_len (frame_symbol mode scrambling (payload_of mode codeword)) 0 (symbols_in mode)
+
+    -- as sent, in a search in one rotation
+    straight_found : (codeword : List Bool) (lock : ℕ) (behind : Bool) → found_as (sought_of mode false) lock behind (take 90 (sent_symbols link codeword)) ≡ founds.Coded
+    unfolding found_as
+    straight_found codeword lock true = ap (found_behind mode lock) (straight_is (take 90 (sent_symbols link codeword))) ∙ clean_behind mode lock scrambling (payload_of mode codeword) is_mode
+    straight_found codeword lock false = ap (found mode) (straight_is (take 90 (sent_symbols link codeword))) ∙ clean_passes mode scrambling (payload_of mode codeword) is_mode
+
+    -- rotated, in a search in all rotations
+    turned_found : (t lock : ℕ) (sent came : List Symbol) (behind : Bool) → IsTurnedFrame mode t sent came → found_as (sought_of mode true) lock behind (take 90 came) ≡ founds.Coded
+    unfolding found_as
+    turned_found t lock sent came true is = is.behind_is lock
+    turned_found t lock sent came false is = is.found_is
+
+    pub sent_rotates : (codeword : List Bool) → AllRotateBack (sent_symbols link codeword)
+    sent_rotates codeword = frame_rotates mode scrambling (payload_of mode codeword) (λ s lt. payload_back mode codeword s (symbol (pos 0) (pos 0)) lt)
+
+    -- the equalizer changes nothing of a frame that was turned back
+    levelled : (codeword : List Bool) (symbols : List Symbol) → upright_symbols link tuning symbols ≡ sent_symbols link codeword → decided_symbols link tuning symbols ≡ sent_symbols link codeword
+    levelled codeword symbols straight = by tuning.equalize
+      where
+        by : (wanted : Bool) → cond wanted (equalized mode scrambling (upright_symbols link tuning symbols)) (upright_symbols link tuning symbols) ≡ sent_symbols link codeword
+        by true = ap (equalized mode scrambling) straight ∙ sent_back mode scrambling (payload_of mode codeword) is_mode (payload_moderate mode codeword)
+        by false = straight
+
+    came_turned : (codeword : List Bool) (symbols : List Symbol) (t : ℕ) → t < 4 → tuning.turns ≡ true → symbols ≡ map (rotated t) (sent_symbols link codeword) → Came codeword symbols
+    came_turned codeword symbols t lt turns is =
+        let sent = sent_symbols link codeword in
+        let frame = turned_frame_is mode scrambling t (payload_of mode codeword) is_mode lt in
+        let straight = (λ i. if turns i then derotated mode (is i) else is i) ∙ frame.back (sent_rotates codeword) in
+        record {
+          long = ap length is ∙ length-map sent (rotated t) ∙ length_sent codeword;
+          finds = λ behind. (λ i. found_as (sought_of mode (turns i)) tuning.max_header_errors behind (take 90 (is i))) ∙ turned_found t tuning.max_header_errors sent (map (rotated t) sent) behind frame;
+          straight = straight;
+          upright = levelled codeword symbols straight;
+        }
+
+    came_straight : (codeword : List Bool) (symbols : List Symbol) (turns : Bool) → tuning.turns ≡ turns → symbols ≡ sent_symbols link codeword → Came codeword symbols
+    came_straight codeword symbols true turns is = came_turned codeword symbols 0 (omega arith) turns (is ∙ sym (map-id (sent_symbols link codeword)))
+    came_straight codeword symbols false turns is = record {
+      long = ap length is ∙ length_sent codeword;
+      finds = λ behind. (λ i. found_as (sought_of mode (turns i)) tuning.max_header_errors behind (take 90 (is i))) ∙ straight_found codeword tuning.max_header_errors behind;
+      straight = (λ i. if turns i then derotated mode (is i) else is i);
+      upright = levelled codeword symbols (λ i. if turns i then derotated mode (is i) else is i);
+    }
+
+    pub came : (codeword : List Bool) (symbols : List Symbol) → CameWithoutNoise link tuning codeword symbols → Came codeword symbols
+    came codeword symbols (inl is) = came_straight codeword symbols tuning.turns refl is
+    came codeword symbols (inr (turns, (t, lt, is))) = came_turned codeword symbols t lt turns is
+
+    pub sent_upright : (codeword : List Bool) → decided_symbols link tuning (sent_symbols link codeword) ≡ sent_symbols link codeword
+    sent_upright codeword = (came_straight codeword (sent_symbols link codeword) tuning.turns refl refl).upright
+
+    pub sent_straight : (codeword : List Bool) → upright_symbols link tuning (sent_symbols link codeword) ≡ sent_symbols link codeword
+    sent_straight codeword = (came_straight codeword (sent_symbols link codeword) tuning.turns refl refl).straight
+
+    -- as sent, it arrived rotated by none
+    pub sent_unturned : (codeword : List Bool) → frame_turn link tuning (sent_symbols link codeword) ≡ 0
+    sent_unturned codeword = by tuning.turns
+      where
+        by : (turns : Bool) → (if turns then turn_of mode (sent_symbols link codeword) else 0) ≡ 0
+        by true = ap (turn_of mode) (sym (map-id (sent_symbols link codeword))) ∙ (turned_frame_is mode scrambling 0 (payload_of mode codeword) is_mode (omega arith)).turn_is
+        by false = refl
+
+  module _ (ro : link.setup.roll_off ≤ 2) (tuning : Tuning) (known : IsDivisor tuning.divisor) (limit : ℕ) where
+    pub hears_frame : (at : ℕ) (field : List ℕ) (codeword : List Bool) (symbols : List Symbol) → AreBytes field → to_place at < length field → length field ≤ field_bytes mode
+        → (is : IsCodewordFor mode link.rows (header_at link.setup.roll_off at field) field codeword) → CameWithoutNoise link tuning codeword symbols
+        → ((behind : Bool) → IsReceived (link_rules link tuning limit) behind (header_at link.setup.roll_off at field) field symbols)
+        × IsDeliveredCertified (frame_decision link tuning symbols) codeword (message_of mode is.bch_word) (header_at link.setup.roll_off at field) field
+        × ((frame_decision link tuning symbols).verdict ≡ Sole)
+    hears_frame at field codeword symbols bytes place fits c without =
+        let number = link.setup.number in
+        let here = came tuning codeword symbols without in
         let soft = frame_soft link tuning symbols in
-        let heard = received tuning.divisor mode link.setup.number codeword known is_mode (c.is_codeword.in_code.long ∙ code_is mode link.rows has_sizes linked.1) in
-        let hard : hard_decision soft ≡ codeword = heard.soft.decided in
+        let clean = soft_values tuning.divisor mode (received_payload mode number (sent_symbols link codeword)) in
+        let same : soft ≡ clean = ap (λ (l : List Symbol). soft_values tuning.divisor mode (received_payload mode number l)) here.upright in
+        let heard = received tuning.divisor mode number codeword known is_mode (c.is_codeword.in_code.long ∙ code_is mode link.rows has_sizes linked.1) in
+        let hard : hard_decision soft ≡ codeword = ap hard_decision same ∙ heard.soft.decided in
         let sure = clean_lem link.rows tuning soft (subst (IsCodeword (code_of link.rows)) (sym hard) c.is_codeword.in_code) in
         let f = frame_is link tuning symbols in
         let bits = f.bits ∙ ap (λ d. d.bits) sure.0 ∙ hard in
         let given = codeword_delivers at field codeword (record { linked = linked; roll_off = ro; bytes = bytes; place = place; fits = fits; codeword_is = c }) tuning symbols bits in
-        let some : NoneIsZero soft = λ i low. heard.soft.some i (omega (arith, low, ap length hard, length-map soft (λ v. int_lt v (pos 0)))) in
+        let some_clean : NoneIsZero clean = λ i low. heard.soft.some i (omega (arith, low, ap length heard.soft.decided, length-map clean (λ v. int_lt v (pos 0)))) in
+        let some : NoneIsZero soft = subst NoneIsZero (sym same) some_clean in
         let verdict = f.verdict ∙ sure.1.1 some in (
-          λ behind. (length-map-range_with_len (frame_symbol mode link.setup.number (payload_of mode codeword)) 0 (symbols_in mode), found_sent codeword heard.header behind, given.delivered),
+          λ behind. (here.long, here.finds behind, given.delivered),
           record { verdict = ap is_certified verdict; bits = bits; delivered = given },
           verdict,
         )
@@ -284,8 +359,8 @@ module _ (m : Mode) (valid : IsMode m) (sizes : HasCodeSizes m) where
     size = refl;
     least = symbols_least link.setup.mode;
     field_least = omega (arith, (has_sizes m valid sizes link linked).field_least);
-    dummies = dummy_is link.setup.mode tuning.max_header_errors link.setup.number (is_mode m valid sizes link linked);
-    frames = hears_frame m valid sizes link linked ro tuning known limit;
+    dummies = dummy_is link.setup.mode tuning.turns tuning.max_header_errors link.setup.number (is_mode m valid sizes link linked);
+    frames = λ at field codeword bytes place fits is. hears_frame m valid sizes link linked ro tuning known limit at field codeword (sent_symbols link codeword) bytes place fits is (inl refl);
   }
 
   pub scattered_law : ScatteredFrameLaw m

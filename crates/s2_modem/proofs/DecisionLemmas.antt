@@ -1,5 +1,5 @@
 -- What a decider finds is what is decided of a frame.
-use Rattle.s2_modem.proofs.Names.{and_parts, ◌≡◌, ℕ, ◌+◌, ◌-◌, ◌*◌, ◌/◌, ◌≤◌, Bool, true, false, List, length, take, Option, Some, None, IfSome, IfNone, Result, Ok, refl, sym, ap, subst, ◌∙◌, arith, length-take, ℤ, replicate, pos, leb-true, ext_get_or, get_or-take, take-replicate, field_bytes, Mode, HasCodeSizes, k_of, kbch_of, n_of, shape_in, code_bits, Symbol, Rows, code_of, Verdict, View, Link, bit_at, differences, Rewritten, Header, HeaderFault, is_whole, is_packet_stream, header_of, has_valid_lengths, header_of_bytes, header_of_bytes-bad_crc, header_of_bytes-other, header_of_bytes-bad_lengths, header_of_bytes-accepted, IsWithin, nearest, Decision, Answer, Outcome, Decided, decided, Tuning, frame_soft, frame_decision, received_word, message_of, header_in, outcome_by, delivered_by, decision_on, decision_by, IsUndecided, scrambled, FindsWord, Reads, decision_held, cond, Figures, FigureMeter, meter_of, figures_of, figures_found, meter_by, figures_by, measured, rounds_run, energy_of}
+use Rattle.s2_modem.proofs.Names.{and_parts, ◌≡◌, ℕ, ◌+◌, ◌-◌, ◌*◌, ◌/◌, ◌≤◌, Bool, true, false, List, length, take, Option, Some, None, IfSome, IfNone, Result, Ok, refl, sym, ap, subst, ◌∙◌, arith, length-take, ℤ, replicate, pos, leb-true, ext_get_or, get_or-take, take-replicate, field_bytes, Mode, HasCodeSizes, k_of, kbch_of, n_of, shape_in, code_bits, Symbol, Rows, code_of, Verdict, View, Link, bit_at, differences, Rewritten, Header, HeaderFault, is_whole, is_packet_stream, header_of, has_valid_lengths, header_of_bytes, header_of_bytes-bad_crc, header_of_bytes-other, header_of_bytes-bad_lengths, header_of_bytes-accepted, IsWithin, nearest, Decision, Answer, Outcome, Decided, decided, Tuning, frame_soft, frame_decision, received_word, message_of, header_in, outcome_by, delivered_by, decision_on, decision_by, IsUndecided, scrambled, FindsWord, Reads, decision_held, cond, Figures, FigureMeter, meter_of, figures_of, figures_found, meter_by, figures_by, measured, rounds_run, energy_of, upright_symbols, frame_turn, Derotating, upright, derotated, turn_of, rotated_back, length-map, if◌then◌else◌}
 
 -- a list over which the first bits of another were written, as many as it has
 prefix_is : (n : ℕ) (bits old now : List Bool) → Rewritten false n (bit_at bits) old now → length old ≡ n → n ≤ length bits → now ≡ take n bits
@@ -44,7 +44,7 @@ code_is m rows sizes shape = ap code_bits shape ∙ omega (arith, sizes.groups, 
 
 abbrev pub shown : Mode → List ℤ → List Bool → Verdict → Option View → List Bool → Outcome → Option (Header × List ℕ) → Decision
 shown m soft bits verdict certificate word outcome delivered =
-    record { soft = soft; bits = bits; verdict = verdict; certificate = certificate; message = message_of m word; outcome = outcome; delivered = delivered; figures = None; energy = 0 }
+    record { soft = soft; bits = bits; verdict = verdict; certificate = certificate; message = message_of m word; outcome = outcome; delivered = delivered; figures = None; energy = 0; turn = 0 }
 
 -- what was found and read is what is decided
 decision_is : (m : Mode) (soft : List ℤ) (d : Decided) (word : List Bool) (found : Option ℕ) (outcome : Outcome) (delivered : Option (Header × List ℕ))
@@ -63,37 +63,58 @@ if_wanted P true f h = h
 if_wanted P false f h = tt
 
 -- what a finder finds are the figures of the frame
-pub figures_are : (link : Link) (tuning : Tuning) (symbols : List Symbol) (held soft : List ℤ) (bits : List Bool) (rounds : ℕ) (meter : Option FigureMeter) (figures : Option Figures)
-    → figures ≡ figures_found meter symbols held bits rounds → meter ≡ meter_by tuning link.setup.mode link.setup.number
+pub figures_are : (link : Link) (tuning : Tuning) (symbols upright : List Symbol) (held soft : List ℤ) (bits : List Bool) (rounds : ℕ) (meter : Option FigureMeter) (figures : Option Figures)
+    → figures ≡ figures_found meter upright held bits rounds → meter ≡ meter_by tuning link.setup.mode link.setup.number → upright ≡ upright_symbols link tuning symbols
     → held ≡ soft → soft ≡ frame_soft link tuning symbols → bits ≡ (decided link.rows tuning soft).bits → rounds ≡ rounds_run link.rows tuning soft → figures ≡ figures_by link tuning symbols
-figures_are link tuning symbols held soft bits rounds meter figures found wanted held_is soft_is bits_are rounds_are =
+figures_are link tuning symbols upright held soft bits rounds meter figures found wanted upright_is held_is soft_is bits_are rounds_are =
     let m = link.setup.mode in
     let number = link.setup.number in
-    let same : figures_of m number symbols held bits rounds ≡ figures_of m number symbols soft (decided link.rows tuning soft).bits (rounds_run link.rows tuning soft) =
-    λ i. figures_of m number symbols (held_is i) (bits_are i) (rounds_are i) in
-    let all = same ∙ ap (λ s. figures_of m number symbols s (decided link.rows tuning s).bits (rounds_run link.rows tuning s)) soft_is in
-    found ∙ ap (λ f. figures_found f symbols held bits rounds) wanted ∙ by_want tuning.figures _ all
+    let same : figures_of m number upright held bits rounds ≡ figures_of m number (upright_symbols link tuning symbols) soft (decided link.rows tuning soft).bits (rounds_run link.rows tuning soft) =
+    λ i. figures_of m number (upright_is i) (held_is i) (bits_are i) (rounds_are i) in
+    let all = same ∙ ap (λ s. figures_of m number (upright_symbols link tuning symbols) s (decided link.rows tuning s).bits (rounds_run link.rows tuning s)) soft_is in
+    found ∙ ap (λ f. figures_found f upright held bits rounds) wanted ∙ by_want tuning.figures _ all
   where
-    by_want : (wanted : Bool) (f : Figures) → figures_of link.setup.mode link.setup.number symbols held bits rounds ≡ f
-        → figures_found (cond wanted (Some (meter_of link.setup.mode link.setup.number)) None) symbols held bits rounds ≡ cond wanted (Some f) None
+    by_want : (wanted : Bool) (f : Figures) → figures_of link.setup.mode link.setup.number upright held bits rounds ≡ f
+        → figures_found (cond wanted (Some (meter_of link.setup.mode link.setup.number)) None) upright held bits rounds ≡ cond wanted (Some f) None
     by_want true f is = ap Some is
     by_want false f is = refl
 
+-- the upright symbols, by what rotated them back
+pub upright_by : (old new : Derotating) (turns : Bool) (frame : List Symbol) → new.turns ≡ old.turns → old.turns ≡ turns → (old.turns ≡ true → new.symbols ≡ derotated old.mode frame)
+    → upright new frame ≡ (if turns then derotated old.mode frame else frame)
+upright_by old new true frame same is wrote = ap (λ b. if b then new.symbols else frame) (same ∙ is) ∙ wrote is
+upright_by old new false frame same is wrote = ap (λ b. if b then new.symbols else frame) (same ∙ is)
+
+-- of a link and a tuning
+pub upright_so : (link : Link) (tuning : Tuning) (frame result : List Symbol) (old new : Derotating) → result ≡ upright new frame → new.turns ≡ old.turns → (old.turns ≡ true → new.symbols ≡ derotated old.mode frame)
+    → old.mode ≡ link.setup.mode → old.turns ≡ tuning.turns → result ≡ upright_symbols link tuning frame
+upright_so link tuning frame result old new is same wrote mode turns =
+    is ∙ upright_by old new tuning.turns frame same turns wrote ∙ ap (λ m. if tuning.turns then derotated m frame else frame) mode
+
+-- as many as were given
+pub length_upright : (link : Link) (tuning : Tuning) (frame : List Symbol) → length (upright_symbols link tuning frame) ≡ length frame
+unfolding derotated
+length_upright link tuning frame = by tuning.turns
+  where
+    by : (turns : Bool) → length (if turns then derotated link.setup.mode frame else frame) ≡ length frame
+    by true = length-map frame (rotated_back (turn_of link.setup.mode frame))
+    by false = refl
+
 -- the parts that a decider finds are what is decided of a frame
-pub frame_decided : (link : Link) (tuning : Tuning) (symbols : List Symbol) (held soft : List ℤ) (bits : List Bool) (verdict : Verdict) (certificate : Option View) (word : List Bool) (found : Option ℕ) (outcome : Outcome) (delivered : Option (Header × List ℕ)) (figures : Option Figures) (energy : ℕ)
+pub frame_decided : (link : Link) (tuning : Tuning) (symbols : List Symbol) (held soft : List ℤ) (bits : List Bool) (verdict : Verdict) (certificate : Option View) (word : List Bool) (found : Option ℕ) (outcome : Outcome) (delivered : Option (Header × List ℕ)) (figures : Option Figures) (energy turn : ℕ)
     → held ≡ soft → soft ≡ frame_soft link tuning symbols → verdict ≡ (decided link.rows tuning soft).verdict → bits ≡ (decided link.rows tuning soft).bits → certificate ≡ (decided link.rows tuning soft).certificate
     → FindsWord link.setup.mode (received_word link.setup.mode bits) word found → Reads link.setup.mode word found outcome delivered
-    → figures ≡ figures_by link tuning symbols → energy ≡ energy_of (take 90 symbols)
-    → measured (shown link.setup.mode held bits verdict certificate word outcome delivered) figures energy ≡ frame_decision link tuning symbols
+    → figures ≡ figures_by link tuning symbols → energy ≡ energy_of (take 90 symbols) → turn ≡ frame_turn link tuning symbols
+    → measured (shown link.setup.mode held bits verdict certificate word outcome delivered) figures energy turn ≡ frame_decision link tuning symbols
 unfolding frame_decision
-frame_decided link tuning symbols held soft bits verdict certificate word found outcome delivered figures energy held_is soft_is verdict_is bits_are certificate_is finds reads figures_is energy_is =
+frame_decided link tuning symbols held soft bits verdict certificate word found outcome delivered figures energy turn held_is soft_is verdict_is bits_are certificate_is finds reads figures_is energy_is turn_is =
     let m = link.setup.mode in
     let d : Decided = decided link.rows tuning soft in
     let one : shown m held bits verdict certificate word outcome delivered ≡ decision_on m (frame_soft link tuning symbols) (decided link.rows tuning (frame_soft link tuning symbols)) =
     (λ i. shown m (held_is i) (bits_are i) (verdict_is i) (certificate_is i) word outcome delivered)
     ∙ decision_is m soft d word found outcome delivered (subst (λ b. FindsWord m (received_word m b) word found) bits_are finds) reads
     ∙ ap (λ s. decision_on m s (decided link.rows tuning s)) soft_is in
-    λ i. measured (one i) (figures_is i) (energy_is i)
+    λ i. measured (one i) (figures_is i) (energy_is i) (turn_is i)
 
 -- the baseband frame that is read
 pub frame_read : (m : Mode) (word old copied frame : List Bool) (n : ℕ) → n ≡ kbch_of m → HasCodeSizes m → length word ≡ k_of m → length old ≡ kbch_of m

@@ -1,6 +1,6 @@
 -- The first frames of a stream arrive, and one stream gives the same however it is read.
 use Rattle.s2_modem.proofs.Names.{◌≡◌, Bool, true, false, ℕ, ◌+◌, ◌≤◌, inl, inr, List, [], ◌∷◌, length, refl, sym, ap, ◌∙◌, subst, Appends, Mode, IsMode, HasCodeSizes, Symbol, header_at, field_bytes, Rules, at_start, after_all, all_packets, all_lines, are_all_certified, Piece, coded, dummy, IsReceived, AreReceived, gives, front, same_met, IsDivisor, Tuning, Link, IsLinkOf, message_of, frame_decision, link_rules, IsDeliveredCertified, IsSent, IsWholeFrame, IsClear, IsHeard, AreEach, FirstFramesLaw, OneStreamLaw, DeliversAll}
-use Rattle.s2_modem.proofs.CleanFrames.{is_mode, has_sizes, receives_all_law, scattered_law, both_codes_law}
+use Rattle.s2_modem.proofs.CleanFrames.{is_mode, has_sizes, hears_frame, receives_all_law, scattered_law, both_codes_law}
 use Rattle.s2_modem.proofs.ByteStreams.{IsField, AreFields, front_fields}
 use Rattle.s2_modem.proofs.Arrival.{IsCertifiedFrame, AllCoded, called}
 
@@ -12,10 +12,9 @@ module _ (m : Mode) (valid : IsMode m) (sizes : HasCodeSizes m) (link : Link) (t
   pub clear_one : (behind : Bool) (at : ℕ) (field : List ℕ) (codeword : List Bool) (symbols : List Symbol) (sent : IsSent m link at field codeword) → IsClear link tuning behind codeword symbols
       → IsWholeFrame link tuning behind symbols × IsDeliveredCertified (frame_decision link tuning symbols) codeword (message_of link.setup.mode sent.codeword_is.bch_word) (header_at link.setup.roll_off at field) field
   clear_one behind at field codeword symbols sent (inl clean) =
-      let h = (receives_all_law m valid sizes link tuning limit linked ro known).frames at field codeword sent.bytes sent.place sent.fits sent.codeword_is in
+      let h = hears_frame m valid sizes link linked ro tuning known limit at field codeword symbols sent.bytes sent.place sent.fits sent.codeword_is clean in
       let one = h.0 behind in
-      let message = message_of link.setup.mode sent.codeword_is.bch_word in
-      subst (λ l. IsWholeFrame link tuning behind l × IsDeliveredCertified (frame_decision link tuning l) codeword message (header_at link.setup.roll_off at field) field) (sym clean) ((one.0, one.1), h.1)
+      ((one.0, one.1), h.1)
   clear_one behind at field codeword symbols sent (inr (whole, scattered)) = (whole, scattered_law m valid sizes link tuning symbols at field codeword sent scattered)
 
   pub heard_one : (behind : Bool) (at : ℕ) (field : List ℕ) (symbols : List Symbol) → IsField (field_bytes link.setup.mode) at field → IsHeard link tuning behind at field symbols

@@ -40,6 +40,7 @@ module _ (link : Link) (tuning : Tuning) (stream : List Symbol) (limit : ℕ) wh
               verdict = (d (there.symbols_are i)).verdict;
               outcome = (d (there.symbols_are i)).outcome;
               figures = (d (there.symbols_are i)).figures;
+              turn = (d (there.symbols_are i)).turn;
             },
       )
 

@@ -1,5 +1,5 @@
 -- Where a search stands after some moves, and what is met from there on.
-use Rattle.s2_modem.proofs.Names.{◌≡◌, ℕ, zero, suc, ◌+◌, ◌-◌, ◌<◌, ◌≤◌, Bool, true, false, List, [], ◌∷◌, ◌++◌, length, take, drop, inl, inr, cases_lt, refl, sym, ap, ◌∙◌, subst, append_assoc, length-append, length-drop, length-take, length-take-le, take-take, take-append-drop, drop-drop, drop_all, cond-true, le-leb, and-true, and_right, arith, ◌&&◌, nat_eq, Mode, symbols_in, Symbol, Found, Tuning, Link, Gap, Report, cut_line, Met, frame, cut, ended, no_gap, extended, begins, met_from, met-extended, met-dummy, whole_frame, cut_frame, symbols_least, Rules, Standing, at_start, report_of, after, found_as, link_rules, frame_from, Place, found_at, past, stands, IsFrameAt, IsCutAt, IsNext, IsWholeFrame, frame_decision, report_at}
+use Rattle.s2_modem.proofs.Names.{◌≡◌, ℕ, zero, suc, ◌+◌, ◌-◌, ◌<◌, ◌≤◌, Bool, true, false, List, [], ◌∷◌, ◌++◌, length, take, drop, inl, inr, cases_lt, refl, sym, ap, ◌∙◌, subst, append_assoc, length-append, length-drop, length-take, length-take-le, take-take, take-append-drop, drop-drop, drop_all, cond-true, le-leb, and-true, and_right, arith, ◌&&◌, nat_eq, Mode, symbols_in, Symbol, Found, Tuning, Link, Gap, Report, cut_line, Met, frame, cut, ended, no_gap, extended, begins, met_from, met-extended, met-dummy, whole_frame, cut_frame, symbols_least, Rules, Standing, at_start, report_of, after, found_as, link_rules, frame_from, Place, found_at, past, stands, IsFrameAt, IsCutAt, IsNext, IsWholeFrame, frame_decision, report_at, sought_by}
 use Rattle.s2_modem.proofs.Names.founds
 
 -- the reports of frames that were met, and the line of one that is cut
@@ -27,7 +27,7 @@ module _ (link : Link) (tuning : Tuning) (stream : List Symbol) where
   size = symbols_in mode
 
   abbrev finds : Bool → List Symbol → Found
-  finds = found_as mode tuning.max_header_errors
+  finds = found_as (sought_by link tuning) tuning.max_header_errors
 
   abbrev left : Place → List Symbol
   left p = drop p.at stream
@@ -153,7 +153,7 @@ module _ (link : Link) (tuning : Tuning) (stream : List Symbol) where
         let d = frame_decision link tuning (frame_from link stream p.at) in
         let w = walk n (omega arith) in
         let told : report_of rules w.s.totals p.at (frame_from link stream p.at) ≡ report_at link tuning stream p =
-        λ i. record { number = w.counted i + 1; at = p.at; verdict = d.verdict; outcome = d.outcome; figures = d.figures } in
+        λ i. record { number = w.counted i + 1; at = p.at; verdict = d.verdict; outcome = d.outcome; figures = d.figures; turn = d.turn } in
         (w.before, report_of rules w.s.totals p.at (frame_from link stream p.at), _, w.reports ∙ ap (λ l. w.before ++ reports_of rules w.s l) (coded_move p w.skipped here long), w.many, refl, told)
 
     -- so it does at a whole frame with a header that passes there

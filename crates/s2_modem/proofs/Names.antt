@@ -2,7 +2,7 @@
 pub use Rattle.std.specs.Io.KnownBytes.{Appends, Consumes, IsAtEnd}
 pub use Rattle.std.specs.List.{range_with_len}
 pub use Rattle.std.specs.Prelude.{⊤, ◌⊎◌, ◌&&◌, count_by}
-pub use Rattle.std.proofs.Common.{All, Bool, Err, IfNone, IfOk, IfSome, IsErrOf, IsTrue, List, None, Ok, Option, Result, SFits, Some, [], ap, append-nil, append_assoc, ap₂, arith, cond, drop, drop-drop, drop_at, eq-eqb, ext_get_or, false, flat_map, get_or, get_or-drop, get_or-take, if◌then◌else◌, inl, inr, int_lt, le-leb, leb-true, length, length-append, length-drop, length-take, length-take-le, lt-ltb, map, nat_eq, nat_le, nat_lt, neg_ℤ, negsuc, pos, refl, replicate, rules, subst, suc, sym, take, take-append-drop, take_all, take_at, true, w16, zero, ℕ, ℤ, ◌%◌, ◌*◌, ◌++◌, ◌+◌, ◌-◌, ◌/◌, ◌<◌, ◌==◌, ◌↔◌, ◌∙◌, ◌∷◌, ◌≡◌, ◌≢◌, ◌≤◌}
+pub use Rattle.std.proofs.Common.{All, Bool, Err, IfNone, IfOk, IfSome, IsErrOf, IsTrue, List, None, Ok, Option, Result, SFits, Some, [], ap, append-nil, append_assoc, ap₂, arith, cond, drop, drop-drop, drop_at, eq-eqb, ext_get_or, false, flat_map, get_or, get_or-drop, get_or-take, if◌then◌else◌, inl, inr, int_lt, le-leb, leb-true, length, length-append, length-drop, length-take, length-take-le, lt-ltb, map, map-id, nat_eq, nat_le, nat_lt, neg_ℤ, negsuc, pos, refl, replicate, rules, subst, suc, sym, take, take-append-drop, take_all, take_at, true, w16, zero, ℕ, ℤ, ◌%◌, ◌*◌, ◌++◌, ◌+◌, ◌-◌, ◌/◌, ◌<◌, ◌==◌, ◌↔◌, ◌∙◌, ◌∷◌, ◌≡◌, ◌≢◌, ◌≤◌}
 pub use Rattle.std.proofs.Math.Bool.{and-true}
 pub use Rattle.std.proofs.lemmas.Bool.{and_parts, and_right, cases_lt, cond-true, cond_both, lt-leb, or_right}
 pub use Rattle.std.proofs.lemmas.Int.{int_min_is, ints}
@@ -47,11 +47,23 @@ unfoldable pub use Rattle.s2_plframe.specs.Dummy.{dummy_frame}
 pub use Rattle.s2_plframe.specs.Frame.{frame_symbol, frame_symbols, slot_symbol, spaced_symbol}
 pub use Rattle.s2_plframe.specs.Header.{dummy_mode, header_bit, header_point, header_symbol}
 pub use Rattle.s2_plframe.specs.Payload.{received_payload}
+pub use Rattle.s2_plframe.specs.HeaderLaws.{IsTurnedFrame}
+pub use Rattle.s2_plframe.specs.Payload.{AllRotateBack}
 pub use Rattle.s2_plframe.specs.Search.{decision, found, found_behind}
+pub use Rattle.s2_plframe.specs.Turns.{behind_in, found_in, sides, sought_of}
+unfoldable pub use Rattle.s2_plframe.specs.Turns.{derotated, turn_of}
+pub use Rattle.s2_equalize.specs.Equalizer.{Equalizer, equalized, equalizer_of}
+pub use Rattle.s2_equalize.specs.Wanted.{levelled}
+pub use Rattle.s2_equalize.proofs.WantedLemmas.{if_equalized, length_levelled, levelled_by}
+pub use Rattle.s2_equalize.specs.Laws.{IsModerate}
+pub use Rattle.s2_equalize.proofs.ExactFrames.{sent_back}
 pub use Rattle.s2_plframe.specs.declared.receive.found.Found.{Found}
 pub use Rattle.s2_plframe.proofs.HeaderFacts.{clean_passes, dummy_found}
 pub use Rattle.s2_plframe.proofs.HeadersBehind.{clean_behind, dummy_behind}
 pub use Rattle.s2_plframe.proofs.Payloads.{payload_again}
+pub use Rattle.s2_plframe.proofs.TurnFacts.{straight_is}
+pub use Rattle.s2_plframe.proofs.TurnLaws.{frame_rotates, turned_dummy_is, turned_frame_is}
+pub use Rattle.s2_scramble.specs.Rotations.{rotated, rotated_back}
 pub use Rattle.s2_soft.specs.Clean.{DecidesTo}
 pub use Rattle.s2_soft.specs.Divisors.{IsDivisor}
 pub use Rattle.s2_soft.specs.Soft.{soft_bit, soft_values}
@@ -109,12 +121,12 @@ unfoldable pub use Rattle.s2_figures.specs.Header.{energy_of, header_errors}
 pub use Rattle.s2_modem.specs.Both.{AreBytes, FramePlace, IsByte, IsDelivered, IsDeliveredCertified, ReceivesAll, certified_lines, energy_over, run_places, sent_symbols, sums_over, totals_of}
 pub use Rattle.s2_modem.specs.Front.{IsCleanFrame, clean_energy, clean_figures, clean_figures_by}
 pub use Rattle.s2_modem.specs.Headline.{ArrivalLaw, BothCodesLaw, CorrectsWithin, IsSent, ReceivesAllLaw, ReceivesScattered, ScatteredFrameLaw, sent_places}
-pub use Rattle.s2_modem.specs.DeciderState.{FindsWord, DeciderState, Reads, decides, decision_held, figures_found, meter_by}
+pub use Rattle.s2_modem.specs.DeciderState.{Derotating, FindsWord, DeciderState, Reads, decides, decision_held, figures_found, meter_by, upright}
 pub use Rattle.s2_modem.specs.Promise.{Arriving, CallsLaw, Headline, IsCutAt, IsHeadline, IsNext, IsReadable, FramePromises, IsFrameAt, KeepsHeadline, Place, report_at, RunsHeadline, closed_packets, decision_from, found_at, frame_from, is_delivered, past, stands, wrong_bits}
-pub use Rattle.s2_modem.specs.Reception.{AllAsLikely, TrueReports, IsAsLikely, IsCertifiedBy, IsCorrected, Receiver, link_rules, rules_for, seen}
-pub use Rattle.s2_modem.specs.Reports.{IsUndecided, decision_by, decision_on, delivered_by, field_in, figures_by, frame_soft, header_in, measured, message_of, outcome_by, received_word}
+pub use Rattle.s2_modem.specs.Reception.{AllAsLikely, TrueReports, IsAsLikely, IsCertifiedBy, IsCorrected, Receiver, link_rules, rules_for, seen, sought_by}
+pub use Rattle.s2_modem.specs.Reports.{IsUndecided, decided_symbols, decision_by, decision_on, delivered_by, field_in, figures_by, frame_soft, frame_turn, header_in, measured, message_of, outcome_by, received_word, upright_symbols}
 unfoldable pub use Rattle.s2_modem.specs.Reports.{frame_decision}
 pub use Rattle.s2_modem.specs.Steps.{DeliversAll}
-pub use Rattle.s2_modem.specs.Streams.{AreEach, FirstFramesLaw, IsClear, IsHeard, IsWholeFrame, OneStreamLaw, places_in}
+pub use Rattle.s2_modem.specs.Streams.{AreEach, CameWithoutNoise, FirstFramesLaw, IsClear, IsHeard, IsWholeFrame, OneStreamLaw, places_in}
 pub use Rattle.s2_plframe.specs.declared.receive.found.Found.TheVariants as founds
 pub use Rattle.s2_receive.specs.declared.report.Phase.TheVariants as phases

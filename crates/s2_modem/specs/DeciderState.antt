@@ -16,6 +16,7 @@ use Rattle.s2_receive.specs.declared.report.Outcome.TheVariants.{NoWord}
 use Rattle.s2_link.specs.Link.{Link}
 use Rattle.s2_tuning.specs.Tuning.{Tuning}
 use Rattle.s2_bch.specs.Decoding.{nearest}
+use Rattle.s2_equalize.specs.Wanted.{Equalizing, equalizer_by}
 use Rattle.s2_figures.specs.Figures.{FigureMeter, figures_of, meter_of}
 use Rattle.s2_receive.specs.declared.figures.Figures.{Figures}
 use Rattle.s2_modem.specs.Reports.{message_of, header_in, outcome_by, delivered_by, frame_decision}
@@ -71,7 +72,18 @@ decision_held m soft bits certificate bch_word d field = record {
   delivered = delivered_of d.header field;
   figures = d.figures;
   energy = d.energy;
+  turn = d.turn;
 }
+
+-- what rotates frames back: their mode, whether it does, and the symbols that it wrote last
+pub record Derotating : Type 0 where
+  pub mode : Mode
+  pub turns : Bool
+  pub symbols : List Symbol
+
+-- the symbols that are decided of a frame: those written last, if it rotates frames back
+abbrev pub upright : Derotating → List Symbol → List Symbol
+upright d symbols = if d.turns then d.symbols else symbols
 
 -- the finder of figures, if the tuning asks for them
 abbrev pub meter_by : Tuning → Mode → ℕ → Option FigureMeter
@@ -83,8 +95,8 @@ figures_found None symbols soft bits rounds = None
 figures_found (Some f) symbols soft bits rounds = Some (figures_of f.mode f.number symbols soft bits rounds)
 
 -- the stages of a decider are of its mode, the divisor is that of its tuning, and the joiner can take the last
--- delivered field. There is a finder of figures exactly if the tuning asks for them
-pub record IsDeciderState (mode : Mode) (rows : Rows) (tuning : Tuning) (demodulates : Demodulating) (corrects : Mode) (reads : Reading) (meter : Option FigureMeter) (last : Decided) : Type 0 where
+-- delivered field. There is a finder of figures and an equalizer, and frames are rotated back, exactly if the tuning says so
+pub record IsDeciderState (mode : Mode) (rows : Rows) (tuning : Tuning) (demodulates : Demodulating) (corrects : Mode) (reads : Reading) (derotates : Derotating) (equalizes : Equalizing) (meter : Option FigureMeter) (last : Decided) : Type 0 where
   pub valid : IsMode mode
   pub sizes : HasCodeSizes mode
   pub shape : rows.shape ≡ shape_in mode
@@ -92,5 +104,8 @@ pub record IsDeciderState (mode : Mode) (rows : Rows) (tuning : Tuning) (demodul
   pub divisor : demodulates.divisor ≡ tuning.divisor
   pub corrector : corrects ≡ mode
   pub reader : reads.mode ≡ mode
+  pub derotator : derotates.mode ≡ mode
+  pub turns : derotates.turns ≡ tuning.turns
+  pub equalizer : equalizes.equalizer ≡ equalizer_by tuning.equalize mode demodulates.number
   pub figures : meter ≡ meter_by tuning mode demodulates.number
   pub place : IfSome last.header (HasPlace reads.field)

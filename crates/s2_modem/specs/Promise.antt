@@ -34,7 +34,7 @@ use Rattle.s2_receive.specs.declared.report.Outcome.TheVariants.{Delivered}
 use Rattle.s2_receive.specs.declared.report.Report.{Report}
 use Rattle.s2_receive.specs.declared.report.Totals.{Totals}
 use Rattle.s2_modem.specs.Reports.{frame_soft, frame_decision, received_word}
-use Rattle.s2_modem.specs.Reception.{Receiver, ReceivesTotals, IsAsLikely, AllAsLikely, IsCorrected, TrueReports, link_rules, rules_for, seen}
+use Rattle.s2_modem.specs.Reception.{Receiver, ReceivesTotals, IsAsLikely, AllAsLikely, IsCorrected, TrueReports, link_rules, rules_for, seen, sought_by}
 use Rattle.s2_modem.specs.Both.{AreBytes}
 use Rattle.s2_modem.specs.Streams.{IsWholeFrame, IsClear, AreEach}
 use Rattle.s2_modem.specs.Headline.{IsSent}
@@ -59,7 +59,7 @@ pub record Place : Type 0 where
 
 -- what begins there: a coded frame, a dummy frame, or neither
 abbrev pub found_at : Link → Tuning → List Symbol → Place → Found
-found_at link tuning symbols place = begins (found_as link.setup.mode tuning.max_header_errors place.behind) (drop place.at symbols)
+found_at link tuning symbols place = begins (found_as (sought_by link tuning) tuning.max_header_errors place.behind) (drop place.at symbols)
 
 -- the place at which the search continues: after the coded frame, after the dummy frame, or at the next symbol
 abbrev pub past : Mode → Place → Found → Place
@@ -96,7 +96,7 @@ IsReadable link tuning behind at field symbols =
 
 -- those of consecutive data fields, and dummy frames among them
 abbrev pub AreReadable : Link → Tuning → Bool → ℕ → List Piece → List (List ℕ) → Type 0
-AreReadable link tuning = AreEach (IsReadable link tuning) (found_as link.setup.mode tuning.max_header_errors)
+AreReadable link tuning = AreEach (IsReadable link tuning) (found_as (sought_by link tuning) tuning.max_header_errors)
 
 -- Symbols that begin with the first frames that a transmitter of the link makes of these packets, as they come. The
 -- frames are those of these data fields; other symbols follow
@@ -113,12 +113,12 @@ closed_packets packets fields = joined (take (closed_in (length (joined fields))
 
 -- ---- the report
 
--- the report of the frame at a place: its number and its first symbol, and verdict, outcome and figures as they are
+-- the report of the frame at a place: its number and its first symbol, and verdict, outcome, figures and rotation as they are
 -- decided on its symbols
 abbrev pub report_at : Link → Tuning → List Symbol → Place → Report
 report_at link tuning symbols place =
     let d = decision_from link tuning symbols place.at in
-    record { number = place.frames + 1; at = place.at; verdict = d.verdict; outcome = d.outcome; figures = d.figures }
+    record { number = place.frames + 1; at = place.at; verdict = d.verdict; outcome = d.outcome; figures = d.figures; turn = d.turn }
 
 -- the line with this number is that of a frame at this symbol, and this fact holds for it
 abbrev pub IsNext : List Report → Place → (Report → Type 0) → Type 0
@@ -135,7 +135,7 @@ is_delivered outcome = false
 -- delivered. Skipped symbols and a cut frame give a gap too
 abbrev pub joined_on : Link → Tuning → List Symbol → Joined
 joined_on link tuning symbols =
-    joining None (events_of (frame_decision link tuning) (met_from (found_as link.setup.mode tuning.max_header_errors) (symbols_in link.setup.mode) 0 0 false no_gap symbols))
+    joining None (events_of (frame_decision link tuning) (met_from (found_as (sought_by link tuning) tuning.max_header_errors) (symbols_in link.setup.mode) 0 0 false no_gap symbols))
 
 -- The report has a line for each of these frames, numbered from 1. Then comes the line of a cut frame, exactly if the
 -- search comes to one, with its symbol and the number of symbols left. Then comes the last line, with the numbers of
@@ -173,9 +173,9 @@ pub record Headline (link : Link) (tuning : Tuning) (symbols : List Symbol) (pac
   -- word is within t places
   pub within : All (λ frame. IsCorrected link.setup.mode (decision_from link tuning symbols frame.at) frame.outcome) frames
   -- If the search is at a frame that was sent, the next line is that of this frame, at this symbol, whatever came
-  -- before and whatever follows. If the frame came clear, the decided bits are the codeword that was sent, and the line
-  -- says that it is certified, and `fixed 0`. If a header passes there and the first Nbch decided bits differ from the
-  -- BCH word that was sent in at most t places, it is delivered with exactly that number
+  -- before and whatever follows. If the frame came clear, as sent or rotated, the decided bits are the codeword
+  -- that was sent, and the line says that it is certified, and `fixed 0`. If a header passes there and the first Nbch
+  -- decided bits differ from the BCH word that was sent in at most t places, it is delivered with exactly that number
   pub aligned : (moves byte : ℕ) (field : List ℕ) (codeword : List Bool) (sent : IsSent link.setup.mode link byte field codeword)
       → let place = stands link tuning symbols moves in let here = frame_from link symbols place.at in let wrong = wrong_bits link tuning here sent.codeword_is.bch_word in
       (IsClear link tuning place.behind codeword here

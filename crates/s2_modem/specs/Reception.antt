@@ -26,6 +26,7 @@ use Rattle.s2_modem.specs.declared.demodulation.DemodFault.{DemodFault}
 use Rattle.s2_modem.specs.declared.demodulation.DemodFault.TheVariants as demod_faults
 use Rattle.s2_tuning.specs.Tuning.{Tuning, IsTuning, RefusesTuning}
 use Rattle.s2_link.specs.Link.{Link, link_of, IsSetUp, RefusesLink}
+use Rattle.s2_plframe.specs.Turns.{Sought, sought_of}
 use Rattle.s2_receive.specs.Windows.{found_as}
 use Rattle.s2_judge.specs.Deciding.{IsShown}
 use Rattle.s2_bits.specs.Bits.{differences}
@@ -37,9 +38,13 @@ use Rattle.s2_receive.specs.declared.report.Outcome.{Outcome}
 use Rattle.s2_receive.specs.declared.report.Outcome.TheVariants.{Delivered, NoWord, BadHeader}
 use Rattle.s2_modem.specs.Reports.{frame_soft, frame_decision, received_word, message_of, header_in, field_in, IsUndecided}
 
+-- the frames that are sought: those of the link's mode, in all four rotations if the tuning says so
+abbrev pub sought_by : Link → Tuning → Sought
+sought_by link tuning = sought_of link.setup.mode tuning.turns
+
 -- a link's rules: its header, its frame size, the decision on its frames, and the limit of symbols
 abbrev pub link_rules : Link → Tuning → ℕ → Rules
-link_rules link tuning limit = record { finds = found_as link.setup.mode tuning.max_header_errors; size = symbols_in link.setup.mode; decide = frame_decision link tuning; limit = limit }
+link_rules link tuning limit = record { finds = found_as (sought_by link tuning) tuning.max_header_errors; size = symbols_in link.setup.mode; decide = frame_decision link tuning; limit = limit }
 
 -- a receiver: its link, its tuning, its limit of symbols, its state, and its last decision
 pub record Receiver : Type 0 where

@@ -9,6 +9,8 @@ use Rattle.s2_bbframe.specs.declared.header.HeaderFault.{HeaderFault}
 use Rattle.s2_bbframe.specs.Headers.{header_of_bytes}
 use Rattle.s2_scramble.specs.Baseband.{scrambled}
 use Rattle.s2_plframe.specs.Payload.{received_payload}
+use Rattle.s2_plframe.specs.Turns.{derotated, turn_of}
+use Rattle.s2_equalize.specs.Wanted.{levelled}
 use Rattle.s2_soft.specs.Soft.{soft_values}
 use Rattle.s2_receive.specs.Receiving.{Decision}
 use Rattle.s2_receive.specs.declared.figures.Figures.{Figures}
@@ -21,9 +23,21 @@ use Rattle.s2_judge.specs.Deciding.{Decided, decided, rounds_run}
 use Rattle.s2_tuning.specs.Tuning.{Tuning}
 use Rattle.s2_bch.specs.Decoding.{nearest}
 
+-- the symbols of a frame, rotated back by its rotation if the tuning says so
+abbrev pub upright_symbols : Link → Tuning → List Symbol → List Symbol
+upright_symbols link tuning symbols = if tuning.turns then derotated link.setup.mode symbols else symbols
+
+-- the symbols that are decided: these, each divided by the gain of the channel if the tuning has the equalizer
+abbrev pub decided_symbols : Link → Tuning → List Symbol → List Symbol
+decided_symbols link tuning symbols = levelled link.setup.mode link.setup.number tuning.equalize (upright_symbols link tuning symbols)
+
+-- the number of quarters by which they arrived rotated
+abbrev pub frame_turn : Link → Tuning → List Symbol → ℕ
+frame_turn link tuning symbols = if tuning.turns then turn_of link.setup.mode symbols else 0
+
 -- the soft values of a frame's codeword, by the divisor of a tuning
 abbrev pub frame_soft : Link → Tuning → List Symbol → List ℤ
-frame_soft link tuning symbols = soft_values tuning.divisor link.setup.mode (received_payload link.setup.mode link.setup.number symbols)
+frame_soft link tuning symbols = soft_values tuning.divisor link.setup.mode (received_payload link.setup.mode link.setup.number (decided_symbols link tuning symbols))
 
 -- the first Nbch of the decided bits, which BCH decoding takes
 abbrev pub received_word : Mode → List Bool → List Bool
@@ -51,7 +65,7 @@ delivered_by frame (Ok header) = Some (header, field_in header frame)
 delivered_by frame (Err fault) = None
 
 -- the decision with or without a BCH word: NoWord without one; BadHeader if its header is refused; else Delivered, with
--- the number of places in which decided bits and word differ. It has neither figures nor the header's energy
+-- the number of places in which decided bits and word differ. It has neither figures nor the header's energy nor a rotation
 abbrev pub decision_by : Mode → List ℤ → Decided → Option (List Bool) → Decision
 decision_by m soft d (Some bch_word) = record {
   soft = soft;
@@ -63,6 +77,7 @@ decision_by m soft d (Some bch_word) = record {
   delivered = delivered_by (scrambled (message_of m bch_word)) (header_of_bytes m (header_in (scrambled (message_of m bch_word))));
   figures = None;
   energy = 0;
+  turn = 0;
 }
 decision_by m soft d None = record {
   soft = soft;
@@ -74,6 +89,7 @@ decision_by m soft d None = record {
   delivered = None;
   figures = None;
   energy = 0;
+  turn = 0;
 }
 
 -- the decision before the first frame: zeros, and no certificate
@@ -87,19 +103,19 @@ pub record IsUndecided (m : Mode) (d : Decision) : Type 0 where
 abbrev pub decision_on : Mode → List ℤ → Decided → Decision
 decision_on m soft d = decision_by m soft d (nearest m (received_word m d.bits))
 
--- the figures of a frame's symbols and its decided bits, if the tuning asks for them
+-- the figures of a frame's symbols, before the equalizer, and of its decided bits, if the tuning asks for them
 abbrev pub figures_by : Link → Tuning → List Symbol → Option Figures
 figures_by link tuning symbols =
     if tuning.figures
-    then Some (figures_of link.setup.mode link.setup.number symbols (frame_soft link tuning symbols) (decided link.rows tuning (frame_soft link tuning symbols)).bits (rounds_run link.rows tuning (frame_soft link tuning symbols)))
+    then Some (figures_of link.setup.mode link.setup.number (upright_symbols link tuning symbols) (frame_soft link tuning symbols) (decided link.rows tuning (frame_soft link tuning symbols)).bits (rounds_run link.rows tuning (frame_soft link tuning symbols)))
     else None
 
--- a decision with these figures, and this energy of its header
-abbrev pub measured : Decision → Option Figures → ℕ → Decision
-measured d figures energy = record d { figures = figures; energy = energy }
+-- a decision with these figures, this energy of its header, and this rotation
+abbrev pub measured : Decision → Option Figures → (energy turn : ℕ) → Decision
+measured d figures energy turn = record d { figures = figures; energy = energy; turn = turn }
 
 -- the decision on a frame's symbols: soft values, bits, verdict, certificate, message, outcome, header and data field. The
--- figures, if they are wanted, and the energy of the header's symbols
+-- figures, if they are wanted, the energy of the header's symbols, and the number of quarters by which they arrived rotated
 unfoldable pub frame_decision : Link → Tuning → List Symbol → Decision
 frame_decision link tuning symbols =
-    measured (decision_on link.setup.mode (frame_soft link tuning symbols) (decided link.rows tuning (frame_soft link tuning symbols))) (figures_by link tuning symbols) (energy_of (take header_symbols symbols))
+    measured (decision_on link.setup.mode (frame_soft link tuning symbols) (decided link.rows tuning (frame_soft link tuning symbols))) (figures_by link tuning symbols) (energy_of (take header_symbols symbols)) (frame_turn link tuning symbols)

@@ -1,5 +1,5 @@
 -- Laws of a stream of symbols: of its first frames, and of two ways to read it (EN 302 307-1, 5.1 to 5.5).
-use Rattle.std.specs.Prelude.{◌≡◌, ℕ, ◌+◌, ◌≤◌, ◌⊎◌, IsTrue, Bool, true, false, List, [], ◌∷◌, ◌++◌, All, length, take, ⊤}
+use Rattle.std.specs.Prelude.{◌≡◌, ℕ, ◌+◌, ◌<◌, ◌≤◌, ◌⊎◌, IsTrue, Bool, true, false, List, [], ◌∷◌, ◌++◌, All, length, map, take, ⊤}
 use Rattle.std.specs.Io.KnownBytes.{Appends}
 use Rattle.s2_mode.specs.Limits.{header_symbols, dummy_symbols}
 use Rattle.s2_mode.specs.Mode.{Mode, symbols_in}
@@ -23,19 +23,25 @@ use Rattle.s2_send.specs.Laws.{IsLinkOf}
 use Rattle.s2_send.specs.Frames.{IsCodewordFor}
 use Rattle.s2_receive.specs.Windows.{found_as}
 use Rattle.s2_modem.specs.Reports.{frame_soft}
-use Rattle.s2_modem.specs.Reception.{link_rules}
+use Rattle.s2_scramble.specs.Rotations.{rotated}
+use Rattle.s2_modem.specs.Reception.{link_rules, sought_by}
 use Rattle.s2_modem.specs.Both.{AreBytes, FramePlace, sent_symbols, certified_lines}
 
 -- the symbols of a whole frame of the link, with a header that passes there, right after a frame or not
 abbrev pub IsWholeFrame : Link → Tuning → Bool → List Symbol → Type 0
 IsWholeFrame link tuning behind symbols =
-    (length symbols ≡ symbols_in link.setup.mode) × (found_as link.setup.mode tuning.max_header_errors behind (take header_symbols symbols) ≡ founds.Coded)
+    (length symbols ≡ symbols_in link.setup.mode) × (found_as (sought_by link tuning) tuning.max_header_errors behind (take header_symbols symbols) ≡ founds.Coded)
 
--- a frame came clear: unchanged; or whole, with a header that passes there and soft values that are scattered about the
+-- a frame came without noise: as sent; or, if the tuning says so, rotated by 0 to 3 quarters
+abbrev pub CameWithoutNoise : Link → Tuning → List Bool → List Symbol → Type 0
+CameWithoutNoise link tuning codeword symbols =
+    (symbols ≡ sent_symbols link codeword) ⊎ ((tuning.turns ≡ true) × ((t : ℕ) × (t < 4) × (symbols ≡ map (rotated t) (sent_symbols link codeword))))
+
+-- a frame came clear: without noise; or whole, with a header that passes there and soft values that are scattered about the
 -- codeword
 abbrev pub IsClear : Link → Tuning → Bool → List Bool → List Symbol → Type 0
 IsClear link tuning behind codeword symbols =
-    (symbols ≡ sent_symbols link codeword) ⊎ (IsWholeFrame link tuning behind symbols × IsScattered (code_of link.rows) (frame_soft link tuning symbols) codeword)
+    CameWithoutNoise link tuning codeword symbols ⊎ (IsWholeFrame link tuning behind symbols × IsScattered (code_of link.rows) (frame_soft link tuning symbols) codeword)
 
 -- those of the frame that was sent for a data field, which begins at this byte of the stream
 abbrev pub IsHeard : Link → Tuning → Bool → ℕ → List ℕ → List Symbol → Type 0
@@ -53,13 +59,13 @@ AreEach holds finds behind at (dummy symbols ∷ pieces) fields = IsDummy finds 
 
 -- the frames of consecutive data fields, with dummy frames among them: each is clear, and its header is found
 abbrev pub AreHeard : Link → Tuning → Bool → ℕ → List Piece → List (List ℕ) → Type 0
-AreHeard link tuning = AreEach (IsHeard link tuning) (found_as link.setup.mode tuning.max_header_errors)
+AreHeard link tuning = AreEach (IsHeard link tuning) (found_as (sought_by link tuning) tuning.max_header_errors)
 
--- the places of the coded frames, from a position on, and their verdicts and figures by these rules
+-- the places of the coded frames, from a position on, and their verdicts, figures and rotations by these rules
 abbrev pub places_in : Rules → ℕ → List Piece → List FramePlace
 places_in rules at [] = []
 places_in rules at (coded symbols ∷ pieces) =
-    record { at = at; verdict = (rules.decide symbols).verdict; figures = (rules.decide symbols).figures } ∷ places_in rules (at + rules.size) pieces
+    record { at = at; verdict = (rules.decide symbols).verdict; figures = (rules.decide symbols).figures; turn = (rules.decide symbols).turn } ∷ places_in rules (at + rules.size) pieces
 places_in rules at (dummy symbols ∷ pieces) = places_in rules (at + dummy_symbols) pieces
 
 -- Each of the first coded frames is reported as certified. Exactly the packets whose closing CRC-8 is in their data

@@ -4,10 +4,12 @@ ghost use Rattle.s2_modem.specs.Reports.{IsUndecided};
 
 use crate::corrector::Corrector;
 use crate::demodulator::Demodulator;
+use crate::derotator::Derotator;
 use crate::figures::{find_figures, meter_for};
 use crate::message::MessageReader;
 use s2_bits::Bits;
 use s2_check::{CertView, Verdict};
+use s2_equalize::FrameEqualizer;
 use s2_figures::{FigureMeter, header_energy};
 use s2_judge::Judge;
 use s2_link::{Link, RollOff};
@@ -17,7 +19,8 @@ use s2_tuning::Tuning;
 use std::alloc::{AllocError, Global};
 use std::marker::Model;
 
-/// Decides the frames of a link, in its own buffers. It has a finder of figures only if the tuning asks for them.
+/// Decides the frames of a link, in its own buffers. It has a finder of figures and an equalizer, and rotates frames back,
+/// only if the tuning says so.
 pub(crate) struct Decider<'a> {
     mode: Mode,
     roll_off: RollOff,
@@ -25,6 +28,8 @@ pub(crate) struct Decider<'a> {
     judge: Judge<'a>,
     corrector: Corrector,
     reader: MessageReader,
+    derotator: Derotator,
+    equalizer: FrameEqualizer,
     meter: Option<FigureMeter>,
     last: Decided,
 }
@@ -38,6 +43,8 @@ impl<'a> Drop for Decider<'a> {
             judge: _,
             corrector: _,
             reader: _,
+            derotator: _,
+            equalizer: _,
             meter: _,
             last: _,
         } = self;
@@ -56,7 +63,7 @@ impl<'a> Model for Decider<'a> {
       field = d.reader.field;
     } };
 
-    ghost invariant = { λ d. IsDeciderState d.mode d.judge.rows d.judge.tuning d.demodulator d.corrector.mode d.reader d.meter d.last };
+    ghost invariant = { λ d. IsDeciderState d.mode d.judge.rows d.judge.tuning d.demodulator d.corrector.mode d.reader d.derotator d.equalizer d.meter d.last };
 }
 
 impl<'a> Decider<'a> {
@@ -79,10 +86,13 @@ impl<'a> Decider<'a> {
             header: None,
             figures: None,
             energy: 0,
+            turn: 0,
         };
         let demodulator = Demodulator::new(alloc, link, tuning.divisor())?;
         let corrector = Corrector::new(alloc, mode)?;
         let reader = MessageReader::new(alloc, mode)?;
+        let derotator = Derotator::new(alloc, mode, tuning.has_turns())?;
+        let equalizer = FrameEqualizer::new(alloc, mode, link.number(), tuning.has_equalizer())?;
         let meter = meter_for(alloc, link, tuning)?;
         Ok(Decider {
             mode,
@@ -91,6 +101,8 @@ impl<'a> Decider<'a> {
             judge: Judge::new(alloc, link.matrix(), tuning)?,
             corrector,
             reader,
+            derotator,
+            equalizer,
             meter,
             last,
         })
@@ -137,19 +149,25 @@ impl<'a> Decide for Decider<'a> {
 
     ghost last = { λ d. d.last };
 
-    /// Decides a frame, exactly as the definition says for its symbols.
+    /// Decides a frame, exactly as the definition says for its symbols, after rotating them back and equalizing them if the
+    /// tuning says so. The figures are those of the symbols before the equalizer.
     fn decide(&mut self, symbols: &[Symbol]) {
-        self.demodulator.find_soft(symbols, self.judge.soft_mut());
+        let turn = self.derotator.derotate(symbols);
+        let upright = self.derotator.upright(symbols);
+        self.equalizer.equalize(upright);
+        let levelled = self.equalizer.levelled(upright);
+        self.demodulator.find_soft(levelled, self.judge.soft_mut());
         let verdict = self.judge.decide();
         let found = self.corrector.correct(self.judge.word());
         let (outcome, header) = self.reader.read_outcome(found, self.corrector.word());
-        let figures = find_figures(&mut self.meter, symbols, &self.judge);
+        let figures = find_figures(&mut self.meter, upright, &self.judge);
         self.last = Decided {
             verdict,
             outcome,
             header,
             figures,
             energy: header_energy(symbols),
+            turn,
         };
     }
 

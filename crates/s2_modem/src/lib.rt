@@ -20,7 +20,9 @@
 //! word, and its header. So are the packets that the joiner makes of its data field. [`Receiver::next`] also reads and
 //! writes. Soft values are divided by [`DEFAULT_DIVISOR`], or by the divisor of the [`Tuning`] of
 //! [`Receiver::on_link`]. If the tuning asks for figures, each report has those of its frame ([`s2_receive::Figures`]),
-//! and only then memory is taken for them.
+//! and only then memory is taken for them. Frames that are rotated by quarter turns are received only if it says so: they
+//! are found, and rotated back before anything is decided. If it has the equalizer, each symbol is then divided by the
+//! gain of the channel ([`s2_equalize::Equalizer`]).
 //!
 //! For each frame [`laws::frames`] holds. Bits that are called sole or most likely satisfy every check, and no bits that
 //! do cost less. If they are called sole, all other bits that do cost more. If the search is at a frame that was sent, and
@@ -45,6 +47,7 @@ mod corrector;
 mod decider;
 mod demodulation;
 mod demodulator;
+mod derotator;
 mod figures;
 pub mod laws;
 mod message;

@@ -52,6 +52,7 @@ pub(crate) fn build<'a>(
     s2_receive::Receiver::new(
         alloc,
         mode,
+        tuning.has_turns(),
         tuning.max_header_errors(),
         decider,
         MAX_SYMBOLS,

@@ -13,8 +13,8 @@ use Rattle.s2_bits.specs.Bits.{xor, number}
 use Rattle.s2_bits.proofs.Sums.{xor_same}
 use Rattle.s2_plframe.specs.Header.{header_bit, header_point, header_symbol, header_of, dummy_mode, sum_of_rows}
 use Rattle.s2_plframe.specs.Frame.{frame_symbol, frame_symbols}
-use Rattle.s2_plframe.specs.Search.{Decision, decision, decided, mismatches, matches_header, matches_dummy, wrong_bits, wrong_bits_dummy, found, found_behind, recent}
-use Rattle.s2_plframe.specs.Inside.{behind_by}
+use Rattle.s2_plframe.specs.Search.{Decision, decision, decided, mismatches, matches_header, matches_dummy, wrong_bits, wrong_bits_dummy, found, found_behind}
+use Rattle.s2_plframe.specs.Turns.{Sides, sides, recent, found_of, nearest_of}
 use Rattle.s2_plframe.specs.declared.receive.found.Found.{Found}
 use Rattle.s2_plframe.specs.HeaderLaws.{seen_of, differences, HoldsFrame}
 use Rattle.s2_plframe.specs.declared.receive.found.Found.TheVariants as founds
@@ -152,46 +152,39 @@ both_far m window is =
     omega arith
 
 -- the test elsewhere by how many bits differ
-found_of : ℕ → ℕ → Found
-found_of coded dummy = if nat_le coded 12 then founds.Coded else (if nat_le dummy 12 then founds.Dummy else founds.Nothing)
-
 found_by_wrong : (m : Mode) (window : List Decision) → length window ≡ 90 → found m window ≡ found_of (wrong_bits (header_bit m) window) (wrong_bits_dummy window)
-unfolding found_of
 found_by_wrong m window long =
     let full : 90 ≤ length window = omega arith in
     rw (le-ltb (length window) 90 full) (λ t. if matches_header (header_bit m) window then founds.Coded else (if dummy_passes window t then founds.Dummy else founds.Nothing))
 
-coded_near : (c d lock : ℕ) → 12 ≤ lock → 32 ≤ c + d → c ≤ 12 → behind_by c d lock ≡ founds.Coded
+coded_near : (c d lock : ℕ) → 12 ≤ lock → 32 ≤ c + d → c ≤ 12 → nearest_of c d lock ≡ founds.Coded
 coded_near c d lock least apart near =
     let first : c ≤ d = omega arith in
     let allowed : c ≤ lock = omega arith in
     rw (le-leb c d first, le-leb c lock allowed) refl
 
-dummy_near : (c d lock : ℕ) → 12 ≤ lock → 12 < c → d ≤ 12 → behind_by c d lock ≡ founds.Dummy
+dummy_near : (c d lock : ℕ) → 12 ≤ lock → 12 < c → d ≤ 12 → nearest_of c d lock ≡ founds.Dummy
 dummy_near c d lock least apart near =
     let first : d < c = omega arith in
     let allowed : d ≤ lock = omega arith in
     rw (lt-leb c d first, le-leb d lock allowed) refl
 
-none_near : (c d : ℕ) → 12 < c → 12 < d → behind_by c d 12 ≡ founds.Nothing
+none_near : (c d : ℕ) → 12 < c → 12 < d → nearest_of c d 12 ≡ founds.Nothing
 none_near c d coded dummy = elim (leb_tells c d) [
   | inl first ↦ rw (first.0, lt-leb c 12 coded) refl
   | inr second ↦ rw (second.0, lt-leb d 12 dummy) refl
 ]
 
 found_coded : (c d : ℕ) → nat_le c 12 ≡ true → found_of c d ≡ founds.Coded
-unfolding found_of
 found_coded c d near = rw near refl
 
 found_dummy : (c d : ℕ) → nat_le c 12 ≡ false → nat_le d 12 ≡ true → found_of c d ≡ founds.Dummy
-unfolding found_of
 found_dummy c d many near = rw (many, near) refl
 
 found_none : (c d : ℕ) → nat_le c 12 ≡ false → nat_le d 12 ≡ false → found_of c d ≡ founds.Nothing
-unfolding found_of
 found_none c d many more = rw (many, more) refl
 
-same_test : (c d : ℕ) → 32 ≤ c + d → behind_by c d 12 ≡ found_of c d
+same_test : (c d : ℕ) → 32 ≤ c + d → nearest_of c d 12 ≡ found_of c d
 same_test c d apart = elim (leb_tells c 12) [
   | inl near ↦ let few : c ≤ 12 = near.1 in coded_near c d 12 (omega arith) apart few ∙ sym (found_coded c d near.0)
   | inr many ↦ let coded : 12 < c = many.1 in elim (leb_tells d 12) [
@@ -201,8 +194,7 @@ same_test c d apart = elim (leb_tells c 12) [
 ]
 
 still : (c d lock : ℕ) → 12 ≤ lock → 32 ≤ c + d
-    → (found_of c d ≡ founds.Coded → behind_by c d lock ≡ founds.Coded) × (found_of c d ≡ founds.Dummy → behind_by c d lock ≡ founds.Dummy)
-unfolding found_of
+    → (found_of c d ≡ founds.Coded → nearest_of c d lock ≡ founds.Coded) × (found_of c d ≡ founds.Dummy → nearest_of c d lock ≡ founds.Dummy)
 still c d lock least apart = elim (leb_tells c 12) [
   | inl near ↦ let few : c ≤ 12 = near.1 in
       rw near.0 ((λ _. coded_near c d lock least apart few), (λ e. absurd (cc)))
@@ -225,7 +217,7 @@ found_still m lock window is least long =
 
 -- ---- one symbol more
 
-recent_more : (ys : List Decision) (d : Decision) → recent (recent ys ++ d ∷ []) ≡ recent (ys ++ d ∷ [])
+recent_more : (ys : List Sides) (d : Sides) → recent (recent ys ++ d ∷ []) ≡ recent (ys ++ d ∷ [])
 recent_more ys d =
     let n = length ys - 90 in
     let few : n ≤ length ys = omega arith in
@@ -235,13 +227,13 @@ recent_more ys d =
     let place : n + (length (drop n (ys ++ d ∷ [])) - 90) ≡ length (ys ++ d ∷ []) - 90 = omega arith in
     ap recent joined ∙ (drop-drop (length (drop n (ys ++ d ∷ [])) - 90) n (ys ++ d ∷ []) ∙ ap (λ k. drop k (ys ++ d ∷ [])) place)
 
-pub seen_more : (symbols : List Symbol) (next : Symbol) → recent (seen_of symbols ++ decision next ∷ []) ≡ seen_of (symbols ++ next ∷ [])
-seen_more symbols next = recent_more (map decision symbols) (decision next) ∙ ap recent (sym (map-append decision symbols (next ∷ [])))
+pub seen_more : (turns : Bool) (symbols : List Symbol) (next : Symbol) → recent (seen_of turns symbols ++ sides turns next ∷ []) ≡ seen_of turns (symbols ++ next ∷ [])
+seen_more turns symbols next = recent_more (map (sides turns) symbols) (sides turns next) ∙ ap recent (sym (map-append (sides turns) symbols (next ∷ [])))
 
-pub seen_last : (symbols : List Symbol) → seen_of symbols ≡ map decision (drop (length symbols - 90) symbols)
-seen_last symbols = ap (λ n. drop (n - 90) (map decision symbols)) (length-map symbols decision) ∙ drop-map decision (length symbols - 90) symbols
+pub seen_last : (turns : Bool) (symbols : List Symbol) → seen_of turns symbols ≡ map (sides turns) (drop (length symbols - 90) symbols)
+seen_last turns symbols = ap (λ n. drop (n - 90) (map (sides turns) symbols)) (length-map symbols (sides turns)) ∙ drop-map (sides turns) (length symbols - 90) symbols
   where
-    drop-map : (f : Symbol → Decision) (n : ℕ) (xs : List Symbol) → drop n (map f xs) ≡ map f (drop n xs)
+    drop-map : (f : Symbol → Sides) (n : ℕ) (xs : List Symbol) → drop n (map f xs) ≡ map f (drop n xs)
     drop-map f zero xs = refl
     drop-map f (suc n) [] = refl
     drop-map f (suc n) (x ∷ xs) = drop-map f n xs

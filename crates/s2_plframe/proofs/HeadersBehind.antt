@@ -22,7 +22,7 @@ min_none_right : (a b : ℕ) → b ≡ 0 → min a b ≡ 0
 min_none_right a b e = let le : b ≤ a = omega (arith, e) in min-eq_right le ∙ e
 
 -- where none differs from one header of dummy frames
-none_dummy : (short pilots : Bool) (window : List Decision) → wrong_bits (header_bit (dummy_mode short pilots)) window ≡ 0 → wrong_bits_dummy window ≡ 0
+pub none_dummy : (short pilots : Bool) (window : List Decision) → wrong_bits (header_bit (dummy_mode short pilots)) window ≡ 0 → wrong_bits_dummy window ≡ 0
 none_dummy false false window e = min_none _ _ (min_none _ _ e)
 none_dummy false true window e = min_none _ _ (min_none_right _ _ e)
 none_dummy true false window e = min_none_right _ _ (min_none _ _ e)

@@ -5,3 +5,6 @@ pub mod Mismatches
 pub mod Windows
 pub mod HeaderFacts
 pub mod HeadersBehind
+pub mod TurnFacts
+pub mod FarHeaders
+pub mod TurnLaws

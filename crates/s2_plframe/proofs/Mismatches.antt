@@ -25,7 +25,7 @@ use Rattle.s2_mode.specs.Symbols.{symbol, symbol_at}
 use Rattle.s2_mode.specs.Mode.{Mode}
 use Rattle.s2_plframe.specs.Header.{header_bit, dummy_mode}
 use Rattle.s2_plframe.specs.declared.receive.found.Found.TheVariants as founds
-use Rattle.s2_plframe.specs.Search.{Decision, decision, decided, mismatches, matches_header, recent, decision_at, found}
+use Rattle.s2_plframe.specs.Search.{Decision, decision, decided, mismatches, matches_header, decision_at, found}
 use Rattle.s2_plframe.specs.Inside.{held, held_list, is_near, found_by, AreHeaders, IsHeader, IsWindow}
 
 -- ---- differences

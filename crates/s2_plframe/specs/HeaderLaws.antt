@@ -1,5 +1,5 @@
 -- Laws of frames, of the header test and of the search (EN 302 307-1, 5.5).
-use Rattle.std.specs.Prelude.{drop, length, Bool, ◌+◌, ◌-◌, ◌*◌, ◌≡◌, ◌≤◌, ℕ, zero, suc, true, false, List, [], ◌∷◌, ◌++◌, map, take}
+use Rattle.std.specs.Prelude.{drop, length, Bool, ◌+◌, ◌-◌, ◌*◌, ◌≡◌, ◌<◌, ◌≤◌, ℕ, zero, suc, true, false, List, [], ◌∷◌, ◌++◌, map, take}
 use Rattle.s2_mode.specs.declared.symbols.Symbol.{Symbol}
 use Rattle.s2_mode.specs.Limits.{header_symbols}
 use Rattle.s2_mode.specs.Mode.{Mode, IsMode, slots_of}
@@ -8,7 +8,9 @@ use Rattle.s2_plframe.specs.Header.{header_bit, header_of, dummy_mode}
 use Rattle.s2_plframe.specs.Constants.{header_threshold}
 use Rattle.s2_plframe.specs.Frame.{frame_symbols}
 use Rattle.s2_plframe.specs.Payload.{received_payload, AllRotateBack}
-use Rattle.s2_plframe.specs.Search.{Decision, decision, matches_header, matches_dummy, found, found_behind, recent}
+use Rattle.s2_plframe.specs.Search.{Decision, decision, matches_header, matches_dummy, found, found_behind}
+use Rattle.s2_plframe.specs.Turns.{Sides, sides, side_at, turned_back, sought_of, found_in, behind_in, turn_of, derotated, recent}
+use Rattle.s2_scramble.specs.Rotations.{rotated}
 use Rattle.s2_plframe.specs.declared.receive.found.Found.TheVariants as founds
 
 -- a frame begins with its mode's header, and its payload can be taken out again
@@ -22,16 +24,16 @@ TakenOutLaw = (m : Mode) (number : ℕ) (payload : List Symbol) → IsMode m →
     → HoldsFrame m number payload (frame_symbols m number payload)
 
 -- the decisions on the last 90 symbols
-abbrev pub seen_of : List Symbol → List Decision
-seen_of symbols = recent (map decision symbols)
+abbrev pub seen_of : Bool → List Symbol → List Sides
+seen_of turns symbols = recent (map (sides turns) symbols)
 
 -- a search that took some symbols and then one more has seen the decisions on the last 90
 abbrev pub SeenLaw : Type 0
-SeenLaw = (symbols : List Symbol) (next : Symbol) → recent (seen_of symbols ++ decision next ∷ []) ≡ seen_of (symbols ++ next ∷ [])
+SeenLaw = (turns : Bool) (symbols : List Symbol) (next : Symbol) → recent (seen_of turns symbols ++ sides turns next ∷ []) ≡ seen_of turns (symbols ++ next ∷ [])
 
 -- the decisions on the last 90 are those of the last 90 symbols
 abbrev pub LastLaw : Type 0
-LastLaw = (symbols : List Symbol) → seen_of symbols ≡ map decision (drop (length symbols - header_symbols) symbols)
+LastLaw = (turns : Bool) (symbols : List Symbol) → seen_of turns symbols ≡ map (sides turns) (drop (length symbols - header_symbols) symbols)
 
 -- the header of a frame is found
 abbrev pub CleanHeaderLaw : Type 0
@@ -62,3 +64,33 @@ StillFoundLaw = (m : Mode) (lock : ℕ) (window : List Decision) → IsMode m �
 -- no window passes as a header of a mode and as one of a dummy frame
 abbrev pub ApartLaw : Type 0
 ApartLaw = (m : Mode) (window : List Decision) → IsMode m → matches_header (header_bit m) window ≡ true → matches_dummy window ≡ false
+
+-- ---- rotations
+
+-- the decisions in each rotation are those on the symbol rotated back
+abbrev pub RotationsLaw : Type 0
+RotationsLaw = (t : ℕ) (s : Symbol) → t < 4 → side_at t (sides true s) ≡ decision (turned_back t s)
+
+-- without the search in all rotations the tests are those of the headers as sent
+abbrev pub StraightLaw : Type 0
+StraightLaw = (m : Mode) (lock : ℕ) (symbols : List Symbol)
+    → (found_in (sought_of m false) (map (sides false) symbols) ≡ found m (map decision symbols)) × (behind_in (sought_of m false) lock (map (sides false) symbols) ≡ found_behind m lock (map decision symbols))
+
+-- a frame that arrived rotated by t quarters: its header is found, right after a frame and elsewhere; its rotation is t; and
+-- rotated back it is the frame that was sent
+pub record IsTurnedFrame (m : Mode) (t : ℕ) (sent came : List Symbol) : Type 0 where
+  pub found_is : found_in (sought_of m true) (map (sides true) (take header_symbols came)) ≡ founds.Coded
+  pub behind_is : (lock : ℕ) → behind_in (sought_of m true) lock (map (sides true) (take header_symbols came)) ≡ founds.Coded
+  pub turn_is : turn_of m came ≡ t
+  pub back : AllRotateBack sent → derotated m came ≡ sent
+
+-- each frame without noise, rotated by 0 to 3 quarters, is such a frame
+abbrev pub TurnedFrameLaw : Type 0
+TurnedFrameLaw = (m : Mode) (number t : ℕ) (payload : List Symbol) → IsMode m → t < 4
+    → IsTurnedFrame m t (frame_symbols m number payload) (map (rotated t) (frame_symbols m number payload))
+
+-- a dummy header without noise, rotated by 0 to 3 quarters, is found as one, with each TYPE
+abbrev pub TurnedDummyLaw : Type 0
+TurnedDummyLaw = (m : Mode) (short pilots : Bool) (lock t : ℕ) → IsMode m → t < 4
+    → (found_in (sought_of m true) (map (sides true) (map (rotated t) (header_of (dummy_mode short pilots)))) ≡ founds.Dummy)
+    × (behind_in (sought_of m true) lock (map (sides true) (map (rotated t) (header_of (dummy_mode short pilots)))) ≡ founds.Dummy)

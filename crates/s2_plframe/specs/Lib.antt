@@ -4,5 +4,6 @@ pub mod Frame
 pub mod Dummy
 pub mod Payload
 pub mod Search
+pub mod Turns
 pub mod HeaderLaws
 pub mod Inside

@@ -1,5 +1,5 @@
 -- The header test and the search for frames (own): the decided bits of a header's symbols, and how many are wrong.
-use Rattle.std.specs.Prelude.{ℕ, zero, suc, ◌+◌, ◌-◌, ◌%◌, ◌==◌, ◌||◌, ◌≤◌, min, Bool, true, false, List, length, drop, slice_index_or, pos, ◌+ℤ◌, ◌-ℤ◌, int_lt, nat_lt, nat_le, if◌then◌else◌}
+use Rattle.std.specs.Prelude.{ℕ, zero, suc, ◌+◌, ◌%◌, ◌==◌, ◌||◌, ◌≤◌, min, Bool, true, false, List, length, slice_index_or, pos, ◌+ℤ◌, ◌-ℤ◌, int_lt, nat_lt, nat_le, if◌then◌else◌}
 use Rattle.s2_mode.specs.declared.symbols.Symbol.{Symbol}
 use Rattle.s2_mode.specs.Limits.{header_symbols}
 use Rattle.s2_mode.specs.Mode.{Mode}
@@ -69,16 +69,3 @@ found_behind m lock window =
 -- the number of wrong bits that a header may have right after a frame: 12 to 40
 abbrev pub IsHeaderTolerance : ℕ → Type 0
 IsHeaderTolerance lock = (header_threshold ≤ lock) × (lock ≤ max_lock)
-
--- the last 90 of a list
-abbrev pub recent : List Decision → List Decision
-recent seen = drop (length seen - header_symbols) seen
-
--- a mode, and the decisions on the last symbols, at most 90
-pub record Search : Type 0 where
-  pub mode : Mode
-  pub seen : List Decision
-
--- a search of a mode that has seen these decisions
-abbrev pub search_of : Mode → List Decision → Search
-search_of mode seen = record { mode = mode; seen = seen }

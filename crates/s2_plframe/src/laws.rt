@@ -1,7 +1,7 @@
 //! Laws of frames, of the header test and of the search.
 ghost use Rattle.std.specs.Prelude.{◌≡◌};
 ghost use Rattle.s2_plframe.specs.Constants.{header_threshold, max_lock};
-ghost use Rattle.s2_plframe.specs.HeaderLaws.{TakenOutLaw, SeenLaw, LastLaw, CleanHeaderLaw, DummyHeaderLaw, DummiesApartLaw, ApartLaw, BehindLaw, StillFoundLaw};
+ghost use Rattle.s2_plframe.specs.HeaderLaws.{TakenOutLaw, SeenLaw, LastLaw, CleanHeaderLaw, DummyHeaderLaw, DummiesApartLaw, ApartLaw, BehindLaw, StillFoundLaw, RotationsLaw, StraightLaw, TurnedFrameLaw, TurnedDummyLaw};
 
 use crate::constants::{HEADER_THRESHOLD, MAX_LOCK};
 
@@ -48,6 +48,27 @@ pub fn behind()
 /// A header that passes the usual test passes right after a frame too, with each lock.
 pub fn still_found()
     ensures { StillFoundLaw }
+{}
+
+/// The decisions of a search in each rotation are those on the symbols rotated back.
+pub fn rotations()
+    ensures { RotationsLaw }
+{}
+
+/// A search in one rotation finds the headers as sent.
+pub fn straight()
+    ensures { StraightLaw }
+{}
+
+/// A frame without noise that arrived rotated is found in a search in all rotations, and rotated back it is the frame that was
+/// sent.
+pub fn turned_frame()
+    ensures { TurnedFrameLaw }
+{}
+
+/// The header of a dummy frame without noise that arrived rotated is found as one, with every mode and TYPE.
+pub fn turned_dummy()
+    ensures { TurnedDummyLaw }
 {}
 
 /// [`crate::HEADER_THRESHOLD`] and [`crate::MAX_LOCK`] are the numbers of the definitions.

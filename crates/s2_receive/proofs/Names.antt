@@ -22,7 +22,8 @@ pub use Rattle.s2_mode.specs.declared.stream_fault.StreamFault.{StreamFault}
 pub use Rattle.s2_mode.specs.declared.symbols.Symbol.{Symbol}
 pub use Rattle.s2_plframe.proofs.HeaderFacts.{seen_more, seen_last}
 pub use Rattle.s2_plframe.specs.HeaderLaws.{seen_of}
-pub use Rattle.s2_plframe.specs.Search.{Search, search_of, decision, found, found_behind, recent}
+pub use Rattle.s2_plframe.specs.Turns.{Search, Sides, Sought, behind_in, found_in, recent, search_of, sides}
+pub use Rattle.s2_plframe.proofs.Windows.{found_early}
 pub use Rattle.s2_plframe.specs.declared.receive.found.Found.{Found}
 pub use Rattle.s2_bbframe.proofs.Events.{none-and_then, joining-append, joining-one, incomplete-append}
 pub use Rattle.s2_bbframe.proofs.RoundTrips.{round_trip}

@@ -209,7 +209,7 @@ module _ {D : Type 0} (decide : D → List Symbol → Decision) (last : D → De
       let (met, handles, decided, meets, reaches, ends) = stepped rules first.state cur.state new.state a b c so bytes (last new.decider) new.packets step steps read ended live in
       (met, handles, decided, subst (λ l. KeepsLast (Some step) l (last new.decider)) kept advances.kept, meets, reaches, ends, count, subst (λ (x : Rules). taken new.state ≤ x.limit) same advances.bounded)
 
-  module _ (few : length cur.state.window.symbols < symbols_in cur.mode) (within : taken cur.state ≤ cur.limit) (n n' : ℕ) where
+  module _ (few : length cur.state.window.symbols < symbols_in cur.sought.mode) (within : taken cur.state ≤ cur.limit) (n n' : ℕ) where
     small : length cur.state.window.symbols < rules.size
     small = subst (λ (x : Rules). length cur.state.window.symbols < x.size) same few
 
@@ -225,10 +225,10 @@ module _ {D : Type 0} (decide : D → List Symbol → Decision) (last : D → De
         )
 
   -- no symbols may be taken any more
-  pub full_now : (n n' : ℕ) → length cur.state.window.symbols < symbols_in cur.mode → taken cur.state ≤ cur.limit → cur.state.phase ≡ phases.Searching → asked (rules_of decide cur) cur.state ≡ 0 → n' ≡ n
+  pub full_now : (n n' : ℕ) → length cur.state.window.symbols < symbols_in cur.sought.mode → taken cur.state ≤ cur.limit → cur.state.phase ≡ phases.Searching → asked (rules_of decide cur) cur.state ≡ 0 → n' ≡ n
       → FindsNone (seen_by decide last first) (seen_by decide last cur) a b n n'
   full_now n n' few within searching none count =
-      let size = symbols_in cur.mode in
+      let size = symbols_in cur.sought.mode in
       let zero : 4 * wanted cur.limit size cur.state.window ≡ 0 = sym (ap (λ p. asked_by (rules_of decide cur) p cur.state.window) searching) ∙ none in
       let full : taken cur.state ≡ cur.limit = full_by (cur.limit - taken cur.state) (size - length cur.state.window.symbols) (taken cur.state) cur.limit zero refl within (omega (arith, few)) in
       let short = subst (λ (x : Rules). length cur.state.window.symbols < x.size) same few in

@@ -44,7 +44,7 @@ seen_by decide last r = record { rules = rules_of decide r; state = r.state; las
 -- a receiver has the same rules as before
 pub record IsSame {D : Type 0} (decide : D → List Symbol → Decision) (old new : Receiver D) : Type 0 where
   pub rules : rules_of decide new ≡ rules_of decide old
-  pub mode : new.mode ≡ old.mode
+  pub sought : new.sought ≡ old.sought
   pub max_header_errors : new.max_header_errors ≡ old.max_header_errors
   pub limit : new.limit ≡ old.limit
 

@@ -3,10 +3,11 @@ use Rattle.std.specs.Prelude.{◌≡◌, ◌≢◌, ℕ, ℤ, ◌+◌, ◌-◌, 
 use Rattle.std.specs.List.{flat_map}
 use Rattle.std.specs.Io.KnownBytes.{Appends, Consumes}
 use Rattle.s2_mode.specs.declared.symbols.Symbol.{Symbol}
+use Rattle.s2_plframe.specs.Turns.{Sought}
 use Rattle.s2_plframe.specs.declared.receive.found.Found.{Found}
 use Rattle.s2_bbframe.specs.declared.header.Header.{Header}
 use Rattle.s2_mode.specs.Limits.{header_symbols}
-use Rattle.s2_mode.specs.Mode.{Mode, symbols_in}
+use Rattle.s2_mode.specs.Mode.{symbols_in}
 use Rattle.s2_mode.specs.Streams.{Streams}
 use Rattle.s2_mode.specs.Symbols.{symbols_of}
 use Rattle.s2_bbframe.specs.Joining.{Event, field, gap, Joined, step, begun_body, incomplete_in}
@@ -34,8 +35,8 @@ use Rattle.s2_receive.specs.declared.report.Phase.{Phase}
 use Rattle.s2_receive.specs.declared.report.Phase.TheVariants as phases
 
 -- The decision on a frame's symbols: soft values, decided bits, verdict, certificate, message and outcome. If the
--- message's header is accepted, also the header and the data field. Figures, if they were asked for; and the header's
--- energy, the sum of I*I + Q*Q over its 90 symbols
+-- message's header is accepted, also the header and the data field. Figures, if they were asked for; the header's energy,
+-- the sum of I*I + Q*Q over its 90 symbols; and the number of quarters by which the symbols arrived rotated
 pub record Decision : Type 0 where
   pub soft : List ℤ
   pub bits : List Bool
@@ -46,6 +47,7 @@ pub record Decision : Type 0 where
   pub delivered : Option (Header × List ℕ)
   pub figures : Option Figures
   pub energy : ℕ
+  pub turn : ℕ
 
 -- the event for the joiner
 abbrev pub delivery : Option (Header × List ℕ) → Event
@@ -123,7 +125,7 @@ abbrev pub cut_totals : Totals → ℕ → Totals
 cut_totals t incomplete = record t { incomplete = t.incomplete + incomplete; cut = true }
 
 abbrev pub report_for : Decision → Totals → ℕ → Report
-report_for decision t at = record { number = t.frames + 1; at = at; verdict = decision.verdict; outcome = decision.outcome; figures = decision.figures }
+report_for decision t at = record { number = t.frames + 1; at = at; verdict = decision.verdict; outcome = decision.outcome; figures = decision.figures; turn = decision.turn }
 
 -- the totals with one more frame, for the joiner's body before it
 abbrev pub decided_totals : Totals → Option (List ℕ) → Gap → Decision → Totals
@@ -200,9 +202,9 @@ pub record State : Type 0 where
 abbrev pub taken : State → ℕ
 taken s = reached s.window
 
--- a receiver: the mode of its frames, its lock, its decider, its limit of symbols, and its state
+-- a receiver: the frames that it seeks, its lock, its decider, its limit of symbols, and its state
 pub record Receiver (D : Type 0) : Type 0 where
-  pub mode : Mode
+  pub sought : Sought
   pub max_header_errors : ℕ
   pub decider : D
   pub limit : ℕ
@@ -211,7 +213,7 @@ pub record Receiver (D : Type 0) : Type 0 where
 
 -- its rules, by the decision of its decider
 abbrev pub rules_of : {D : Type 0} → (D → List Symbol → Decision) → Receiver D → Rules
-rules_of decide r = record { finds = found_as r.mode r.max_header_errors; size = symbols_in r.mode; decide = decide r.decider; limit = r.limit }
+rules_of decide r = record { finds = found_as r.sought r.max_header_errors; size = symbols_in r.sought.mode; decide = decide r.decider; limit = r.limit }
 
 -- a receiver's state, from its phase, the symbols held, the body that its joiner holds, and its totals
 abbrev pub state_of : Phase → Window → Option (List ℕ) → Totals → State

@@ -1,5 +1,5 @@
 -- The lines of a receiver's report (own).
-use Rattle.std.specs.Prelude.{ℕ, List, [], ◌++◌, Option, Some, None, codes, decimal}
+use Rattle.std.specs.Prelude.{ℕ, List, [], ◌++◌, Option, Some, None, codes, decimal, nat_eq, if◌then◌else◌}
 use Rattle.std.specs.Fmt.{signed_decimal}
 use Rattle.s2_check.specs.Verdicts.{verdict_word}
 use Rattle.s2_receive.specs.declared.figures.Correlation.{Correlation}
@@ -34,10 +34,15 @@ figures_words (Some f) =
     decoding_words f ++ codes " known " ++ decimal f.known.sum ++ correlation_words f.known_correlation
     ++ codes " payload " ++ decimal f.payload.sum ++ correlation_words f.payload_correlation
 
--- frame I at SYMBOL VERDICT fixed COUNT, or frame I at SYMBOL VERDICT lost; and its figures, if it has them
+-- turn T, for a frame that arrived rotated by T quarters
+abbrev pub turn_words : ℕ → List ℕ
+turn_words turn = if nat_eq turn 0 then [] else codes " turn " ++ decimal turn
+
+-- frame I at SYMBOL VERDICT fixed COUNT, or frame I at SYMBOL VERDICT lost; its figures, if it has them; and its rotation, if it
+-- is not 0
 unfoldable pub frame_line : Report → List ℕ
 frame_line r =
-    codes "frame " ++ decimal r.number ++ codes " at " ++ decimal r.at ++ codes " " ++ verdict_word r.verdict ++ codes " " ++ outcome_words r.outcome ++ figures_words r.figures ++ codes "\n"
+    codes "frame " ++ decimal r.number ++ codes " at " ++ decimal r.at ++ codes " " ++ verdict_word r.verdict ++ codes " " ++ outcome_words r.outcome ++ figures_words r.figures ++ turn_words r.turn ++ codes "\n"
 
 -- cut at SYMBOL symbols COUNT
 unfoldable pub cut_line : ℕ → ℕ → List ℕ

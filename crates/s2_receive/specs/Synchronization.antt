@@ -3,6 +3,7 @@ use Rattle.std.specs.Prelude.{Bool, ◌&&◌, nat_eq, ◌≡◌, ℕ, ◌+◌, �
 use Rattle.s2_mode.specs.Limits.{header_symbols}
 use Rattle.s2_mode.specs.Mode.{Mode, symbols_in}
 use Rattle.s2_mode.specs.declared.symbols.Symbol.{Symbol}
+use Rattle.s2_plframe.specs.Turns.{Sought}
 use Rattle.s2_plframe.specs.declared.receive.found.Found.{Found}
 use Rattle.s2_plframe.specs.declared.receive.found.Found.TheVariants as founds
 use Rattle.s2_receive.specs.declared.gap.Gap.{Gap}
@@ -110,9 +111,9 @@ Takes finds size old new symbols whole buffer (Some found) =
     ((coming : List Symbol) → Follows whole coming → met_within finds size old (symbols ++ coming) ≡ met_of found buffer ∷ met_then finds size found coming)
     × (place_after size found ≡ reached old + length symbols) × IsBehind old.at old.skipped found × (new ≡ window_at (place_after size found) true)
 
--- the search for the frames of a mode, with a lock
+-- the search for frames, with a lock
 pub record Synchronizer : Type 0 where
-  pub mode : Mode
+  pub sought : Sought
   pub max_header_errors : ℕ
   pub window : Window
   -- the symbols of the frame that was found last

@@ -21,6 +21,8 @@ pub struct Decided {
     pub figures: Option<Figures>,
     /// The energy of the frame's header: the sum of I*I + Q*Q over its 90 symbols.
     pub energy: u64,
+    /// The number of quarters by which the frame's symbols are rotated.
+    pub turn: u8,
 }
 
 /// Decides frames, in its own buffers. Its decision is a function of a frame's symbols alone.
@@ -55,6 +57,7 @@ pub trait Decide {
         ensures outcome { result.outcome ≡ (last self.now).outcome }
         ensures figures { result.figures ≡ (last self.now).figures }
         ensures energy { result.energy ≡ (last self.now).energy }
+        ensures turn { result.turn ≡ (last self.now).turn }
         ensures delivered { delivered_of result.header (field self.now) ≡ (last self.now).delivered }
         ensures place { IfSome result.header (HasPlace (field self.now)) };
 

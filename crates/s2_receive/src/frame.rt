@@ -17,7 +17,8 @@ pub struct Frame<'a> {
     pub certificate: Option<CertView<'a>>,
     /// The message that BCH decoding left, still scrambled.
     pub message: &'a [bool],
-    /// The verdict, the outcome, the header of a delivered message, the figures, and the energy of the PLHEADER.
+    /// The verdict, the outcome, the header of a delivered message, the figures, the energy of the PLHEADER, and
+    /// the number of quarters by which the symbols arrived rotated.
     pub decided: Decided,
     /// The data field of a delivered message. If the frame was not delivered, it says nothing.
     pub field: &'a [u8],
@@ -52,5 +53,6 @@ impl<'a> Model for Frame<'a> {
       delivered = delivered_of f.decided.header f.field.now;
       figures = f.decided.figures;
       energy = f.decided.energy;
+      turn = f.decided.turn;
     } };
 }

@@ -39,8 +39,8 @@ fn found_with(
     first: bool,
 ) -> Found
     ensures header { (seen : List SymbolValue) → Saw search.old seen → (first ≡ true → header_symbols ≤ length (seen ++ symbol ∷ []))
-        → Saw search.new (seen ++ symbol ∷ []) × (result ≡ found_last (found_as search.old.mode max_header_errors first) (seen ++ symbol ∷ [])) }
-    ensures same { search.new.mode ≡ search.old.mode }
+        → Saw search.new (seen ++ symbol ∷ []) × (result ≡ found_last (found_as search.old.sought max_header_errors first) (seen ++ symbol ∷ [])) }
+    ensures same { search.new.sought ≡ search.old.sought }
 {
     let found = search.feed(symbol);
     if first {
@@ -65,8 +65,8 @@ pub(crate) fn look_through(
     requires size { length symbols.now ≤ 2 ^ 32 }
     requires place { from + length symbols.now ≤ max_symbols }
     requires skipped { skipped.symbols ≤ from }
-    ensures scans { Scans (found_as search.old.mode max_header_errors) symbols.now from inside behind skipped result }
-    ensures same { search.new.mode ≡ search.old.mode }
+    ensures scans { Scans (found_as search.old.sought max_header_errors) symbols.now from inside behind skipped result }
+    ensures same { search.new.sought ≡ search.old.sought }
 {
     let mut skipped = skipped;
     let mut start = inside;

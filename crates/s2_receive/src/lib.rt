@@ -24,7 +24,7 @@
 //! - calls of [`Receiver::advance`] up to the end are one run.
 //!
 //! ```
-//! let mut receiver = Receiver::new(alloc, mode, lock, decider, MAX_SYMBOLS)?;
+//! let mut receiver = Receiver::new(alloc, mode, false, lock, decider, MAX_SYMBOLS)?;
 //! let count = read_full(&mut reader, &mut buffer[..receiver.room()])?;
 //! if let Some(step) = receiver.advance(&buffer[..count]) {
 //!     write_full(&mut packets, receiver.packets())?;

@@ -2,7 +2,7 @@
 ghost use Rattle.std.specs.Prelude.{◌≡◌, ◌+◌, ◌≤◌, ◌++◌, decimal, length};
 ghost use Rattle.std.specs.Fmt.{signed_decimal};
 ghost use Rattle.s2_console.specs.Lines.{line_room};
-ghost use Rattle.s2_receive.specs.ReportLines.{outcome_words, correlation_words, decoding_words, figures_words, frame_line, cut_line, frames_words, delivered_words, packets_words, tally_words, sums_words, end_line, step_line};
+ghost use Rattle.s2_receive.specs.ReportLines.{outcome_words, correlation_words, decoding_words, figures_words, turn_words, frame_line, cut_line, frames_words, delivered_words, packets_words, tally_words, sums_words, end_line, step_line};
 
 use crate::figures::{Correlation, Figures, Sums, Tally};
 use crate::report::{Outcome, Report, Step, Totals};
@@ -83,6 +83,16 @@ fn push_figures(line: &mut Line, figures: Option<Figures>)
     push_correlation(line, figures.payload_correlation);
 }
 
+fn push_turn(line: &mut Line, turn: u8)
+    requires { length line.old + 46 ≤ line_room }
+    ensures bytes { line.new ≡ line.old ++ turn_words turn }
+    ensures room { length line.new ≤ length line.old + 46 }
+{
+    if turn != 0 {
+        line.push_number(" turn ", turn);
+    }
+}
+
 #[tactic(auto, unfolding(crate::specs::ReportLines::frame_line))]
 fn line_of_frame(report: Report) -> Line
     ensures { result ≡ frame_line report }
@@ -95,6 +105,7 @@ fn line_of_frame(report: Report) -> Line
     line.push(" ");
     push_outcome(&mut line, report.outcome);
     push_figures(&mut line, report.figures);
+    push_turn(&mut line, report.turn);
     line.push("\n");
     line
 }

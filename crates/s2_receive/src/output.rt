@@ -63,7 +63,7 @@ impl<D: Decide> ReceiverCore<D> {
         requires few { IsFew counts }
         ensures phase { result.phase ≡ phase_after (met_of next []) }
         ensures totals { result.totals ≡ counted self.now.state.standing.totals next counts (D.last self.now.decider) }
-        ensures sound { IsSound self.now.mode (D.size self.now.decider) self.now.limit self.now.state.window result.totals }
+        ensures sound { IsSound self.now.sought.mode (D.size self.now.decider) self.now.limit self.now.state.window result.totals }
     {
         let totals = self.status.totals;
         match next {

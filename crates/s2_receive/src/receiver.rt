@@ -7,6 +7,7 @@ ghost use Rattle.s2_receive.specs.declared.report.Phase.TheVariants as phases;
 ghost use Rattle.s2_receive.specs.Receiving.{IsLive, asked, begun, is_at_frame, rules_of, taken};
 ghost use Rattle.s2_receive.specs.Answers.{Advances, Between, Finds, IsSame, Reads, StepsBy, seen_by};
 ghost use Rattle.s2_receive.specs.Sinks.{NextWith};
+ghost use Rattle.s2_plframe.specs.Turns.{sought_of};
 
 use crate::decider::Decide;
 use crate::output::write_step;
@@ -20,8 +21,8 @@ use std::marker::Model;
 
 /// Takes a stream of symbols frame by frame (EN 302 307-1, 5.5.2).
 ///
-/// In contracts, a receiver is its mode, its lock, its decider, its limit of symbols, its state, and the packets of its
-/// last step.
+/// In contracts, a receiver is the frames that it seeks, its lock, its decider, its limit of symbols, its state, and
+/// the packets of its last step.
 pub struct Receiver<D: Decide> {
     inner: ReceiverCore<D>,
     bytes: Vec<u8>,
@@ -42,7 +43,7 @@ impl<D: Decide> Model for Receiver<D> {
 
     ghost view = { λ r. r.inner };
 
-    ghost invariant = { λ r. length r.bytes.items ≡ 4 * symbols_in r.inner.mode };
+    ghost invariant = { λ r. length r.bytes.items ≡ 4 * symbols_in r.inner.sought.mode };
 }
 
 /// Reads the wanted bytes, and passes them on.
@@ -69,7 +70,7 @@ fn read_step<D: Decide, R: CountedRead>(
     buffer: &mut [u8],
 ) -> Result<Option<Step>, ReadFault>
     requires reader { CanCount (R.count reader.old) }
-    requires room { length buffer.old ≡ 4 * symbols_in inner.old.mode }
+    requires room { length buffer.old ≡ 4 * symbols_in inner.old.sought.mode }
     ensures same { IsSame D.decide inner.old inner.new }
     ensures reads { Reads (seen_by D.decide D.last inner.old) (seen_by D.decide D.last inner.new) (R.remaining reader.old) (R.remaining reader.new) result }
     ensures cause { CountsFault (R.count reader.old) (R.count reader.new) result }
@@ -81,11 +82,12 @@ fn read_step<D: Decide, R: CountedRead>(
 
 impl<D: Decide> Receiver<D> {
     /// A receiver of the frames of a mode that takes at most `limit` symbols in all, with the memory that
-    /// its steps use. Right after a frame, `max_header_errors` is the number of wrong bits that a header may have.
+    /// its steps use. With `turns` frames are also found whose symbols are rotated by quarter turns. Right after a frame, `max_header_errors` is the number of wrong bits that a header may have.
     /// `AllocError` only if an allocation was refused.
     pub fn new(
         alloc: Global,
         mode: Mode,
+        turns: bool,
         max_header_errors: HeaderTolerance,
         decider: D,
         limit: u64,
@@ -94,12 +96,12 @@ impl<D: Decide> Receiver<D> {
         D: Drop,
         requires takes { symbols_in mode ≡ D.size decider }
         requires limit { limit ≤ max_symbols }
-        ensures parts { IfOk result (λ r. (r.mode ≡ mode) × (r.max_header_errors ≡ max_header_errors)
+        ensures parts { IfOk result (λ r. (r.sought ≡ sought_of mode turns) × (r.max_header_errors ≡ max_header_errors)
             × (r.decider ≡ decider) × (r.limit ≡ limit)) }
         ensures begun { IfOk result (λ r. r.state ≡ begun) }
     {
         let bytes = vec![in alloc; 0u8; 4 * mode.symbols()]?;
-        let inner = ReceiverCore::new(alloc, mode, max_header_errors, decider, limit)?;
+        let inner = ReceiverCore::new(alloc, mode, turns, max_header_errors, decider, limit)?;
         Ok(Receiver { inner, bytes })
     }
 
@@ -152,8 +154,8 @@ impl<D: Decide> Receiver<D> {
     /// symbols are needed: after a cut frame and the end, after a fault, and when the limit is reached.
     pub fn room(&self) -> usize
         ensures is { result ≡ asked (rules_of D.decide self.now) self.now.state }
-        ensures few { result ≤ 4 * symbols_in self.now.mode }
-        ensures held { (length self.now.state.window.symbols < symbols_in self.now.mode)
+        ensures few { result ≤ 4 * symbols_in self.now.sought.mode }
+        ensures held { (length self.now.state.window.symbols < symbols_in self.now.sought.mode)
             × (taken self.now.state ≤ self.now.limit) }
     {
         self.inner.room()

@@ -8,6 +8,7 @@ ghost use Rattle.s2_receive.specs.Synchronization.{Takes, met_of, reached, wante
 ghost use Rattle.s2_receive.specs.Receiving.{IsDecidedBy, asked, begun, rules_of, taken};
 ghost use Rattle.s2_receive.specs.Answers.{Advances, IsSame, seen_by};
 ghost use Rattle.s2_receive.specs.Output.{KeepsWithout, Searches};
+ghost use Rattle.s2_plframe.specs.Turns.{sought_of};
 ghost use Rattle.s2_receive.specs.Windows.{found_as};
 
 use crate::decider::Decide;
@@ -56,7 +57,7 @@ impl<D: Decide> Model for ReceiverCore<D> {
     ghost Value = { ReceiverValue D };
 
     ghost view = { λ r. record {
-      mode = r.synchronizer.mode;
+      sought = r.synchronizer.sought;
       max_header_errors = r.synchronizer.max_header_errors;
       decider = r.decider;
       limit = r.limit;
@@ -64,7 +65,7 @@ impl<D: Decide> Model for ReceiverCore<D> {
       packets = r.joiner.packets;
     } };
 
-    ghost invariant = { λ r. IsSound r.synchronizer.mode (D.size r.decider) r.limit r.synchronizer.window r.status.totals };
+    ghost invariant = { λ r. IsSound r.synchronizer.sought.mode (D.size r.decider) r.limit r.synchronizer.window r.status.totals };
 }
 
 /// Looks for the next frame or the end in the symbols of these bytes. If it is a frame, it is decided.
@@ -74,15 +75,15 @@ fn find_next<D: Decide>(
     bytes: &[u8],
     limit: u64,
 ) -> Option<Next>
-    requires frames { symbols_in synchronizer.old.mode ≡ D.size decider.old }
-    requires room { length bytes.now ≤ 4 * wanted limit (symbols_in synchronizer.old.mode) synchronizer.old.window }
+    requires frames { symbols_in synchronizer.old.sought.mode ≡ D.size decider.old }
+    requires room { length bytes.now ≤ 4 * wanted limit (symbols_in synchronizer.old.sought.mode) synchronizer.old.window }
     requires limit { (reached synchronizer.old.window ≤ limit) × (limit ≤ max_symbols) }
     requires skipped { synchronizer.old.window.skipped.symbols ≤ synchronizer.old.window.at }
-    ensures takes { Takes (found_as synchronizer.old.mode synchronizer.old.max_header_errors) (symbols_in synchronizer.old.mode) synchronizer.old.window synchronizer.new.window (symbols_of bytes.now)
-        (nat_eq (length bytes.now) (4 * wanted limit (symbols_in synchronizer.old.mode) synchronizer.old.window)) synchronizer.new.frame result }
+    ensures takes { Takes (found_as synchronizer.old.sought synchronizer.old.max_header_errors) (symbols_in synchronizer.old.sought.mode) synchronizer.old.window synchronizer.new.window (symbols_of bytes.now)
+        (nat_eq (length bytes.now) (4 * wanted limit (symbols_in synchronizer.old.sought.mode) synchronizer.old.window)) synchronizer.new.frame result }
     ensures decided { IfSome result (λ next. IsDecidedBy (D.decide decider.old) (met_of next synchronizer.new.frame) (D.last decider.new)) }
     ensures kept { KeepsWithout result (D.last decider.old) (D.last decider.new) }
-    ensures same { (synchronizer.new.mode ≡ synchronizer.old.mode) × (synchronizer.new.max_header_errors ≡ synchronizer.old.max_header_errors) × (D.decide decider.new ≡ D.decide decider.old) × (D.size decider.new ≡ D.size decider.old) }
+    ensures same { (synchronizer.new.sought ≡ synchronizer.old.sought) × (synchronizer.new.max_header_errors ≡ synchronizer.old.max_header_errors) × (D.decide decider.new ≡ D.decide decider.old) × (D.size decider.new ≡ D.size decider.old) }
 {
     let next = synchronizer.take(bytes, limit)?;
     if let Next::Frame { .. } = next {
@@ -95,6 +96,7 @@ impl<D: Decide> ReceiverCore<D> {
     pub(crate) fn new(
         alloc: Global,
         mode: Mode,
+        turns: bool,
         max_header_errors: HeaderTolerance,
         decider: D,
         limit: u64,
@@ -103,12 +105,12 @@ impl<D: Decide> ReceiverCore<D> {
         D: Drop,
         requires takes { symbols_in mode ≡ D.size decider }
         requires limit { limit ≤ max_symbols }
-        ensures parts { IfOk result (λ r. (r.mode ≡ mode) × (r.max_header_errors ≡ max_header_errors)
+        ensures parts { IfOk result (λ r. (r.sought ≡ sought_of mode turns) × (r.max_header_errors ≡ max_header_errors)
             × (r.decider ≡ decider) × (r.limit ≡ limit)) }
         ensures begun { IfOk result (λ r. r.state ≡ begun) }
     {
         Ok(ReceiverCore {
-            synchronizer: Synchronizer::new(alloc, mode, max_header_errors)?,
+            synchronizer: Synchronizer::new(alloc, mode, turns, max_header_errors)?,
             decider,
             joiner: PacketBuffer::new(alloc)?,
             status: Status {
@@ -154,8 +156,8 @@ impl<D: Decide> ReceiverCore<D> {
     /// The number of bytes wanted next.
     pub(crate) fn room(&self) -> usize
         ensures is { result ≡ asked (rules_of D.decide self.now) self.now.state }
-        ensures few { result ≤ 4 * symbols_in self.now.mode }
-        ensures held { (length self.now.state.window.symbols < symbols_in self.now.mode) × (taken self.now.state ≤ self.now.limit) }
+        ensures few { result ≤ 4 * symbols_in self.now.sought.mode }
+        ensures held { (length self.now.state.window.symbols < symbols_in self.now.sought.mode) × (taken self.now.state ≤ self.now.limit) }
     {
         match self.status.phase {
             Phase::Searching => 4 * self.synchronizer.wanted(self.limit),

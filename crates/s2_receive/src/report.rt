@@ -46,6 +46,8 @@ pub struct Report {
     pub outcome: Outcome,
     /// The frame's figures, if the decider was asked for them.
     pub figures: Option<Figures>,
+    /// The number of quarters by which the frame's symbols are rotated, 0 to 3.
+    pub turn: u8,
 }
 
 impl Report {
@@ -54,6 +56,7 @@ impl Report {
         ensures place { (result.number ≡ number) × (result.at ≡ at) }
         ensures decided { (result.verdict ≡ decided.verdict) × (result.outcome ≡ decided.outcome) }
         ensures figures { result.figures ≡ decided.figures }
+        ensures turn { result.turn ≡ decided.turn }
     {
         Report {
             number,
@@ -61,6 +64,7 @@ impl Report {
             verdict: decided.verdict,
             outcome: decided.outcome,
             figures: decided.figures,
+            turn: decided.turn,
         }
     }
 }

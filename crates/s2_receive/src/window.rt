@@ -78,11 +78,11 @@ fn meet_last(
     requires size { length frame.now ≤ 2 ^ 32 }
     requires place { held.at + held.count ≤ max_symbols }
     requires skipped { held.skipped.symbols ≤ held.at }
-    ensures met { met_within (found_as search.old.mode max_header_errors) (length frame.now) (window_of held frame.now) []
-        ≡ met_of result frame.now ∷ met_then (found_as search.old.mode max_header_errors) (length frame.now) result [] }
+    ensures met { met_within (found_as search.old.sought max_header_errors) (length frame.now) (window_of held frame.now) []
+        ≡ met_of result frame.now ∷ met_then (found_as search.old.sought max_header_errors) (length frame.now) result [] }
     ensures place { place_after (length frame.now) result ≡ held.at + held.count }
     ensures behind { IsBehind held.at held.skipped result }
-    ensures same { search.new.mode ≡ search.old.mode }
+    ensures same { search.new.sought ≡ search.old.sought }
 {
     let scan = look_through(
         search,
@@ -120,15 +120,15 @@ fn skip_to_header(
     requires full { held.old.count ≡ length frame.old }
     requires place { held.old.at + held.old.count ≤ max_symbols }
     requires skipped { held.old.skipped.symbols ≤ held.old.at }
-    ensures stands { result ≡ false → (coming : List SymbolValue) → met_within (found_as search.old.mode max_header_errors) (length frame.old) (window_of held.old frame.old) coming
-        ≡ met_frame held.new.at held.new.skipped frame.new ∷ met_within (found_as search.old.mode max_header_errors) (length frame.old) (window_at (held.old.at + held.old.count) true) coming }
+    ensures stands { result ≡ false → (coming : List SymbolValue) → met_within (found_as search.old.sought max_header_errors) (length frame.old) (window_of held.old frame.old) coming
+        ≡ met_frame held.new.at held.new.skipped frame.new ∷ met_within (found_as search.old.sought max_header_errors) (length frame.old) (window_at (held.old.at + held.old.count) true) coming }
     ensures held { result ≡ false → (held.new.at ≡ held.old.at) × (held.new.skipped.symbols ≤ held.old.skipped.symbols) }
-    ensures moved { result ≡ true → (coming : List SymbolValue) → met_within (found_as search.old.mode max_header_errors) (length frame.old) (window_of held.old frame.old) coming
-        ≡ met_within (found_as search.old.mode max_header_errors) (length frame.old) (window_of held.new frame.new) coming }
+    ensures moved { result ≡ true → (coming : List SymbolValue) → met_within (found_as search.old.sought max_header_errors) (length frame.old) (window_of held.old frame.old) coming
+        ≡ met_within (found_as search.old.sought max_header_errors) (length frame.old) (window_of held.new frame.new) coming }
     ensures further { result ≡ true → (held.old.at < held.new.at) × (held.new.at + held.new.count ≡ held.old.at + held.old.count) }
     ensures skipped { result ≡ true → held.old.at + held.new.skipped.symbols ≤ held.new.at + held.old.skipped.symbols }
     ensures long { length frame.new ≡ length frame.old }
-    ensures same { search.new.mode ≡ search.old.mode }
+    ensures same { search.new.sought ≡ search.old.sought }
 {
     let size = frame.len();
     let scan = look_through(
@@ -173,10 +173,10 @@ fn look(
     requires last { whole ≡ false → held.old.count < length frame.old }
     requires place { held.old.at + held.old.count ≤ max_symbols }
     requires skipped { held.old.skipped.symbols ≤ held.old.at }
-    ensures takes { Takes (found_as search.old.mode max_header_errors) (length frame.old) (window_of held.old frame.old) (window_of held.new frame.new) [] whole frame.new result }
+    ensures takes { Takes (found_as search.old.sought max_header_errors) (length frame.old) (window_of held.old frame.old) (window_of held.new frame.new) [] whole frame.new result }
     ensures count { held.new.count < length frame.old }
     ensures long { length frame.new ≡ length frame.old }
-    ensures same { search.new.mode ≡ search.old.mode }
+    ensures same { search.new.sought ≡ search.old.sought }
 {
     if !whole {
         let next = meet_last(search, max_header_errors, frame, *held);
@@ -209,10 +209,10 @@ pub(crate) fn take_symbols(
     requires last { whole ≡ false → held.old.count + length bytes.now / 4 < length frame.old }
     requires place { held.old.at + held.old.count + length bytes.now / 4 ≤ max_symbols }
     requires skipped { held.old.skipped.symbols ≤ held.old.at }
-    ensures takes { Takes (found_as search.old.mode max_header_errors) (length frame.old) (window_of held.old frame.old) (window_of held.new frame.new) (symbols_of bytes.now) whole frame.new result }
+    ensures takes { Takes (found_as search.old.sought max_header_errors) (length frame.old) (window_of held.old frame.old) (window_of held.new frame.new) (symbols_of bytes.now) whole frame.new result }
     ensures count { held.new.count < length frame.old }
     ensures long { length frame.new ≡ length frame.old }
-    ensures same { search.new.mode ≡ search.old.mode }
+    ensures same { search.new.sought ≡ search.old.sought }
 {
     fill(bytes, frame, held);
     look(search, max_header_errors, frame, held, whole)

@@ -85,6 +85,7 @@ decision_for figured word bytes q =
       delivered = delivered_of (header_for q) bytes;
       figures = if figured then Some (figures_for q) else None;
       energy = energy_for q;
+      turn = 0;
     }
 
 -- the content that a frame's symbols give

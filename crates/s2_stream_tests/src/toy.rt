@@ -208,6 +208,7 @@ impl Decide for HalfPackets {
                 None
             },
             energy: energy_for(self.content),
+            turn: 0,
         }
     }
 
@@ -253,7 +254,7 @@ fn toy_with(alloc: Global, limit: u64, figured: bool) -> Result<Toy, Fail>
         content: 0,
         figured,
     };
-    Ok(Receiver::new(alloc, mode, HeaderTolerance::usual(), decider, limit)?)
+    Ok(Receiver::new(alloc, mode, false, HeaderTolerance::usual(), decider, limit)?)
 }
 
 /// A number of symbols at which nothing begins.
@@ -298,6 +299,7 @@ pub(crate) fn frame(number: u64, at: u64) -> Step {
         verdict: Verdict::MostLikely,
         outcome: Outcome::Delivered { fixed: 0 },
         figures: None,
+        turn: 0,
     })
 }
 
@@ -309,6 +311,7 @@ pub(crate) fn lost(number: u64, at: u64) -> Step {
         verdict: Verdict::Broken,
         outcome: Outcome::NoWord,
         figures: None,
+        turn: 0,
     })
 }
 
@@ -320,6 +323,7 @@ pub(crate) fn refused(number: u64, at: u64) -> Step {
         verdict: Verdict::MostLikely,
         outcome: Outcome::BadHeader(HeaderFault::BadCrc),
         figures: None,
+        turn: 0,
     })
 }
 

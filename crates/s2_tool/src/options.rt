@@ -2,11 +2,11 @@
 //!
 //! The parser has tested every number: its ranges are those of these types (below). So no refusal here can be met.
 use crate::link_request::setup_of;
+use s2_audit::Demodulation;
 use s2_channel::{EsN0, Strength};
 use s2_commands::{Channel, DemodOptions, RunOptions};
 use s2_console::Fault;
 use s2_mode::{FaultText, Mode};
-use s2_soft::Divisor;
 use s2_tuning::{Number, Tuning, Wanted, divisor_by, judging_by, tuning_by};
 use s2_words::{
     AuditArguments, ChannelArguments, DemodArguments, JudgeArguments, NumberArguments,
@@ -56,14 +56,19 @@ fn number_of(words: NumberArguments) -> Number {
     }
 }
 
-/// The divisor of soft values of a report on a mode.
-pub(crate) fn divisor_of(
+/// How the soft values of a report on a mode were made.
+pub(crate) fn demodulation_of(
     mode: &Mode,
     words: &AuditArguments<'_>,
-) -> Result<Divisor, Fault<'static>> {
-    divisor_by(mode, words.tuned, number_of(words.divisor)).ok_or(Fault::refused(FaultText::of(
-        "no such divisor",
-    )))
+) -> Result<Demodulation, Fault<'static>> {
+    let divisor = divisor_by(mode, words.tuned, number_of(words.divisor)).ok_or(Fault::refused(
+        FaultText::of("no such divisor"),
+    ))?;
+    Ok(Demodulation {
+        divisor,
+        turns: words.turns || words.tuned,
+        equalize: words.equalize,
+    })
 }
 
 /// The tuning of a receiver of a mode.
@@ -77,6 +82,8 @@ fn tuning_of(mode: &Mode, words: TuningArguments) -> Result<Tuning, Fault<'stati
         tuned: words.tuned,
         uncertified: words.uncertified,
         figures: words.figures,
+        turns: words.turns,
+        equalize: words.equalize,
     };
     tuning_by(mode, wanted).ok_or(Fault::refused(FaultText::of("no such tuning")))
 }

@@ -10,7 +10,7 @@ use crate::opening::{
     open_audit, open_compare, open_input, open_inputs, open_join, open_judge, open_noise,
     open_scan, screen_beside, show_on, standard_input,
 };
-use crate::options::{channel_of, demod_options, divisor_of, judging_of, run_options};
+use crate::options::{channel_of, demod_options, demodulation_of, judging_of, run_options};
 use crate::shown::{has_control, shown};
 use s2_audit::audit_command;
 use s2_commands::{noise_command, rows_command};
@@ -492,12 +492,12 @@ fn serve_audit<'a, R: Disk + AllocGlobal, O: CountedWrite, E: CountedWrite>(
     ensures { OnErr result (CanCount console.new.errors_failed) }
 {
     let setup = setup_of(words.link)?;
-    let divisor = divisor_of(&setup.mode, words)?;
+    let how = demodulation_of(&setup.mode, words)?;
     let (mut rows, mut symbols, mut report, mut certificates) = open_audit(terminal, words)?;
     let exit = audit_command(
         rt.alloc(),
         setup,
-        divisor,
+        how,
         &mut rows,
         &mut symbols,
         &mut report,

@@ -3,7 +3,7 @@
 //! A [`Tuning`] has the parameters of a receiver: the rounds (iterations) of min-sum, the passes of settling, and the
 //! divisor of soft values (LLRs). It also has the factor of min-sum's messages, and how many bits of a header may be
 //! wrong right after a frame. Settling looks for a certificate by dual coordinate ascent, layer by layer. Figures of each
-//! frame are measured only if the tuning asks for them.
+//! frame are measured, and frames that are rotated by quarter turns are received, only if the tuning says so.
 //!
 //! A [`Wanted`] is what a user asks for, with numbers that are not tested yet. [`tuning_by`] makes the tuning of a
 //! receiver of it: a number that is given, else the best one of the mode's code if that is requested, else the default.

@@ -25,7 +25,8 @@ pub const MAX_PASSES: u32 = 1000;
 /// values. The factor of min-sum's messages is in sixteenths of the least magnitude. The lock is how many bits of a
 /// header may be wrong right after a frame. If it is uncertified, there are no passes, and no certificate is looked for
 /// when min-sum finds a codeword. With figures a receiver measures each frame that it decides; what it decides is
-/// unchanged.
+/// unchanged. It may also receive frames whose symbols are rotated by quarter turns. With the equalizer it divides each
+/// symbol by the gain of the channel before it decides.
 #[derive(Clone, Copy, Debug, PartialEq, Eq)]
 pub struct Tuning {
     rounds: u32,
@@ -35,6 +36,8 @@ pub struct Tuning {
     max_header_errors: HeaderTolerance,
     uncertified: bool,
     figures: bool,
+    turns: bool,
+    equalize: bool,
 }
 
 impl Model for Tuning {
@@ -50,6 +53,8 @@ impl Model for Tuning {
       max_header_errors = t.max_header_errors;
       uncertified = t.uncertified;
       figures = t.figures;
+      turns = t.turns;
+      equalize = t.equalize;
     } };
 
     ghost invariant = { λ t. IsTuning (record {
@@ -60,6 +65,8 @@ impl Model for Tuning {
       max_header_errors = t.max_header_errors;
       uncertified = t.uncertified;
       figures = t.figures;
+      turns = t.turns;
+      equalize = t.equalize;
     }) };
 
     ghost inverse = { λ v. record {
@@ -70,13 +77,15 @@ impl Model for Tuning {
       max_header_errors = v.max_header_errors;
       uncertified = v.uncertified;
       figures = v.figures;
+      turns = v.turns;
+      equalize = v.equalize;
     } };
 }
 
 impl Tuning {
     /// These rounds and passes, the usual divisor, 4096, and the usual factor, 12. At most 12 bits of a header may be
-    /// wrong right after a frame. Certificates are looked for, and there are no figures. If there are two refusals, it
-    /// returns the first: `BadRounds` if the rounds are not 1 to 200, `BadPasses` if the passes are over 1000.
+    /// wrong right after a frame. Certificates are looked for, there are no figures, frames are received only as they
+    /// were sent, and there is no equalizer. If there are two refusals, it returns the first: `BadRounds` if the rounds are not 1 to 200, `BadPasses` if the passes are over 1000.
     pub fn new(rounds: u32, passes: u32) -> Result<Tuning, SetupFault>
         ensures is { IfOk result (λ t. t ≡ tuning_of rounds passes) }
         ensures tuned { IfOk result (λ _. IsTuning (tuning_of rounds passes)) }
@@ -96,6 +105,8 @@ impl Tuning {
             max_header_errors: HeaderTolerance::usual(),
             uncertified: false,
             figures: false,
+            turns: false,
+            equalize: false,
         })
     }
 
@@ -111,6 +122,8 @@ impl Tuning {
             max_header_errors: self.max_header_errors,
             uncertified: self.uncertified,
             figures: self.figures,
+            turns: self.turns,
+            equalize: self.equalize,
         }
     }
 
@@ -126,6 +139,8 @@ impl Tuning {
             max_header_errors: self.max_header_errors,
             uncertified: self.uncertified,
             figures: self.figures,
+            turns: self.turns,
+            equalize: self.equalize,
         }
     }
 
@@ -141,6 +156,8 @@ impl Tuning {
             max_header_errors,
             uncertified: self.uncertified,
             figures: self.figures,
+            turns: self.turns,
+            equalize: self.equalize,
         }
     }
 
@@ -156,6 +173,8 @@ impl Tuning {
             max_header_errors: self.max_header_errors,
             uncertified: true,
             figures: self.figures,
+            turns: self.turns,
+            equalize: self.equalize,
         }
     }
 
@@ -171,6 +190,42 @@ impl Tuning {
             max_header_errors: self.max_header_errors,
             uncertified: self.uncertified,
             figures: true,
+            turns: self.turns,
+            equalize: self.equalize,
+        }
+    }
+
+    /// The same, but frames are also received whose symbols are rotated by quarter turns.
+    pub fn with_turns(self) -> Tuning
+        ensures { result ≡ record self { turns = true } }
+    {
+        Tuning {
+            rounds: self.rounds,
+            passes: self.passes,
+            divisor: self.divisor,
+            factor: self.factor,
+            max_header_errors: self.max_header_errors,
+            uncertified: self.uncertified,
+            figures: self.figures,
+            turns: true,
+            equalize: self.equalize,
+        }
+    }
+
+    /// The same, but the gain of the channel is taken out of each frame before it is decided.
+    pub fn with_equalizer(self) -> Tuning
+        ensures { result ≡ record self { equalize = true } }
+    {
+        Tuning {
+            rounds: self.rounds,
+            passes: self.passes,
+            divisor: self.divisor,
+            factor: self.factor,
+            max_header_errors: self.max_header_errors,
+            uncertified: self.uncertified,
+            figures: self.figures,
+            turns: self.turns,
+            equalize: true,
         }
     }
 
@@ -233,5 +288,17 @@ impl Tuning {
         ensures { result ≡ self.figures }
     {
         self.figures
+    }
+    /// Whether frames are also received whose symbols are rotated by quarter turns.
+    pub fn has_turns(self) -> bool
+        ensures { result ≡ self.turns }
+    {
+        self.turns
+    }
+    /// Whether the gain of the channel is taken out of each frame before it is decided.
+    pub fn has_equalizer(self) -> bool
+        ensures { result ≡ self.equalize }
+    {
+        self.equalize
     }
 }

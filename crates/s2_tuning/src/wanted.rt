@@ -1,5 +1,5 @@
 //! The tuning that a user asks for.
-ghost use Rattle.std.specs.Prelude.{◌≡◌, ◌↔◌, IsTrue, IsSome, IfSome, None, false};
+ghost use Rattle.std.specs.Prelude.{◌≡◌, ◌↔◌, ◌||◌, IsTrue, IsSome, IfSome, None, false};
 ghost use Rattle.s2_tuning.specs.Tuning.{IsTuning};
 ghost use Rattle.s2_tuning.specs.Wanted.{number_by, passes_by, judging_by, tuning_with, tuning_by};
 
@@ -29,6 +29,8 @@ pub struct Wanted {
     pub tuned: bool,
     pub uncertified: bool,
     pub figures: bool,
+    pub turns: bool,
+    pub equalize: bool,
 }
 
 /// The largest number of wrong header bits that is best, for each code.
@@ -79,6 +81,33 @@ fn figured_by(figures: bool, tuning: Tuning) -> Tuning
     }
 }
 
+/// Whether an option is given, or is one of the best settings, which are requested.
+fn is_set(given: bool, tuned: bool) -> bool
+    ensures { result ≡ (given || tuned) }
+{
+    given || tuned
+}
+
+/// The same tuning, also for frames rotated by quarters, if that is requested.
+fn turned_by(turns: bool, tuning: Tuning) -> Tuning
+    requires { tuning.turns ≡ false }
+    ensures { result ≡ record tuning { turns = turns } }
+{
+    if turns { tuning.with_turns() } else { tuning }
+}
+
+/// The same tuning, and with the equalizer if it is requested.
+fn equalized_by(equalize: bool, tuning: Tuning) -> Tuning
+    requires { tuning.equalize ≡ false }
+    ensures { result ≡ record tuning { equalize = equalize } }
+{
+    if equalize {
+        tuning.with_equalizer()
+    } else {
+        tuning
+    }
+}
+
 /// The tuning of a single decision: the default rounds, and these passes and this factor. `None` if one of them is out
 /// of its range.
 pub fn judging_by(passes: u32, factor: u32, uncertified: bool) -> Option<Tuning>
@@ -109,7 +138,9 @@ fn tuning_with(best: Best, wanted: Wanted) -> Option<Tuning>
         .with_divisor(divisor)
         .with_factor(factor)
         .with_max_header_errors(max_header_errors);
-    Some(figured_by(wanted.figures, certified_by(wanted.uncertified, tuning)))
+    let tuning = figured_by(wanted.figures, certified_by(wanted.uncertified, tuning));
+    let turns = is_set(wanted.turns, wanted.tuned);
+    Some(equalized_by(wanted.equalize, turned_by(turns, tuning)))
 }
 
 /// The tuning of a receiver of a mode by what is asked. `None` if a number is out of its range.

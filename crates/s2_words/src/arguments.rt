@@ -285,12 +285,36 @@ pub(crate) const UNCERTIFIED: Argument = Argument {
 pub(crate) const TUNED: Argument = Argument {
     name: "tuned",
     form: ArgumentKind::Flag,
-    help: "Use the best factor, divisor and rounds for the mode, --lock 30 and --passes 96; options given explicitly override it",
+    help: "Use the best factor, divisor and rounds for the mode, --lock 30, --passes 96 and --turns; options given explicitly override it",
+};
+
+pub(crate) const TURNS: Argument = Argument {
+    name: "turns",
+    form: ArgumentKind::Flag,
+    help: "Also receive frames whose symbols are rotated by 90, 180 or 270 degrees, as after a slip of a carrier loop, and rotate them back",
+};
+
+/// The same option, for a report that was made with it.
+pub(crate) const TURNS_REPORT: Argument = Argument {
+    help: "Rotate frames back, if the report was made with --turns",
+    ..TURNS
+};
+
+pub(crate) const EQUALIZE: Argument = Argument {
+    name: "equalize",
+    form: ArgumentKind::Flag,
+    help: "Divide each symbol by the complex gain of the channel, estimated from header and pilots: any amplitude and phase, and with --pilots a carrier error",
+};
+
+/// The same option, for a report that was made with it.
+pub(crate) const EQUALIZE_REPORT: Argument = Argument {
+    help: "Divide each symbol by the gain of the channel, if the report was made with --equalize",
+    ..EQUALIZE
 };
 
 /// The same option, for a report that was made with it.
 pub(crate) const TUNED_REPORT: Argument = Argument {
-    help: "Use the divisor that --tuned sets for the mode, if the report was made with --tuned; --divisor overrides it",
+    help: "Use the divisor that --tuned sets for the mode, and --turns, if the report was made with --tuned; --divisor overrides it",
     ..TUNED
 };
 

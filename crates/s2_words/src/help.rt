@@ -150,6 +150,9 @@ The report, a line per frame as it is decided, and a line at the end:
             $last,
             "  Frames are counted from 1, symbols from 0. Dummy frames have no line.
 
+With --turns, at the end of the line of a frame that came rotated:
+  turn T       its symbols were T times 90 degrees ahead of those that were sent, 1 to 3
+
 With --every N, only every N-th frame and each lost frame have a line, and there are these:
   every N                                     the first line
   sum frames F delivered D certified C        after every N frames: of F frames so far D were delivered, C of them sole or most-likely

@@ -79,6 +79,8 @@ fn tuning_of(m: &ArgMatches<'_>) -> Option<TuningArguments> {
         tuned: m.get_flag("tuned"),
         uncertified: m.get_flag("uncertified"),
         figures: m.get_flag("figures"),
+        turns: m.get_flag("turns"),
+        equalize: m.get_flag("equalize"),
     })
 }
 
@@ -317,6 +319,8 @@ fn audit_of<'a>(m: &ArgMatches<'a>) -> Option<Request<'a>> {
         link: link_of(m)?,
         divisor: number_of(m, "divisor")?,
         tuned: m.get_flag("tuned"),
+        turns: m.get_flag("turns"),
+        equalize: m.get_flag("equalize"),
         rows: m.get_str("ROWS")?,
         symbols: m.get_str("SYMBOLS")?,
         report: m.get_str("REPORT")?,

@@ -51,6 +51,8 @@ pub struct TuningArguments {
     pub tuned: bool,
     pub uncertified: bool,
     pub figures: bool,
+    pub turns: bool,
+    pub equalize: bool,
 }
 
 /// A range of seeds, from the first to the last: `first` is at most `last`.
@@ -256,12 +258,15 @@ pub struct JoinArguments<'a> {
     pub packets: &'a str,
 }
 
-/// `audit`: a link, the divisor of the soft values, whether the report was made with the best settings, and the files.
+/// `audit`: a link, the divisor of the soft values, whether the report was made with the best settings, whether frames were
+/// rotated back and equalized, and the files.
 #[derive(Clone, Copy)]
 pub struct AuditArguments<'a> {
     pub link: LinkArguments,
     pub divisor: NumberArguments,
     pub tuned: bool,
+    pub turns: bool,
+    pub equalize: bool,
     pub rows: &'a str,
     pub symbols: &'a str,
     pub report: &'a str,

@@ -6,11 +6,12 @@ ghost use Rattle.s2_mode.specs.Mode.{mode_of};
 ghost use Rattle.s2_bits.specs.Bits.{number};
 ghost use Rattle.s2_plframe.specs.Header.{header_bit};
 ghost use Rattle.s2_plframe.specs.Search.{decision};
+ghost use Rattle.s2_plframe.specs.Turns.{opposite_decision};
 ghost use Rattle.s2_plframe.specs.Inside.{held, held_list, IsHeader, IsWindow, is_near, wrong_in};
 
 use crate::constants::HEADER_THRESHOLD;
 use crate::header::{PlsCode, header_bit};
-use crate::receive::search::{says_even, says_odd};
+use crate::receive::search::{opposite_even, opposite_odd, says_even, says_odd};
 use s2_mode::{HEADER_SYMBOLS, Symbol};
 
 /// The places of a header's first, third and so on bit in a register.
@@ -58,6 +59,17 @@ impl Signs {
         Signs { odd, even }
     }
 
+    /// The signs after one more symbol, which is rotated by two quarters.
+    #[inline(always)]
+    pub(crate) fn with_opposite(self, symbol: Symbol) -> Signs
+        ensures newest { held result.odd result.even 0 ≡ opposite_decision symbol }
+        ensures others { (j : ℕ) → j < 127 → held result.odd result.even (j + 1) ≡ held self.odd self.even j }
+    {
+        let odd = pushed(self.odd, opposite_odd(symbol));
+        let even = pushed(self.even, opposite_even(symbol));
+        Signs { odd, even }
+    }
+
     /// The decided bits of the last 90 symbols as a number; the first one's is the highest. Each symbol's bit is that
     /// of its place in a header.
     #[inline(always)]
@@ -66,6 +78,14 @@ impl Signs {
     {
         mixed(self.odd, self.even)
     }
+}
+
+/// The lowest 64 bits.
+#[inline(always)]
+pub(crate) fn low(number: u128) -> u64
+    ensures { result ≡ number % 2 ^ 64 }
+{
+    (number % (1 << 64)) as u64
 }
 
 /// Whether a window passes as a header: at most 12 bits differ.

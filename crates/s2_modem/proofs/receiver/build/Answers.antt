@@ -1,4 +1,4 @@
-use Rattle.s2_modem.proofs.Names.{rules, ◌≤◌, sym, ap, subst, ◌∙◌, IfOk-weaker, shape_in, symbols_in, IsDivisor, found_as, frame_decision, IsUndecided, DeciderState}
+use Rattle.s2_modem.proofs.Names.{rules, ◌≤◌, sym, ap, subst, ◌∙◌, IfOk-weaker, shape_in, symbols_in, IsDivisor, found_as, frame_decision, IsUndecided, DeciderState, sought_of}
 use Rattle.s2_modem.proofs.HeadlineLemmas.{keeps_headline}
 use Rattle.s2_modem.proofs.receiver.build.Goals as goal
 
@@ -12,11 +12,11 @@ returns c =
     let all = keeps_headline c.mode-mode.result k.valid k.sizes c.args.link.now c.args.tuning (sym mode.is, mode.shape ∙ ap shape_in mode.is) ro known in
     record {
       rules = IfOk-weaker c.new-2.result _ _ (λ r e.
-          (let m = e.0 ∙ mode.is in
+          (let sought = e.0 ∙ (λ i. sought_of (mode.is i) (c.has_turns.ensures i)) in
           let lock = e.1 ∙ c.max_header_errors.ensures.is in
           let link = ap (λ (x : DeciderState). x.link) e.2 ∙ d.link in
           let tuning = ap (λ (x : DeciderState). x.tuning) e.2 ∙ d.tuning in
-          λ i. record { finds = found_as (m i) (lock i); size = symbols_in (m i); decide = frame_decision (link i) (tuning i); limit = e.3 i })) c.new-2.ensures.parts;
+          λ i. record { finds = found_as (sought i) (lock i); size = symbols_in (sought i).mode; decide = frame_decision (link i) (tuning i); limit = e.3 i })) c.new-2.ensures.parts;
       limit = search rules;
       begun = search rules;
       keeps = IfOk-weaker c.new-2.result _ _ (λ r e. all) c.new-2.ensures.parts;

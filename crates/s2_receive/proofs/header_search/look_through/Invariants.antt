@@ -6,8 +6,8 @@ use Rattle.s2_receive.proofs.header_search.look_through.Given as goal
 abbrev pub invariant-look : goal.invariant-look
 invariant-look l =
     Saw l.search (drop l.start (take l.at l.symbols))
-    × Looked (found_as l.fn.search.mode l.max_header_errors) l.symbols l.from l.inside l.fn.behind l.fn.skipped l.start l.at l.behind l.skipped
-    × (l.search.mode ≡ l.fn.search.mode)
+    × Looked (found_as l.fn.search.sought l.max_header_errors) l.symbols l.from l.inside l.fn.behind l.fn.skipped l.start l.at l.behind l.skipped
+    × (l.search.sought ≡ l.fn.search.sought)
 
 abbrev pub decreases-look : goal.decreases-look
 decreases-look l = length l.symbols - l.at

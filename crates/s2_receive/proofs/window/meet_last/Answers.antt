@@ -4,11 +4,11 @@ use Rattle.s2_receive.proofs.FindSteps.{last_cut, last_end}
 use Rattle.s2_receive.proofs.window.meet_last.Goals as goal
 
 pub returns-then-scan-clause-met : goal.returns-then-scan-clause-met
-returns-then-scan-clause-met c = last_cut (found_as c.args.search.now.mode c.args.max_header_errors) c.args.held c.args.frame.now c.look_through-scan.result c.requires.few c.look_through-scan.ensures.scans c.if-scan.true
+returns-then-scan-clause-met c = last_cut (found_as c.args.search.now.sought c.args.max_header_errors) c.args.held c.args.frame.now c.look_through-scan.result c.requires.few c.look_through-scan.ensures.scans c.if-scan.true
 
 pub returns-else-scan-clause-met : goal.returns-else-scan-clause-met
 returns-else-scan-clause-met c =
-    rw c.extended.ensures (last_end (found_as c.args.search.now.mode c.args.max_header_errors) c.args.held c.args.frame.now c.look_through-scan.result c.requires.few c.look_through-scan.ensures.scans c.if-scan.false)
+    rw c.extended.ensures (last_end (found_as c.args.search.now.sought c.args.max_header_errors) c.args.held c.args.frame.now c.look_through-scan.result c.requires.few c.look_through-scan.ensures.scans c.if-scan.false)
 
 pub returns-then-scan-clause-behind : goal.returns-then-scan-clause-behind
 returns-then-scan-clause-behind c =

@@ -4,12 +4,12 @@ use Rattle.s2_receive.proofs.window.skip_to_header.Goals as goal
 
 pub returns-then-scan-eq0-clause-stands : goal.returns-then-scan-eq0-clause-stands
 returns-then-scan-eq0-clause-stands c = λ is.
-    stands (found_as c.args.search.now.mode c.args.max_header_errors) c.args.held.now c.args.frame.now c.look_through-scan.result c.requires.full c.requires.size.0 c.look_through-scan.ensures.scans c.if-scan-eq0.true
+    stands (found_as c.args.search.now.sought c.args.max_header_errors) c.args.held.now c.args.frame.now c.look_through-scan.result c.requires.full c.requires.size.0 c.look_through-scan.ensures.scans c.if-scan-eq0.true
 
 pub returns-clause-moved : goal.returns-clause-moved
 returns-clause-moved c = λ is.
     let least = c.min-gone.ensures in
-    moved (found_as c.args.search.now.mode c.args.max_header_errors) c.args.held.now c.args.frame.now c.look_through-scan.result c.requires.full c.requires.size.0 c.look_through-scan.ensures.scans c.min-gone.result c.copy_within.new.self
+    moved (found_as c.args.search.now.sought c.args.max_header_errors) c.args.held.now c.args.frame.now c.look_through-scan.result c.requires.full c.requires.size.0 c.look_through-scan.ensures.scans c.min-gone.result c.copy_within.new.self
     (omega (arith, least)) (omega (arith, least)) (λ far. omega (arith, least, far)) c.copy_within.ensures.after
 
 pub returns-then-scan-eq0-clause-held : goal.returns-then-scan-eq0-clause-held

@@ -5,4 +5,4 @@ use Rattle.s2_audit.proofs.auditor.Auditor.judge.Goals as goal
 
 pub judge_bytes-requires : goal.judge_bytes-requires
 judge_bytes-requires c =
-    ap length c.deref-2.ensures.value ∙ c.self.invariant.1.soft ∙ sym (bits_in c.self.inside.mode c.n-n.ensures.sizes) ∙ ap code_bits (sym c.self.invariant.0)
+    ap length c.deref-2.ensures.value ∙ c.self.invariant.2.soft ∙ sym (bits_in c.self.inside.mode c.n-n.ensures.sizes) ∙ ap code_bits (sym c.self.invariant.0)

@@ -1,0 +1,15 @@
+pub mod Quotients
+pub mod Sizes
+pub mod Known
+pub mod Digits
+pub mod Components
+pub mod Lists
+pub mod Weights
+pub mod Payloadless
+pub mod Exact
+pub mod Axes
+pub mod Corners
+pub mod Arriving
+pub mod Inverse
+pub mod ExactFrames
+pub mod WantedLemmas

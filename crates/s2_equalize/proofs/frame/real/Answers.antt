@@ -1,0 +1,16 @@
+use Rattle.std.proofs.Common.{◌∙◌, ◌*ℤ◌, SFits, w16, rules}
+use Rattle.s2_equalize.proofs.Components.{difference_held, difference_most, part_held}
+use Rattle.s2_equalize.proofs.frame.real.Goals as goal
+
+pub returns-clause-is : goal.returns-clause-is
+returns-clause-is c =
+    let s = c.args.symbol in
+    let f = c.args.factor in
+    let fits_i : SFits w16 s.i = search rules in
+    let fits_q : SFits w16 s.q = search rules in
+    let one = c.product.ensures.is ∙ part_held s.i f.re fits_i c.requires.re in
+    let other = c.product-2.ensures.is ∙ part_held s.q f.im fits_q c.requires.im in
+    difference_held c.product.result c.product-2.result (s.i *ℤ f.re) (s.q *ℤ f.im) one other c.product.ensures.most c.product-2.ensures.most
+
+pub returns-clause-most : goal.returns-clause-most
+returns-clause-most c = difference_most c.product.result c.product-2.result c.product.ensures.most c.product-2.ensures.most

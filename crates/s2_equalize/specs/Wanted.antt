@@ -1,0 +1,23 @@
+-- An equalizer that may be wanted or not (own).
+use Rattle.std.specs.Prelude.{ℕ, Bool, Option, Some, None, List, if◌then◌else◌}
+use Rattle.s2_mode.specs.declared.symbols.Symbol.{Symbol}
+use Rattle.s2_mode.specs.Mode.{Mode}
+use Rattle.s2_equalize.specs.Equalizer.{Equalizer, equalized, equalizer_of}
+
+-- the symbols of a frame, equalized if that is wanted
+abbrev pub levelled : Mode → ℕ → (wanted : Bool) → List Symbol → List Symbol
+levelled m number wanted symbols = if wanted then equalized m number symbols else symbols
+
+-- what equalizes frames, if anything does, and the symbols that it wrote last
+pub record Equalizing : Type 0 where
+  pub equalizer : Option Equalizer
+  pub symbols : List Symbol
+
+-- the equalizer, if it is wanted
+abbrev pub equalizer_by : (wanted : Bool) → Mode → ℕ → Option Equalizer
+equalizer_by wanted mode number = if wanted then Some (equalizer_of mode number) else None
+
+-- the symbols that it wrote, or those that are given
+abbrev pub held_by : Option Equalizer → (written symbols : List Symbol) → List Symbol
+held_by None written symbols = symbols
+held_by (Some e) written symbols = written

@@ -1,0 +1,85 @@
+//! An equalizer with a buffer of its own, if one is wanted.
+ghost use Rattle.std.specs.Prelude.{◌≡◌, IfOk, IfSome, length};
+ghost use Rattle.s2_mode.specs.Mode.{symbols_in};
+ghost use Rattle.s2_equalize.specs.Equalizer.{equalized};
+ghost use Rattle.s2_equalize.specs.Wanted.{equalizer_by, held_by};
+
+use crate::equalizer::Equalizer;
+use s2_mode::{Mode, Symbol};
+use s2_scramble::ScramblingNumber;
+use std::alloc::{AllocError, Global};
+use std::marker::Model;
+
+/// Equalizes the frames of a mode, if that is wanted, into a buffer of its own. Otherwise it takes no memory. Its value is
+/// the equalizer, and the symbols that it wrote last.
+pub struct FrameEqualizer {
+    equalizer: Option<Equalizer>,
+    symbols: Vec<Symbol>,
+}
+
+impl Drop for FrameEqualizer {
+    fn drop(self) {
+        let FrameEqualizer {
+            equalizer: _,
+            symbols: _,
+        } = self;
+    }
+}
+
+impl Model for FrameEqualizer {
+    ghost use Rattle.std.specs.Prelude.{◌≡◌, IfSome, length};
+    ghost use Rattle.s2_mode.specs.Mode.{symbols_in};
+    ghost use Rattle.s2_equalize.specs.Wanted.{Equalizing};
+
+    ghost Value = { Equalizing };
+
+    ghost view = { λ f. record { equalizer = f.equalizer; symbols = f.symbols.items } };
+
+    ghost invariant = { λ f. IfSome f.equalizer (λ e. length f.symbols.items ≡ symbols_in e.mode) };
+}
+
+impl FrameEqualizer {
+    /// For a mode and a scrambling number, with all the memory that it needs. `AllocError` only if it is out of memory.
+    pub fn new(
+        alloc: Global,
+        mode: Mode,
+        number: ScramblingNumber,
+        wanted: bool,
+    ) -> Result<FrameEqualizer, AllocError>
+        ensures { IfOk result (λ f. f.equalizer ≡ equalizer_by wanted mode number) }
+    {
+        if !wanted {
+            return Ok(FrameEqualizer {
+                equalizer: None,
+                symbols: Vec::new(alloc),
+            });
+        }
+        let origin = Symbol { i: 0, q: 0 };
+        Ok(FrameEqualizer {
+            equalizer: Some(Equalizer::new(alloc, mode, number)?),
+            symbols: vec![in alloc; origin; mode.symbols()]?,
+        })
+    }
+
+    /// Equalizes a frame into the buffer, if that is wanted.
+    pub fn equalize(&mut self, frame: &[Symbol])
+        requires { IfSome self.old.equalizer (λ e. length frame.now ≡ symbols_in e.mode) }
+        ensures is { IfSome self.old.equalizer (λ e. self.new.symbols ≡ equalized e.mode e.number frame.now) }
+        ensures same { self.new.equalizer ≡ self.old.equalizer }
+    {
+        if let Some(equalizer) = &mut self.equalizer {
+            equalizer.equalize_into(frame, &mut self.symbols);
+        }
+    }
+
+    /// The equalized symbols of the last frame; or those that are given, if nothing is equalized.
+    pub fn levelled<'a>(&'a self, frame: &'a [Symbol]) -> &'a [Symbol]
+        ensures { result.now ≡ held_by self.now.equalizer self.now.symbols frame.now }
+    {
+        if self.equalizer.is_some() {
+            &self.symbols
+        } else {
+            frame
+        }
+    }
+}
