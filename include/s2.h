@@ -145,7 +145,7 @@ typedef struct s2_options {
     uint32_t tuned;             /* 1: the best numbers of the mode are the defaults */
     uint32_t uncertified;       /* 1: no search for certificates after min-sum; passes count as 0 */
     uint32_t figures;           /* 1: each frame has figures */
-    uint32_t turns;             /* 1: also frames whose symbols are rotated by quarter turns; `tuned` turns it on */
+    uint32_t turns;             /* 1: also frames whose symbols are rotated by quarter turns; `tuned` includes it */
     uint32_t equalize;          /* 1: the gain of the channel is taken out of each frame before it is decided */
     uint32_t reserved[14];
 } s2_options;

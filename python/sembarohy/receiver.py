@@ -146,7 +146,7 @@ class Receiver(Held):
     The options are those of `s2 demod` (`docs/formats.md`). `mode` is a MODCOD or a name. `tuned` selects the numbers that were measured
     to be best for the mode; `rounds`, `passes`, `divisor`, `factor` and `max_header_errors` (`--lock`) win over them. `uncertified` skips
     the search for certificates, and `figures` measures each frame. With `turns` frames are also received whose symbols are rotated by quarter
-    turns; `tuned` turns it on. `equalize` takes the gain of the channel out of each frame before it is decided. `scrambling` is the number of
+    turns; `tuned` includes it. `equalize` takes the gain of the channel out of each frame before it is decided. `scrambling` is the number of
     the scrambling sequence. `keep` names records that each frame reads at once, of `RECORDS`.
 
     >>> code = Code.from_file("normal_3_4.rows", "qpsk3/4")

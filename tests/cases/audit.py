@@ -149,12 +149,12 @@ def cases(symbols, report, certificates):
     # unreadable lines, after the lines of the frames before
     number = len(rest)
     for text in ("frame", "frame 1", "frame 1 at", "frame 1 at 0", "frame 1 in 0 sole fixed 0", "frame x at 0 sole", "frame 1 at -1 sole", "frame 1 at 0 sure fixed 0",
-                 "frame  1 at 0 sole", f"frame {2**40} at 0 sole", f"frame 1 at {2**40} sole", "ending", "", "end " + 252 * "x"):  # fmt: skip
+                 "frame  1 at 0 sole", f"frame {2**40} at 0 sole", f"frame 1 at {2**40} sole", "ending", "", "end " + 508 * "x"):  # fmt: skip
         yield stopped("".join(rest[:-1]) + text + "\n", symbols, certificates, "".join(lines), f"report: line {number}")
     yield stopped("".join(rest)[:-1], symbols, certificates, "".join(lines), f"report: line {number}")
     yield stopped("\n" + report, symbols, certificates, "", "report: line 1")
     # other lines are skipped; a report without an end line is a report
-    for text in ("cut at 5 symbols 90", "end", "cut", "end " + 251 * "x"):
+    for text in ("cut at 5 symbols 90", "end", "cut", "end " + 507 * "x"):
         yield case("".join(rest[:-1]) + text + "\n", symbols, certificates, 0, "".join(lines) + last(report))
     yield case("".join(rest[:-1]), symbols, certificates, 0, "".join(lines) + last(report))
     # each file from standard input

@@ -5,12 +5,14 @@ import math
 
 from cases.common import ANY, LINK, Case, Rule
 from cases.drawn import gaussian
-from cases.rotations import ahead, frames_of, in_bytes, samples
+from cases.rotations import ahead, frames_of, in_bytes, rotation_of, samples, turned
 from cases.wrong_symbols import FOUR
+from dummy import header
 
 HEADER, PILOTS, PERIOD = 90, 36, 1476
 # A frame of QPSK 1/4 in short frames with pilots, and its pilot blocks.
 FRAME, BLOCKS = 8370, 5
+OWN = header(1, 3)
 LEAST, MOST = -32768, 32767
 
 
@@ -98,17 +100,23 @@ def limited(value):
 
 
 def through(symbols, gain, degrees=0, turns=0):
-    """The symbols times a complex gain that turns by a number of cycles with each symbol."""
+    """The symbols times a complex gain that rotates by a part of a cycle with each symbol."""
     factors = (cmath.rect(gain, math.radians(degrees) + 2 * math.pi * turns * t) for t in range(len(symbols) // 4))
     products = (complex(*symbol) * factor for symbol, factor in zip(samples(symbols), factors))
     return in_bytes([(limited(it.real), limited(it.imag)) for it in products])
 
 
+def rotated_back(received):
+    """A frame, rotated back by the rotation of its header."""
+    turn = rotation_of(received[:HEADER], OWN)
+    return [turned(symbol, 4 - turn) for symbol in received]
+
+
 def levelled(received, sent):
-    """The frames of a stream, equalized."""
+    """The frames of a stream, each rotated back and equalized."""
     received, sent = samples(received), samples(sent)
     frames = (slice(at, at + FRAME) for at in range(0, len(sent), FRAME))
-    return in_bytes([symbol for frame in frames for symbol in equalized(received[frame], sent[frame])])
+    return in_bytes([symbol for frame in frames for symbol in equalized(rotated_back(received[frame]), sent[frame])])
 
 
 def without_signal(symbols):
@@ -143,13 +151,14 @@ def cases(made_by):
     ]
     for came in streams:
         values = made_by(f"demod {words} --quiet --values out made in other", {"in": levelled(came, sent)})
-        yield Case(f"demod {words} --equalize --values other made in out", ANY, ANY, ANY, reads={"in": came}, writes={"other": values, "out": ANY})
+        options = f"demod {words} --turns --equalize --values other made in out"
+        yield Case(options, ANY, ANY, ANY, reads={"in": came}, writes={"other": values, "out": ANY})
     # any amplitude and phase, and a carrier error, with noise
     borne = [(0.16, 40, 0.00005), (6.06, 200, -0.00005), (1, 300, 0.00005), (0.3, 100, -0.0001)]
     for each in borne:
         options = f"demod {words} --turns --equalize --tuned made in out"
         yield Case(options, ANY, all_delivered(count), ANY, reads={"in": through(noisy, *each)}, writes={"out": FOUR})
-    # what arrives without noise, times a whole gain and rotated, is received as it was sent
+    # what arrives without noise, times a whole gain and rotated, gives the packets that were sent
     for gain, turn in ((1, 0), (2, 3), (33, 1), (46, 2)):
         came = ahead(through(sent, gain), turn)
         yield Case(f"demod {words} --turns --equalize made in out", 0, all_delivered(count), ANY, reads={"in": came}, writes={"out": FOUR})

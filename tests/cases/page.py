@@ -61,7 +61,7 @@ def by_commands(text, program, checker):
     os.symlink(program, "s2")
     os.symlink(checker, "examples/check.py")
     found = commands(text)
-    yield "its commands", 9, len(found)
+    yield "its commands", 11, len(found)
     for command, lines in found:
         yield command, lines, printed("bash", "-c", command).splitlines()
 

@@ -48,9 +48,9 @@ def bit_of(place, symbol):
     return int((i + q if place % 2 == 0 else q - i) < 0)
 
 
-def turn_of(symbols):
+def rotation_of(symbols, bits=OWN):
     """The rotation of a frame: after rotating back by it, the fewest bits of its header are wrong."""
-    wrong = [sum(bit_of(at, turned(each, 4 - turn)) != bit for at, (each, bit) in enumerate(zip(symbols, OWN))) for turn in range(4)]
+    wrong = [sum(bit_of(at, turned(each, 4 - turn)) != bit for at, (each, bit) in enumerate(zip(symbols, bits))) for turn in range(4)]
     return wrong.index(min(wrong))
 
 
@@ -61,7 +61,7 @@ def line(number, at, turn, outcome="sole fixed 0"):
 def report(symbols, places, packets):
     """The report of frames without noise at these places, each rotated as its header says."""
     heard = samples(symbols)
-    lines = [line(number, at, turn_of(heard[at : at + HEADER])) for number, at in enumerate(places, 1)]
+    lines = [line(number, at, rotation_of(heard[at : at + HEADER])) for number, at in enumerate(places, 1)]
     return "".join(lines) + END.format(len(places), packets)
 
 
@@ -97,7 +97,7 @@ def delivers(symbols, whole):
         lines = {int(words[3]): " ".join(words[4:]) for words in frames_of(got)}
         for at, unspoilt in enumerate(whole):
             place = FRAME * at
-            turn = turn_of(heard[place : place + HEADER])
+            turn = rotation_of(heard[place : place + HEADER])
             if unspoilt and lines.get(place) != "sole fixed 0" + (f" turn {turn}" if turn else ""):
                 return False
         return len(lines) == len(whole)

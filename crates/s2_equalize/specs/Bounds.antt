@@ -34,7 +34,7 @@ turn_bound = 4600000000
 abbrev pub turn_sum_bound : ℕ
 turn_sum_bound = 2 ^ 30
 
--- the gain of a block, turned to another
+-- the gain of a block, rotated to another
 abbrev pub turned_bound : ℕ
 turned_bound = 2 ^ 36
 
@@ -49,7 +49,7 @@ smoothed_bound = 2 ^ 22
 abbrev pub factor_bound : ℕ
 factor_bound = 2 ^ 14
 
--- a list has the turns over 0 to 4 blocks
+-- a list has the rotations over 0 to 4 blocks
 pub record AreTurns (c : Complex) (list : List Complex) : Type 0 where
   pub each : (n : ℕ) → n < 5 → complex_at list n ≡ turns c n
   pub small : (n : ℕ) → n < 5 → IsWithin (2 ^ 19) (complex_at list n)

@@ -1,4 +1,4 @@
--- The equalizer with one tap (own): each symbol of a frame is divided by the gain of the channel, which is estimated from
+-- The equalizer with one tap (own): each symbol of a frame is divided by the gain of the channel. The gain is estimated from
 -- the symbols that are known, and is linear between the centres of their blocks.
 use Rattle.std.specs.Prelude.{ℕ, ◌+◌, ◌-◌, ◌*◌, ◌/◌, ◌%◌, ◌^◌, max, min, ℤ, pos, negsuc, unsigned_abs, List, length, map}
 use Rattle.std.specs.List.{range_with_len}
@@ -16,7 +16,7 @@ use Rattle.s2_equalize.specs.Gains.{known_frame, gains_of, smoothed}
 unfoldable pub digits : Complex → ℕ
 digits a = 64 - leading_zeros w64 (max (unsigned_abs a.re) (unsigned_abs a.im))
 
--- The energy by which a gain is inverted, where 2^b is about the size of a usual gain. Less than a quarter of that counts as
+-- The energy by which a gain is inverted: 2^b is about the size of a usual gain. Less than a quarter of that counts as
 -- a quarter, so that symbols without a signal become small
 unfoldable pub divisor : ℕ → Complex → ℕ
 divisor b a = max 1 (max (2 ^ (2 * b) / 16) (energy a))
@@ -71,5 +71,6 @@ pub record Equalizer : Type 0 where
   pub mode : Mode
   pub number : ℕ
 
+-- the equalizer of a mode and a scrambling number
 abbrev pub equalizer_of : Mode → ℕ → Equalizer
 equalizer_of mode number = record { mode = mode; number = number }

@@ -7,7 +7,7 @@ use Rattle.s2_scramble.specs.Rotations.{rotated}
 use Rattle.s2_plframe.specs.Frame.{frame_symbols}
 use Rattle.s2_equalize.specs.Equalizer.{equalized}
 
--- a symbol multiplied by a whole number, and turned by quarters
+-- a symbol multiplied by a whole number, and rotated by quarters
 abbrev pub arrived : (gain quarters : ℕ) → Symbol → Symbol
 arrived gain quarters s = rotated quarters (symbol (pos gain *ℤ s.i) (pos gain *ℤ s.q))
 

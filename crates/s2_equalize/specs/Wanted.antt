@@ -1,10 +1,10 @@
--- An equalizer that may be wanted or not (own).
+-- An equalizer that may be requested or not (own).
 use Rattle.std.specs.Prelude.{ℕ, Bool, Option, Some, None, List, if◌then◌else◌}
 use Rattle.s2_mode.specs.declared.symbols.Symbol.{Symbol}
 use Rattle.s2_mode.specs.Mode.{Mode}
 use Rattle.s2_equalize.specs.Equalizer.{Equalizer, equalized, equalizer_of}
 
--- the symbols of a frame, equalized if that is wanted
+-- the symbols of a frame, equalized if that is requested
 abbrev pub levelled : Mode → ℕ → (wanted : Bool) → List Symbol → List Symbol
 levelled m number wanted symbols = if wanted then equalized m number symbols else symbols
 
@@ -13,7 +13,7 @@ pub record Equalizing : Type 0 where
   pub equalizer : Option Equalizer
   pub symbols : List Symbol
 
--- the equalizer, if it is wanted
+-- the equalizer, if it is requested
 abbrev pub equalizer_by : (wanted : Bool) → Mode → ℕ → Option Equalizer
 equalizer_by wanted mode number = if wanted then Some (equalizer_of mode number) else None
 

@@ -1,4 +1,4 @@
-//! The turn of the carrier from block to block.
+//! The rotation of the carrier from block to block.
 ghost use Rattle.std.specs.Prelude.{◌≡◌, ℕ, ◌*◌, ◌^◌, ◌≤◌, ◌<◌, length};
 ghost use Rattle.s2_equalize.specs.Bounds.{AreTurns, AreWithin, gain_bound, turn_sum_bound};
 ghost use Rattle.s2_equalize.specs.Complex.{IsWithin, root};
@@ -8,7 +8,7 @@ ghost use Rattle.s2_equalize.specs.Gains as by;
 
 use crate::complex::{Complex, ORIGIN, energy, over, plus, scaled, times, times_conjugate};
 
-/// The turn by nothing.
+/// The rotation by nothing.
 pub(crate) const NO_TURN: Complex = Complex { re: 32768, im: 0 };
 
 /// The gains, each times the conjugate of the one before it, summed.
@@ -48,7 +48,7 @@ fn turn_of(a: Complex) -> Complex
     }
 }
 
-/// The turn of the carrier from block to block.
+/// The rotation of the carrier from block to block.
 pub(crate) fn turn(gains: &[Complex]) -> Complex
     requires some { 0 < length gains.now }
     requires few { length gains.now ≤ 23 }
@@ -59,7 +59,7 @@ pub(crate) fn turn(gains: &[Complex]) -> Complex
     turn_of(turn_sum(gains))
 }
 
-/// One turn more.
+/// One rotation more.
 #[inline(always)]
 pub(crate) fn turned_once(a: Complex, turn: Complex) -> Complex
     requires a { IsWithin (2 ^ 22) a }
@@ -70,7 +70,7 @@ pub(crate) fn turned_once(a: Complex, turn: Complex) -> Complex
     over(32768, times(a, turn))
 }
 
-/// The turns over 0 to 4 blocks.
+/// The rotations over 0 to 4 blocks.
 pub(crate) fn turns(turn: Complex) -> [Complex; 5]
     requires { IsWithin 32768 turn }
     ensures { AreTurns turn result }

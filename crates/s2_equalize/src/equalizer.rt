@@ -115,7 +115,7 @@ impl Equalizer {
     /// Writes the symbols of a received frame, each divided by the gain of the channel.
     ///
     /// `symbols` has `mode.symbols()` received symbols, header and pilots among them, not rotated back by the
-    /// scrambler. `out` has as many. Each is written. It takes no memory.
+    /// scrambler. `out` has the same number. Each is written. It takes no memory.
     pub fn equalize_into(&mut self, symbols: &[Symbol], out: &mut [Symbol])
         requires symbols { length symbols.now ≡ symbols_in self.old.mode }
         requires room { length out.old ≡ symbols_in self.old.mode }

@@ -10,7 +10,7 @@ use crate::constants::PILOT_BLOCK;
 use crate::factors::factor_at;
 use s2_mode::{HEADER_SYMBOLS, Symbol};
 
-/// A factor in 32 bits, and the number of binary digits behind its point.
+/// A factor in 32 bits, and the number of binary digits after its point.
 #[derive(Clone, Copy)]
 struct Factor {
     re: i32,
@@ -18,7 +18,7 @@ struct Factor {
     digits: u32,
 }
 
-/// A component's product, without the digits behind the point, limited to 16 bits.
+/// A component's product, without the digits after the point, limited to 16 bits.
 #[inline(always)]
 fn component(product: i32, digits: u32) -> i16
     requires some { 1 ≤ digits }

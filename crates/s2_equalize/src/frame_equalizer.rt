@@ -1,4 +1,4 @@
-//! An equalizer with a buffer of its own, if one is wanted.
+//! An equalizer with its buffer, if one is requested.
 ghost use Rattle.std.specs.Prelude.{◌≡◌, IfOk, IfSome, length};
 ghost use Rattle.s2_mode.specs.Mode.{symbols_in};
 ghost use Rattle.s2_equalize.specs.Equalizer.{equalized};
@@ -10,7 +10,7 @@ use s2_scramble::ScramblingNumber;
 use std::alloc::{AllocError, Global};
 use std::marker::Model;
 
-/// Equalizes the frames of a mode, if that is wanted, into a buffer of its own. Otherwise it takes no memory. Its value is
+/// Equalizes the frames of a mode, if that is requested, into its buffer. Otherwise it takes no memory. Its value is
 /// the equalizer, and the symbols that it wrote last.
 pub struct FrameEqualizer {
     equalizer: Option<Equalizer>,
@@ -61,7 +61,7 @@ impl FrameEqualizer {
         })
     }
 
-    /// Equalizes a frame into the buffer, if that is wanted.
+    /// Equalizes a frame into the buffer, if that is requested.
     pub fn equalize(&mut self, frame: &[Symbol])
         requires { IfSome self.old.equalizer (λ e. length frame.now ≡ symbols_in e.mode) }
         ensures is { IfSome self.old.equalizer (λ e. self.new.symbols ≡ equalized e.mode e.number frame.now) }

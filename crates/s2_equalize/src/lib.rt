@@ -1,10 +1,10 @@
 //! An equalizer with one tap, between the frame search and soft values: it takes the gain of the channel out of a frame.
 //!
 //! An [`Equalizer`] knows the symbols of the header and of the pilot blocks (EN 302 307-1, 5.5.2 and 5.5.3). From them
-//! [`Equalizer::equalize_into`] estimates the complex gain of a received frame: its amplitude, its phase and the turn of
+//! [`Equalizer::equalize_into`] estimates the complex gain of a received frame: its amplitude, its phase and the rotation of
 //! the carrier from block to block. It returns exactly the symbols that `equalized` defines, each divided by the gain at
-//! its place. Only [`Equalizer::new`] takes memory. Of a frame without noise, times a whole gain and turned by quarters, it
-//! gives back what was sent ([`laws::exact`]). A [`FrameEqualizer`] has a buffer for a frame, if an equalizer is wanted.
+//! its place. Only [`Equalizer::new`] takes memory. Of a frame without noise, times a whole gain and rotated by quarters, it
+//! gives back what was sent ([`laws::exact`]). A [`FrameEqualizer`] has a buffer for a frame, if an equalizer is requested.
 //!
 //! ```text
 //! let mut equalizer = Equalizer::new(alloc, mode, number)?;

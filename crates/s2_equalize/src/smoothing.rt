@@ -9,7 +9,7 @@ ghost use Rattle.s2_equalize.specs.Gains as gains_by;
 use crate::carrier::{turn, turned_once, turns};
 use crate::complex::{Complex, ORIGIN, over, plus, scaled, times, times_conjugate};
 
-/// How much a block counts.
+/// The weight of a block.
 #[inline(always)]
 fn weight(block: usize) -> u64
     ensures is { result ≡ weight block }
@@ -19,7 +19,7 @@ fn weight(block: usize) -> u64
     if block == 0 { 2 } else { 1 }
 }
 
-/// The gain of block `l`, turned to block `k`.
+/// The gain of block `l`, rotated to block `k`.
 #[inline(always)]
 fn turned(gains: &[Complex], turn: Complex, turns: &[Complex; 5], k: usize, l: usize) -> Complex
     requires inside { l < length gains.now }
@@ -44,7 +44,7 @@ struct NearSum {
     sum: Complex,
 }
 
-/// The gains from `at` on, below `end`, turned to block `k`, weighted and summed.
+/// The gains from `at` on, below `end`, rotated to block `k`, weighted and summed.
 fn weighted(
     gains: &[Complex],
     turn: Complex,
@@ -93,7 +93,7 @@ fn mean_gain(gains: &[Complex], turn: Complex, turns: &[Complex; 5], k: usize) -
     over(32768 * near.weight, near.sum)
 }
 
-/// Writes the smoothed gains of all blocks, and of one behind the last.
+/// Writes the smoothed gains of all blocks, and of one after the last.
 pub(crate) fn smooth_into(gains: &[Complex], smoothed: &mut [Complex])
     requires some { 0 < length gains.now }
     requires few { length gains.now ≤ 23 }

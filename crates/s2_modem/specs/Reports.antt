@@ -103,7 +103,7 @@ pub record IsUndecided (m : Mode) (d : Decision) : Type 0 where
 abbrev pub decision_on : Mode → List ℤ → Decided → Decision
 decision_on m soft d = decision_by m soft d (nearest m (received_word m d.bits))
 
--- the figures of a frame's symbols, before the equalizer, and of its decided bits, if the tuning asks for them
+-- the figures of a frame's symbols, before the equalizer, and of its decided bits, if the tuning has figures
 abbrev pub figures_by : Link → Tuning → List Symbol → Option Figures
 figures_by link tuning symbols =
     if tuning.figures
@@ -115,7 +115,7 @@ abbrev pub measured : Decision → Option Figures → (energy turn : ℕ) → De
 measured d figures energy turn = record d { figures = figures; energy = energy; turn = turn }
 
 -- the decision on a frame's symbols: soft values, bits, verdict, certificate, message, outcome, header and data field. The
--- figures, if they are wanted, the energy of the header's symbols, and the number of quarters by which they arrived rotated
+-- figures, if they are requested, the energy of the header's symbols, and the number of quarters by which they arrived rotated
 unfoldable pub frame_decision : Link → Tuning → List Symbol → Decision
 frame_decision link tuning symbols =
     measured (decision_on link.setup.mode (frame_soft link tuning symbols) (decided link.rows tuning (frame_soft link tuning symbols))) (figures_by link tuning symbols) (energy_of (take header_symbols symbols)) (frame_turn link tuning symbols)

@@ -21,9 +21,7 @@ use s2_check::CertView;
 use s2_link::{Link, LinkSetup, Setup, SetupFault};
 use s2_matrix::Matrix;
 use s2_mode::{CountedRead, CountedWrite, StreamFault};
-use s2_receive::{
-    Fault, MAX_SYMBOLS, Received, Sink, Step, Totals, receive_all, receive_with,
-};
+use s2_receive::{Fault, MAX_SYMBOLS, Received, Sink, Step, Totals, receive_all, receive_with};
 use s2_tuning::Tuning;
 use std::alloc::{AllocError, Global};
 use std::marker::Model;

@@ -84,8 +84,9 @@ impl Model for Tuning {
 
 impl Tuning {
     /// These rounds and passes, the usual divisor, 4096, and the usual factor, 12. At most 12 bits of a header may be
-    /// wrong right after a frame. Certificates are looked for, there are no figures, frames are received only as they
-    /// were sent, and there is no equalizer. If there are two refusals, it returns the first: `BadRounds` if the rounds are not 1 to 200, `BadPasses` if the passes are over 1000.
+    /// wrong right after a frame. Certificates are looked for, there are no figures, rotated frames are not
+    /// received, and there is no equalizer. If there are two refusals, it returns the first: `BadRounds` if the rounds are
+    /// not 1 to 200, `BadPasses` if the passes are over 1000.
     pub fn new(rounds: u32, passes: u32) -> Result<Tuning, SetupFault>
         ensures is { IfOk result (λ t. t ≡ tuning_of rounds passes) }
         ensures tuned { IfOk result (λ _. IsTuning (tuning_of rounds passes)) }
