@@ -73,7 +73,7 @@ class Scanner(Held):
 def scan(symbols: Any) -> list[Seen]:
     """The kinds of headers in symbols, the most probable first.
 
-    >>> print(*scan(open("symbols", "rb").read()))
+    >>> print(scan(open("symbols", "rb").read())[0])
     qpsk3/4 normal pilots seen 2 first 0 every 33282 turn 0 conjugate no bytes big amplitude 990
     """
     with Scanner() as scanner:

@@ -99,7 +99,7 @@ class Blocks(gr_unittest.TestCase):
 
     def test_faults(self):
         block, sink = self.sent(b"H" + bytes(500), 1000)
-        self.assertEqual((str(block.fault), len(sink.data())), ("text of -17", 0))
+        self.assertEqual((str(block.fault), len(sink.data())), ("text of -16", 0))
         block, sink, _ = self.received(numpy.array([1, float("nan")]), 1000)
         self.assertEqual((str(block.fault), len(sink.data())), ("symbol 1 is not finite", 0))
         with self.assertRaisesRegex(Exception, "text of -12"):

@@ -190,8 +190,9 @@ def try_evidence(modcod, is_short):
 
 def try_refusals():
     """The library's texts."""
-    texts = [sembarohy.library().text(-number) for number in range(24)]
-    judge("texts", (24, True), (len({*texts}), all(re.fullmatch(r"[^A-Z\n]*[^.\n]", text[1:]) for text in texts)))
+    count = len(sembarohy._library.RESULTS)
+    texts = [sembarohy.library().text(-number) for number in range(count)]
+    judge("texts", (count, True), (len({*texts}), all(re.fullmatch(r"[^A-Z\n]*[^.\n]", text[1:]) for text in texts)))
     judge("no such result", "unknown result", sembarohy.library().text(-99))
     for call in (lambda: sembarohy.Code.from_text("0 1", 7), lambda: sembarohy.Mode.of(18), lambda: sembarohy.Mode.of(11, short=True)):
         try:

@@ -153,12 +153,10 @@ def try_options():
     for place, (name, number) in enumerate(tuning.items()):
         wanted = {"modcod": 7, "given": 1 << place, name: number}
         judge(name, {it: value for it, value in wanted.items() if value}, options_given(sembarohy.Receiver(code, 7, **{name: number})))
-    flags = {"pilots": "has_pilots", "tuned": "tuned", "uncertified": "uncertified", "figures": "figures"}
+    flags = {"pilots": "has_pilots", **{it: it for it in ("tuned", "uncertified", "figures", "turns", "equalize")}}
     for name, member in flags.items():
         judge(name, {"modcod": 7, member: 1}, options_given(sembarohy.Receiver(code, 7, **{name: True})))
     judge("scrambling", {"modcod": 12, "scrambling": 5}, options_given(sembarohy.Receiver(code, "8psk3/5", scrambling=5)))
-    judge("turns", "Error: text of -14", refusal(sembarohy.Receiver, code, 7, turns=True))
-    judge("equalize", "Error: text of -14", refusal(sembarohy.Receiver, code, 7, equalize=1))
     judge("bad rounds", "Error: text of -12", refusal(sembarohy.Receiver, code, 7, rounds=201))
     judge("bad scrambling", "Error: text of -10", refusal(sembarohy.Receiver, code, 7, scrambling=262142))
     judge("a negative number", "ValueError", refusal(sembarohy.Receiver, code, 7, passes=-1).partition(":")[0])
@@ -254,12 +252,12 @@ def try_transmitter():
         judge(f"frames of pieces of {size}", whole[:3], frames)
         judge("the last frame", [whole[3]], [it.data for it in made.close()])
         judge("counts", (2, 4), made.counts)
-    judge("a closed one", ("Error: text of -19", "Error: text of -19"), (refusal(lambda: list(made.feed(b"G"))), refusal(made.close)))
+    judge("a closed one", ("Error: text of -18", "Error: text of -18"), (refusal(lambda: list(made.feed(b"G"))), refusal(made.close)))
     made.reset()
     judge("a new one", [whole[0]], [it.data for it in made.feed(packets_of(1))])
-    judge("no whole packet", "Error: text of -18", (list(made.feed(b"G" * 9)), refusal(made.close))[1])
+    judge("no whole packet", "Error: text of -17", (list(made.feed(b"G" * 9)), refusal(made.close))[1])
     made = sembarohy.Transmitter(code, 7)
-    judge("no sync", "Error: text of -17", refusal(lambda: list(made.feed(b"H"))))
+    judge("no sync", "Error: text of -16", refusal(lambda: list(made.feed(b"H"))))
     judge("and then", [], list(made.feed(b"G")))
     made = sembarohy.Transmitter(code, 7)
     frame = next(made.feed(packets_of(1)))
@@ -286,7 +284,7 @@ def try_evidence():
         told = sembarohy.judge(toy, soft)
         judge(f"a decision on {what}", ("most-likely", [int(it < 0) for it in values], bytes(range(1, 34))), (told.verdict, plain(told.word), told.certificate))
     judge("no certificate", ("parity", None), (lambda it: (it.verdict, it.certificate))(sembarohy.judge(toy, [1, *values[1:]])))
-    wrong = {"too few": (values[:-1], "Error: text of -21"), "out of range": ([2, 512, *values[2:]], "Error: text of -21")}
+    wrong = {"too few": (values[:-1], "Error: text of -20"), "out of range": ([2, 512, *values[2:]], "Error: text of -20")}
     wrong |= {"too large": ([40000], "ValueError: a soft value is beyond 16 bits"), "floats": ([0.5], "TypeError")}
     if not IS_BARE:
         wrong |= {"a row of floats": (numpy.zeros(20), "TypeError"), "a matrix": (numpy.zeros((4, 5), int), "TypeError")}
@@ -299,7 +297,7 @@ def try_evidence():
     for given, wanted, line in cases:
         told = sembarohy.check(toy, bytes(given))
         judge(f"the checker's {line}", (wanted, line, wanted[0] == "accepted"), ((told.answer, told.sole, told.check, told.cost), str(told), told.accepted))
-    judge("no certificate file", "Error: text of -22", refusal(sembarohy.check, toy, b""))
+    judge("no certificate file", "Error: text of -21", refusal(sembarohy.check, toy, b""))
 
 
 def try_scan():
@@ -310,7 +308,7 @@ def try_scan():
         judge("what is seen", [("dummy", False, True, 0, False, True, 45), ("qpsk3/4", True, False, 1, True, False, 45)], names)
         line = "qpsk3/4 short no-pilots seen 45 first 13 every 14 turn 1 conjugate yes bytes big amplitude 15"
         judge("its line", line, str(scanner.find()[1]))
-        judge("too much", "Error: text of -15", refusal(scanner.feed, bytes(1000)))
+        judge("too much", "Error: text of -14", refusal(scanner.feed, bytes(1000)))
     judge("an ended scanner", "Error: text of -2", refusal(scanner.find))
     judge("nothing", [], sembarohy.scan([]))
 
