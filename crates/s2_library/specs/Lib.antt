@@ -3,4 +3,5 @@ pub mod Codes
 pub mod Copying
 pub mod Fields
 pub mod Results
+pub mod Shelves
 pub mod Slots

@@ -1,4 +1,4 @@
-//! Codes, and a shelf on which they are found again.
+//! Codes.
 ghost use Rattle.std.specs.Prelude.{◌≡◌, false, IfOk, Some};
 ghost use Rattle.s2_mode.specs.Mode.{mode_of};
 ghost use Rattle.s2_library.specs.Asked.{is_set};
@@ -20,17 +20,6 @@ pub struct Code {
     pub(crate) is_standard: bool,
 }
 
-/// Codes that are found again by their rows.
-pub struct Shelf {
-    codes: Vec<Code>,
-}
-
-impl Drop for Shelf {
-    fn drop(self) {
-        let Shelf { codes: _ } = self;
-    }
-}
-
 /// The rows of a text.
 fn rows_of(alloc: Global, text: &[u8], shape: Shape) -> Result<Rows, Refusal>
     ensures { IfOk result (AreRowsOf text.now shape) }
@@ -43,7 +32,7 @@ fn rows_of(alloc: Global, text: &[u8], shape: Shape) -> Result<Rows, Refusal>
 }
 
 /// The matrix of a text's rows.
-fn matrix_of(alloc: Global, text: &[u8], shape: Shape) -> Result<Matrix, Refusal>
+pub(crate) fn matrix_of(alloc: Global, text: &[u8], shape: Shape) -> Result<Matrix, Refusal>
     ensures { IfOk result (AreRowsOf text.now shape) }
 {
     let rows = rows_of(alloc, text, shape)?;
@@ -54,7 +43,7 @@ fn matrix_of(alloc: Global, text: &[u8], shape: Shape) -> Result<Matrix, Refusal
 }
 
 /// A matrix that stays until the process ends.
-fn keep(alloc: Global, matrix: Matrix) -> Result<&'static Matrix, Refusal>
+pub(crate) fn keep(alloc: Global, matrix: Matrix) -> Result<&'static Matrix, Refusal>
     ensures { IfOk result (λ m. m.now ≡ matrix) }
 {
     match Box::new(alloc, matrix) {
@@ -64,7 +53,7 @@ fn keep(alloc: Global, matrix: Matrix) -> Result<&'static Matrix, Refusal>
 }
 
 /// The mode of a code, without pilots.
-fn mode_of_code(modcod: u32, is_short: u32) -> Result<Mode, Refusal>
+pub(crate) fn mode_of_code(modcod: u32, is_short: u32) -> Result<Mode, Refusal>
     ensures { IfOk result (λ mode. mode ≡ mode_of modcod (is_set is_short) false) }
 {
     mode_by(modcod, flag(is_short)?, false)
@@ -131,75 +120,4 @@ pub fn code_facts(
     *k = shape.k() as u32;
     *is_standard = u32::from(code.is_standard);
     Ok(())
-}
-
-/// An empty shelf.
-pub fn new_shelf(alloc: Global) -> Slot {
-    Slot::Shelf(Shelf {
-        codes: Vec::new(alloc),
-    })
-}
-
-/// Whether two codes have the same rows.
-fn are_same(a: &Matrix, b: &Matrix) -> bool {
-    if a.shape() != b.shape() {
-        return false;
-    }
-    let groups = a.shape().groups();
-    if b.shape().groups() != groups {
-        return false;
-    }
-    for group in 0..groups {
-        if a.addresses(group) != b.addresses(group) {
-            return false;
-        }
-    }
-    true
-}
-
-impl Shelf {
-    /// The code of these rows, if it is here.
-    fn find(&self, matrix: &Matrix) -> Option<Code> {
-        for code in &self.codes {
-            if are_same(code.matrix, matrix) {
-                return Some(*code);
-            }
-        }
-        None
-    }
-
-    /// The code of a matrix: the one that is here, or a new one that is put here.
-    fn code(&mut self, alloc: Global, matrix: Matrix, is_standard: bool) -> Result<Code, Refusal> {
-        if let Some(code) = self.find(&matrix) {
-            return Ok(code);
-        }
-        if self.codes.reserve(1).is_err() {
-            return Err(Refusal::NoMemory);
-        }
-        let code = Code {
-            matrix: keep(alloc, matrix)?,
-            is_standard,
-        };
-        match self.codes.push(code) {
-            Ok(()) => Ok(code),
-            Err(_) => Err(Refusal::NoMemory),
-        }
-    }
-}
-
-/// The code of a mode, from the text of a row file: the one on the shelf, or a new one that is put there.
-pub fn shelf_code(
-    alloc: Global,
-    slot: &mut Slot,
-    text: &[u8],
-    modcod: u32,
-    is_short: u32,
-) -> Result<Slot, Refusal> {
-    let Slot::Shelf(shelf) = slot else {
-        return Err(Refusal::OtherKind);
-    };
-    let mode = mode_of_code(modcod, is_short)?;
-    let matrix = matrix_of(alloc, text, mode.shape())?;
-    let is_standard = is_standard(&mode, &matrix);
-    Ok(Slot::Code(shelf.code(alloc, matrix, is_standard)?))
 }

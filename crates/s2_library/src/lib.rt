@@ -23,6 +23,7 @@ mod options;
 mod receiver;
 mod refusal;
 mod scanner;
+mod shelf;
 mod slot;
 mod step;
 mod texts;
@@ -30,7 +31,7 @@ mod totals;
 mod transmitter;
 
 pub use checking::{CheckedFields, check};
-pub use code::{Code, Shelf, code_facts, new_code, new_shelf, shape_code, shelf_code};
+pub use code::{Code, code_facts, new_code, shape_code};
 pub use copying::{copy_bits, copy_bytes, copy_values};
 pub use decision::{judge_certificate, judge_decide, judge_word, new_judge};
 pub use figures::FiguresFields;
@@ -43,6 +44,7 @@ pub use receiver::{
 };
 pub use refusal::{Refusal, result_number};
 pub use scanner::{Scanner, SeenFields, new_scanner, scan_at, scan_feed, scan_find};
+pub use shelf::{Shelf, new_shelf, shelf_code};
 pub use slot::Slot;
 pub use step::StepFields;
 pub use texts::text_of;

@@ -1,7 +1,8 @@
 //! The contents of a handle.
-use crate::code::{Code, Shelf};
+use crate::code::Code;
 use crate::receiver::Reception;
 use crate::scanner::Scanner;
+use crate::shelf::Shelf;
 use s2_modem::Judge;
 use s2_send::Sender;
 

@@ -1,0 +1,135 @@
+//! Shelves, on which codes are found again by their rows.
+ghost use Rattle.std.specs.Prelude.{◌≡◌, ◌↔◌, ◌≤◌, ◌+◌, ◌++◌, ◌∷◌, [], false, length, IfOk, IfSome, IsErr, IsOk, IsTrue, None};
+ghost use Rattle.s2_mode.specs.Mode.{mode_of};
+ghost use Rattle.s2_library.specs.Asked.{is_set};
+ghost use Rattle.s2_library.specs.Shelves.{Finds, HasShelved, HaveSameRows, IsOn, IsShelved, shelf_in};
+
+use crate::code::{Code, keep, matrix_of, mode_of_code};
+use crate::refusal::Refusal;
+use crate::slot::Slot;
+use s2_matrix::Matrix;
+use s2_mode::Mode;
+use s2_table::is_standard;
+use std::alloc::Global;
+use std::marker::Model;
+
+/// Codes that are found again by their rows. In contracts it is the list of their rows.
+pub struct Shelf {
+    codes: Vec<&'static Matrix>,
+}
+
+impl Drop for Shelf {
+    fn drop(self) {
+        let Shelf { codes: _ } = self;
+    }
+}
+
+impl Model for Shelf {
+    ghost use Rattle.std.specs.Prelude.{List, map};
+    ghost use Rattle.s2_rows.specs.Rows.{Rows as RowsValue};
+
+    ghost Value = { List RowsValue };
+
+    ghost view = { λ s. map (λ m. m.now) s.codes.items };
+}
+
+/// An empty shelf.
+pub fn new_shelf(alloc: Global) -> Slot
+    ensures { shelf_in result ≡ [] }
+{
+    Slot::Shelf(Shelf {
+        codes: Vec::new(alloc),
+    })
+}
+
+/// Whether two codes of one shape have the same rows.
+fn have_same_rows(a: &Matrix, b: &Matrix) -> bool
+    requires { a.now.shape ≡ b.now.shape }
+    ensures { IsTrue result ↔ HaveSameRows a.now b.now }
+{
+    for group in 0..a.shape().groups() {
+        if a.addresses(group) != b.addresses(group) {
+            return false;
+        }
+    }
+    true
+}
+
+/// Whether two codes have the same rows.
+fn are_same(a: &Matrix, b: &Matrix) -> bool
+    ensures { IsTrue result ↔ HaveSameRows a.now b.now }
+{
+    a.shape() == b.shape() && have_same_rows(a, b)
+}
+
+impl Shelf {
+    /// The code with these rows, if it is here.
+    fn find(&self, matrix: &Matrix) -> Option<&'static Matrix>
+        ensures found { IfSome result (λ m. HaveSameRows m.now matrix.now × IsOn matrix.now self.now) }
+        ensures none { result ≡ None → IsOn matrix.now self.now → ⊥ }
+    {
+        for code in &self.codes {
+            if are_same(code, matrix) {
+                return Some(*code);
+            }
+        }
+        None
+    }
+
+    /// Puts a code here, after the others.
+    fn put(&mut self, code: &'static Matrix) -> Result<(), Refusal>
+        ensures put { IsOk result → self.new ≡ self.old ++ code.now ∷ [] }
+        ensures kept { IsErr result → self.new ≡ self.old }
+    {
+        match self.codes.push(code) {
+            Ok(()) => Ok(()),
+            Err(_) => Err(Refusal::NoMemory),
+        }
+    }
+
+    /// The code of a matrix: the one that is here, or a new one that is put here.
+    fn code(&mut self, alloc: Global, matrix: Matrix) -> Result<&'static Matrix, Refusal>
+        ensures same { IfOk result (λ m. HaveSameRows m.now matrix × IsOn matrix self.new) }
+        ensures again { IsOn matrix self.old → self.new ≡ self.old }
+        ensures grown { length self.new ≤ length self.old + 1 }
+    {
+        if let Some(code) = self.find(&matrix) {
+            return Ok(code);
+        }
+        let code = keep(alloc, matrix)?;
+        self.put(code)?;
+        Ok(code)
+    }
+}
+
+/// The code of the rows of a text on a shelf.
+#[tactic(auto, using(crate::proofs::Shelves::one_rows))]
+fn code_on(alloc: Global, shelf: &mut Shelf, text: &[u8], mode: Mode) -> Result<Code, Refusal>
+    ensures shelved { IfOk result (IsShelved text.now mode shelf.new) }
+    ensures again { Finds text.now mode shelf.old shelf.new }
+{
+    let matrix = matrix_of(alloc, text, mode.shape())?;
+    let code = shelf.code(alloc, matrix)?;
+    Ok(Code {
+        matrix: code,
+        is_standard: is_standard(&mode, code),
+    })
+}
+
+/// The code of a mode, from the text of a row file: the one on the shelf, or a new one that is put there.
+pub fn shelf_code(
+    alloc: Global,
+    slot: &mut Slot,
+    text: &[u8],
+    modcod: u32,
+    is_short: u32,
+) -> Result<Slot, Refusal>
+    ensures shelved { IfOk result (HasShelved text.now (mode_of modcod (is_set is_short) false) (shelf_in slot.new)) }
+    ensures again { Finds text.now (mode_of modcod (is_set is_short) false) (shelf_in slot.old) (shelf_in slot.new) }
+{
+    let Slot::Shelf(shelf) = slot else {
+        return Err(Refusal::OtherKind);
+    };
+    let mode = mode_of_code(modcod, is_short)?;
+    Ok(Slot::Code(code_on(alloc, shelf, text, mode)?))
+}
