@@ -11,6 +11,9 @@ STEPS = {"mod": 0.15, "noise": 0.15, "demod": 0.15, "run": 0.4, "scan": 0.15}
 PIECES = {"mod": 1 << 16, "noise": 1 << 16, "demod": 1 << 16, "run": 1 << 11, "scan": 1 << 16}
 # The second has the rows of the first, and lines without words: more bytes than any of these commands reads or writes besides.
 FILES = {"many": PACKETS * PACKET, "padded": made_rows(360, 9, 36, 3, 1) + 2_000_000 * b"\n"}
+# A sender whose line gets too long for its frames, with this step of the clock in milliseconds; the bytes of a frame.
+LONG, LONG_STEP, LONG_FRAME, COLUMNS = "mod --modcod 16 --short eighths lasting /dev/null", 10**16, 4 * 5490, 79
+FILES |= {"eighths": made_rows(360, 40, 5, 3, 1), "lasting": 20_000 * PACKET}
 WORDS = {
     "mod": f"mod {LINK} made many out",
     "noise": "noise --seed 1 --level 0 frames out",
@@ -69,6 +72,15 @@ def rendered(seen):
 def lines_of(seen):
     """All progress lines, in order."""
     return [LINE.fullmatch(part) for part in re.split(r"[\r\n]", seen.decode()) if part.startswith("s2: ") and not part.startswith("s2: note: ")]
+
+
+def uncovered(seen):
+    """What a terminal shows of each line that does not cover the one before."""
+    shown, found = "", []
+    for part in seen.decode().split("\r"):
+        shown = rendered(f"{shown}\r{part}".encode())[-1]
+        found += [shown] * bool(LINE.fullmatch(part) and shown != part.rstrip())
+    return found
 
 
 class Range:
@@ -130,6 +142,13 @@ def is_possible(shown, length, size, runs=1):
     """Whether the line counts no more bytes, frames and packets than both files have."""
     counts = int(shown["frames"] or 0) <= FRAMES and int(shown["packets"] or 0) <= runs * PACKETS
     return counts and round(10 * float(shown["mega"])) <= (length + size) // 100_000
+
+
+def is_fitted(shown):
+    """Whether a line of LONG has 79 characters at most, and its frames if they fit."""
+    both, packets = units(round(10 * float(shown["mega"])), 100_000), units(int(shown["packets"]), 188)
+    frames, room = (both.most - packets.least) // LONG_FRAME, COLUMNS - len(shown[0].rstrip())
+    return room >= 0 and (shown["frames"] is not None or len(f"{frames} frames, ") > room)
 
 
 def most_readings(name, passing):

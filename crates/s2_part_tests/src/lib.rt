@@ -1,5 +1,5 @@
-//! Tests of parts that the others use, over public calls alone: readers and writers at concrete types, soft values worked by
-//! hand, and the progress line on a terminal that is kept in memory.
+//! Tests of parts that the others use, over public calls alone: readers and writers that fail, soft values worked by hand,
+//! and a progress line of more bytes than any file has.
 //!
 //! Each crate's tests are in a module of its name.
 #![tactic(auto)]
