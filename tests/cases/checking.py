@@ -1,5 +1,5 @@
 """`check`."""
-from cases.common import ANY, FAULT, HEAD, NO, STORED_CERTIFICATE, STORED_MOVED, WRONG_CERTIFICATE, WRONG_MOVED, Case, Rule, fault
+from cases.common import FAULT, HEAD, NO, STORED_CERTIFICATE, STORED_MOVED, WRONG_CERTIFICATE, WRONG_MOVED, Case, fault
 
 
 def with_byte(at, byte):
@@ -68,34 +68,34 @@ def altered(file, *changes):
     return bytes(made)
 
 
-# The limits: what the changes of the wrong bit's certificate are refused for, if they are. A scale of 4096 or 4097; 1,555,200 shares or one more; a soft
+# The limits: changes of the wrong bit's certificate, and the result. A scale of 4096 or 4097; 1,555,200 shares or one more; a soft
 # value of 64, 511, 512, -64, -511 or -512; a padding bit.
 LIMITS = [
-    ([(11, 0x10), (12, 0)], ""),
+    ([(11, 0x10), (12, 0)], "no bound\n"),
     ([(11, 0x10), (12, 1)], "range"),
     ([(14, 0x17), (15, 0xBB), (16, 0)], "cut"),
     ([(14, 0x17), (15, 0xBB), (16, 1)], "range"),
-    ([(20, 0x40), (21, 0xFF), (22, 0xC0)], ""),
-    ([(21, 0x01), (22, 0xFF), (59, 0x10)], ""),
-    ([(21, 0xFE), (22, 0x01), (59, 0x10)], ""),
+    ([(20, 0x40), (21, 0xFF), (22, 0xC0)], "no bound\n"),
+    ([(21, 0x01), (22, 0xFF), (59, 0x10)], "no check 11\n"),
+    ([(21, 0xFE), (22, 0x01), (59, 0x10)], "no check 11\n"),
     *(([(at, high), (at + 1, 0), (59, 0x10)], "range") for at in (17, 55) for high in (0x02, 0xFE)),
     ([(59, 0x08), (20, 0x3F), (22, 0x3F)], "range"),
 ]
 # The same of version 2: a third version too, a place of a check that moves nothing, and a negative amount.
 LIMITS_OF_MOVES = [
-    ([(11, 0x10), (12, 0)], ""),
+    ([(11, 0x10), (12, 0)], "no bound\n"),
     ([(11, 0x10), (12, 1)], "range"),
-    ([(17, 0x01), (18, 0xFF)], ""),
+    ([(17, 0x01), (18, 0xFF)], "yes cost 0\n"),
     ([(17, 0x02), (18, 0x00)], "range"),
-    ([(55, 0x10)], ""),
+    ([(55, 0x10)], "no check 11\n"),
     ([(55, 0x08)], "range"),
     ([(4, 3), (12, 0)], "magic"),
     ([(62, 0x01)], "range"),
     ([(63, 0x01)], "range"),
-    ([(63, 0x01), (67, 1)], ""),
+    ([(63, 0x01), (67, 1)], "yes cost 0\n"),
     ([(61, 0x00), (57, 1)], "range"),
-    ([(56, 0xFF), (57, 0xFF)], ""),
-    ([(58, 0x7F), (59, 0xFF)], ""),
+    ([(56, 0xFF), (57, 0xFF)], "no shape\n"),
+    ([(58, 0x7F), (59, 0xFF)], "no bound\n"),
     ([(58, 0x80), (61, 0x00)], "range"),
 ]
 
@@ -154,15 +154,6 @@ def answered(certificate, said):
     return checked(certificate, NO if said.startswith("no") else 0, said)
 
 
-ACCEPTS = Rule("a line", lambda got: got.startswith((b"no ", b"yes ")))
-
-
-def limited(whole, changes, text):
-    """A case that is refused for this, or has a line."""
-    file = altered(whole, *changes)
-    return refused(file, text) if text else Case("check toy out", ANY, ACCEPTS, reads={"out": file})
-
-
 # Certificates one after another: all are accepted, or the second one is not.
 ACCEPTED, THREE = STORED_MOVED + WRONG_CERTIFICATE + WRONG_MOVED, "sole cost -45\nyes cost 0\nyes cost 0\n"
 ODD = WRONG_MOVED[:53] + b"\x80" + WRONG_MOVED[54:]
@@ -215,8 +206,8 @@ CASES = [
     *(refused(*answer) for answer in FAULTS),
     *(refused(start, "cut") for start in (b"S2M", b"S2ML")),
     *(refused(start, "magic") for start in (b"T", b"S2MX", b"S2ML\0")),
-    *(limited(WRONG_CERTIFICATE, *limit) for limit in LIMITS),
-    *(limited(WRONG_MOVED, *limit) for limit in LIMITS_OF_MOVES),
+    *(answered(altered(WRONG_CERTIFICATE, *changes), said) for changes, said in LIMITS),
+    *(answered(altered(WRONG_MOVED, *changes), said) for changes, said in LIMITS_OF_MOVES),
     *(refused(whole[:size], "cut") for whole in (WRONG_MOVED, STORED_MOVED) for size in range(128)),
     *(answered(turned(whole, at), on_turned(at, n)) for n, whole in enumerate((WRONG_CERTIFICATE, STORED_CERTIFICATE)) for at in range(248)),
     *(answered(turned(whole, at), on_turned_moves(at, n)) for n, whole in enumerate((WRONG_MOVED, STORED_MOVED)) for at in range(128)),
