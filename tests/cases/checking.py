@@ -60,6 +60,46 @@ FAULTS = [
 ]
 
 
+def altered(file, *changes):
+    """A file with these bytes at these places."""
+    made = bytearray(file)
+    for at, byte in changes:
+        made[at] = byte
+    return bytes(made)
+
+
+# The limits: changes of the wrong bit's certificate, and the result. A scale of 4096 or 4097; 1,555,200 shares or one more; a soft
+# value of 64, 511, 512, -64, -511 or -512; a padding bit.
+LIMITS = [
+    ([(11, 0x10), (12, 0)], "no bound\n"),
+    ([(11, 0x10), (12, 1)], "range"),
+    ([(14, 0x17), (15, 0xBB), (16, 0)], "cut"),
+    ([(14, 0x17), (15, 0xBB), (16, 1)], "range"),
+    ([(20, 0x40), (21, 0xFF), (22, 0xC0)], "no bound\n"),
+    ([(21, 0x01), (22, 0xFF), (59, 0x10)], "no check 11\n"),
+    ([(21, 0xFE), (22, 0x01), (59, 0x10)], "no check 11\n"),
+    *(([(at, high), (at + 1, 0), (59, 0x10)], "range") for at in (17, 55) for high in (0x02, 0xFE)),
+    ([(59, 0x08), (20, 0x3F), (22, 0x3F)], "range"),
+]
+# The same of version 2: a third version too, a place of a check that moves nothing, and a negative amount.
+LIMITS_OF_MOVES = [
+    ([(11, 0x10), (12, 0)], "no bound\n"),
+    ([(11, 0x10), (12, 1)], "range"),
+    ([(17, 0x01), (18, 0xFF)], "yes cost 0\n"),
+    ([(17, 0x02), (18, 0x00)], "range"),
+    ([(55, 0x10)], "no check 11\n"),
+    ([(55, 0x08)], "range"),
+    ([(4, 3), (12, 0)], "magic"),
+    ([(62, 0x01)], "range"),
+    ([(63, 0x01)], "range"),
+    ([(63, 0x01), (67, 1)], "yes cost 0\n"),
+    ([(61, 0x00), (57, 1)], "range"),
+    ([(56, 0xFF), (57, 0xFF)], "no shape\n"),
+    ([(58, 0x7F), (59, 0xFF)], "no bound\n"),
+    ([(58, 0x80), (61, 0x00)], "range"),
+]
+
+
 def turned(file, at):
     """A file with the highest bit of a byte inverted."""
     return file[:at] + bytes([file[at] ^ 0x80]) + file[at + 1 :]
@@ -162,8 +202,12 @@ CASES = [
     fault("check --each toy out", "cannot write", reads={"out": ACCEPTED}, to="/dev/full"),
     *(checked(*answer) for answer in ANSWERS),
     *(checked(pair(place, amount), code, line, "pair") for place, amount, code, line in PAIRS),
-    *(refused(pair(1, amount), "range", "pair") for amount in (0, 1 << 31)),
+    *(refused(pair(1, amount), "range", "pair") for amount in (0, 1 << 31, (1 << 32) - 1)),
     *(refused(*answer) for answer in FAULTS),
+    *(refused(start, "cut") for start in (b"S2M", b"S2ML")),
+    *(refused(start, "magic") for start in (b"T", b"S2MX", b"S2ML\0")),
+    *(answered(altered(WRONG_CERTIFICATE, *changes), said) for changes, said in LIMITS),
+    *(answered(altered(WRONG_MOVED, *changes), said) for changes, said in LIMITS_OF_MOVES),
     *(refused(whole[:size], "cut") for whole in (WRONG_MOVED, STORED_MOVED) for size in range(128)),
     *(answered(turned(whole, at), on_turned(at, n)) for n, whole in enumerate((WRONG_CERTIFICATE, STORED_CERTIFICATE)) for at in range(248)),
     *(answered(turned(whole, at), on_turned_moves(at, n)) for n, whole in enumerate((WRONG_MOVED, STORED_MOVED)) for at in range(128)),

@@ -88,12 +88,64 @@ FRONT_FIVE, FRONT_SIX = "53324D4C 02 0001 0003 0005 0010", "53324D4C 02 0002 000
 ONE_MOVED = moves(FRONT_FIVE, ONE_LEFT, b"\xbd", (0, 1138), (0, 704), (0, 699), (0, 879), (2, 1454))
 MORE_MOVED = moves(FRONT_FIVE, MORE_LEFT, b"\x00", (0, 320), (0, 0), (0, 0), (0, 1600), (0, 0))
 THREE_MOVED = moves(FRONT_SIX, THREE_LEFT, bytes(2), (1, 225), (3, 54), (0, 13), (1, 40), (1, 78), (0, 0))
+# Values for which settling takes several passes, in groups of any size.
+TOY_CODE, SEVEN, NINE = (TOY, b"0 4 8\n0 1 2\n"), ("--group 7 --groups 1 --q 3", b"0 4 11\n"), ("--group 9 --groups 2 --q 2", b"0 5 7\n1 4 10\n")
+OF_TOY = b"-154 -172 -241 -511 215 -254 -177 121 -213 308 -148 52 -511 -417 79 -384 288 -29 14 -105"
+OF_FIVE = b"-129 158 14 -207 272 372 -511 114"
+OF_SEVEN = b"511 17 -144 -266 -11 144 227 297 211 168 78 -197 -263 113 -13 -162 144 -340 -175 -215 339 60 -511 -339 132 270 -29 -127"
+OF_NINE = (
+    b"17 235 17 -120 -149 91 -97 491 351 302 -299 -113 465 207 8 -511 -322 154 -195 511 -506 -87 -197 233 "
+    b"294 340 355 340 116 -131 -251 49 -82 -225 216 -325"
+)
+FRONT_TOY, FRONT_SEVEN, FRONT_NINE = "53324D4C 02 0004 0002 0003 0010", "53324D4C 02 0007 0001 0003 0010", "53324D4C 02 0009 0002 0002 0010"
+TOY_PAIRS = [(0, 1705), (1, 29), (3, 112), (3, 1072), (2, 805), (1, 1676), (1, 888), (0, 0), (1, 2532), (3, 486), (3, 113), (2, 378)]
+FIVE_PAIRS = [(2, 109), (1, 2129), (0, 0), (0, 2935), (2, 1960)]
+SEVEN_PAIRS = [
+    (0, 0), (0, 265), (2, 97), (0, 27), (1, 1908), (0, 238), (2, 342), (0, 542), (1, 1499), (1, 329), (0, 0), (2, 1823), (0, 1263), (1, 313),
+    (0, 36), (1, 1586), (0, 2112), (0, 15), (1, 137), (2, 206), (1, 1017),
+]  # fmt: skip
+NINE_PAIRS = [
+    (0, 865), (0, 439), (1, 1384), (4, 1253), (3, 755), (4, 55), (0, 2992), (0, 78), (2, 51), (1, 1234), (0, 153), (0, 0), (1, 269), (4, 473),
+    (3, 718), (3, 254), (4, 25), (2, 117),
+]  # fmt: skip
+TOY_MOVED = moves(FRONT_TOY, OF_TOY, b"\xf4\xbd\x50", *TOY_PAIRS)
+FIVE_MOVED = moves(FRONT_FIVE, OF_FIVE, b"\x93", *FIVE_PAIRS)
+SEVEN_MOVED = moves(FRONT_SEVEN, OF_SEVEN, b"\x70\x3b\x77\x10", *SEVEN_PAIRS)
+NINE_MOVED = moves(FRONT_NINE, OF_NINE, b"\x0a\x33\xaa\x07\xd0", *NINE_PAIRS)
+# Values for which spreading finds a certificate after 63 passes, after all 64, and for which it would take another pass.
+TWELVE, FRONT_TWELVE = ("--group 1 --groups 1 --q 11", b"2 7\n"), "53324D4C 02 0001 0001 000B 0010"
+AFTER_63, AFTER_64, NOT_FOUND = (b"21 15 -12 24 -23 -3 -1 0 " + rest for rest in (b"-47 61 -7 34", b"-49 60 -7 34", b"-50 63 -7 34"))
+
+
+def spread_after(values, amount):
+    pairs = (0, 0), (1, 240), (2, 48), (1, 432), (1, 64), (1, 16), (0, 0), (0, 0), (0, amount), (1, 112), (0, 0)
+    return moves(FRONT_TWELVE, values, bytes(2), *pairs)
+
+
+# A wrong bit whose neighbours are weak, which spreading corrects; the same with the largest values, and greedy amounts of these.
+WEAK = b"-4 10 10 10 1 1 1 " + 13 * b"10 "
+WEAK_MOVED = moves(FRONT_TOY, WEAK, bytes(3), (0, 40), (1, 24), (0, 0), (0, 0), (0, 20), (1, 4), (0, 0), (0, 0), (0, 4), *3 * [(0, 0)])
+LOUD = b"-511 511 511 511 127 127 127 " + 13 * b"511 "
+LOUD_MOVED = moves(FRONT_TOY, LOUD, bytes(3), (0, 5104), (1, 3072), (0, 0), (0, 0), (0, 2552), (1, 520), (0, 0), (0, 0), (0, 520), *3 * [(0, 0)])
+LOUDEST = b"-511 " + 19 * b"511 "
+LOUDEST_MOVED = moves("53324D4C 02 0004 0002 0003 0001", LOUDEST, bytes(3), (0, 511), *11 * [(0, 0)])
 # Codes, passes, values, the line of `judge`, that of `check`, and the certificate.
 LEFT = [
     (FIVE, 4, ONE_LEFT, "sole cost -674\n", "sole cost -674\n", ONE_MOVED),
     (FIVE, 2, MORE_LEFT, "sole cost 0\n", "sole cost 0\n", MORE_MOVED),
     (SIX, 0, THREE_LEFT, "sole cost 0\n", "sole cost 0\n", THREE_MOVED),
+    (TOY_CODE, 3, OF_TOY, "sole cost -3087\n", "sole cost -3087\n", TOY_MOVED),
+    (FIVE, 2, OF_FIVE, "sole cost -733\n", "sole cost -733\n", FIVE_MOVED),
+    (SEVEN, 2, OF_SEVEN, "sole cost -2597\n", "sole cost -2597\n", SEVEN_MOVED),
+    (NINE, 3, OF_NINE, "sole cost -3346\n", "sole cost -3346\n", NINE_MOVED),
+    (TWELVE, 0, AFTER_63, "most-likely cost 0\n", "yes cost 0\n", spread_after(AFTER_63, 752)),
+    (TWELVE, 0, AFTER_64, "most-likely cost 0\n", "yes cost 0\n", spread_after(AFTER_64, 784)),
 ]
+# Frames one after another: of one pass, one that settling gives up before pass 3, though a fourth one would do, and the one of three passes.
+ONE_PASS = b"315 -231 200 -121 148 26 105 187 511 -174 -100 -207 119 83 87 -151 -180 177 86 -511"
+ONE_PASS_PAIRS = [(1, 1208), (0, 136), (3, 836), (1, 880), (1, 592), (0, 0), (0, 0), (2, 16), (1, 240), (0, 320), (3, 440), (2, 80)]
+ONE_PASS_MOVED = moves(FRONT_TOY, ONE_PASS, b"\x54\x71\x90", *ONE_PASS_PAIRS)
+GIVEN_UP = b"-381 366 40 271 81 253 -84 -97 -32 -511 77 257 -204 -511 339 58 14 511 240 -143"
 # Codes of made rows of weight 3, by group, groups, q and seed, passes, and values of the word of zeros. Settling finds a certificate in
 # exactly this number of passes, or gives up in at most 60 (None), as `bench/settle/shares.py` computes it. With another number in the rule
 # each of these would end otherwise: the first pass before which it may give up, the number of bits that counts as few, the margin.
@@ -250,6 +302,20 @@ EACH = [
     *(each(frames(count, between), count) for count in (1, 2, 3, 5) for between in SPLIT),
     # each value on its own line
     each(frames(3).replace(b" ", b"\n"), 3),
+    # a frame's moves do not stay for the next one
+    Case(
+        f"judge {TOY} --passes 40 --each --cert out toy values",
+        NO,
+        2 * "sole cost -1649\nparity cost -1825\nsole cost -3087\n",
+        reads={"values": 2 * (ONE_PASS + b"\n" + GIVEN_UP + b"\n" + OF_TOY + b"\n")},
+        writes={"out": 2 * (ONE_PASS_MOVED + TOY_MOVED)},
+    ),
+    Case(
+        f"judge {TOY} --each --cert out toy values",
+        out=3 * "most-likely cost 0\n",
+        reads={"values": WRONG + b"\n" + WEAK + b"\n" + WRONG},
+        writes={"out": WRONG_MOVED + WEAK_MOVED + WRONG_MOVED},
+    ),
     # many frames: the memory is that of one
     each(frames(3000), 3000),
     *(Case(f"judge {PAIR} --each pair values", code, lines, note_on(values), reads={"values": values}) for values, code, lines in PAIRS_EACH),
@@ -330,6 +396,11 @@ CASES = [
         if passes
     ),
     *(case for each in SETTLED for case in settled(*each)),
+    Case(f"judge {TWELVE[0]} --cert old rows values", NO, "parity cost 0\n", reads={"rows": TWELVE[1], "values": NOT_FOUND}, writes={"old": b""}),
+    *(
+        Case(f"judge {TOY} --cert out toy values", 0, "most-likely cost 0\n", reads={"values": values}, writes={"out": file})
+        for values, file in ((WEAK, WEAK_MOVED), (LOUD, LOUD_MOVED), (LOUDEST, LOUDEST_MOVED))
+    ),
     *(
         Case(f"judge {shape} --cert old {rows} values", NO, line, reads={"values": values}, writes={"old": b""})
         for shape, rows, values, code, line in VERDICTS[1:3]

@@ -1,42 +1,25 @@
 //! Figures in reports and their sums, on made-up frames. The expected lines are written by hand.
-use super::streams::Source;
+use super::streams::{ALL, Source, Steps};
 use super::toy::{
-    FOUND, FRAME, LOST, REFUSED, Taken, figured, frame, lost, put_frame, refused, take_figured,
-    totals,
+    FOUND, FRAME, LOST, Part, REFUSED, Toy, figured, frame, heard_by, lost, refused, stream_of,
+    totals, toy,
 };
-use s2_receive::{Step, Sums, Tally, Totals};
-use std::alloc::{AllocError, Global};
-use std::process::Abort;
+use s2_receive::{MAX_SYMBOLS, Step, Sums, Tally, Totals};
+use std::alloc::Global;
 use std::test::Fail;
 
-/// Asserts five steps, their report, and the totals after them.
-fn assert_taken<A: Abort>(rt: &A, taken: &Taken, steps: [Step; 5], report: &str, totals: Totals) {
-    for (answer, step) in taken.heard.steps.iter().zip(steps.iter()) {
-        assert_eq!(rt; *answer, Ok(*step));
-    }
-    assert_eq!(rt; taken.heard.report.as_slice(), report.as_bytes());
-    assert_eq!(rt; taken.totals, totals);
-}
-
-/// A lost frame, a delivered one, and a refused one after each.
-fn two_refused(alloc: Global) -> Result<Vec<u8>, AllocError> {
-    let mut bytes = Vec::new(alloc);
-    for first in [-1, 12, 1, 12] {
-        put_frame(&mut bytes, first)?;
-    }
-    Ok(bytes)
-}
-
-fn two_refused_steps() -> [Step; 5] {
+/// The results of five calls on a lost frame, a delivered one, and a refused one after each.
+fn two_refused_steps() -> Steps {
     [
-        figured(lost(1, 0), LOST),
-        figured(refused(2, FRAME), REFUSED),
-        figured(frame(3, 2 * FRAME), FOUND),
-        figured(refused(4, 3 * FRAME), REFUSED),
-        Step::End,
+        Ok(figured(lost(1, 0), LOST)),
+        Ok(figured(refused(2, FRAME), REFUSED)),
+        Ok(figured(frame(3, 2 * FRAME), FOUND)),
+        Ok(figured(refused(4, 3 * FRAME), REFUSED)),
+        Ok(Step::End),
     ]
 }
 
+/// Their report.
 const TWO_REFUSED: &str =
     "frame 1 at 0 broken lost header 11 changed 1204 rounds 50 known 8100 power 88200000 along 87654321 across -1234567 payload 700000 power 5292000000 along -9223372036854775808 across 9223372036854775807\nframe 2 at 5490 most-likely lost header 0 changed 0 rounds 0 known 18446744073709551615 power 18446744073709551615 along 0 across 0 payload 0 power 0 along 0 across 0\nframe 3 at 10980 most-likely fixed 0 header 2 changed 37 rounds 5 known 900 power 800 along -70 across 6 payload 54321 power 50 along 4 across 0\nframe 4 at 16470 most-likely lost header 0 changed 0 rounds 0 known 18446744073709551615 power 18446744073709551615 along 0 across 0 payload 0 power 0 along 0 across 0\nend frames 4 delivered 1 packets 0 bad 0 changed 1241 of 64800 known 18446744073709551615 of 360 power 18446744073709551615 payload 754321 of 21600 power 5292000050\n";
 
@@ -69,15 +52,31 @@ fn two_refused_totals() -> Totals {
     }
 }
 
-fn assert_refused<A: Abort>(rt: &A, alloc: Global, bytes: &[u8]) -> Result<(), Fail> {
-    let taken = take_figured(alloc, Source::Slice(bytes))?;
-    let want = two_refused_totals();
-    assert_taken(rt, &taken, two_refused_steps(), TWO_REFUSED, want);
-    Ok(())
+/// Whether a receiver returns these steps, report and totals.
+fn receives(alloc: Global, receiver: &mut Toy, bytes: &[u8]) -> bool {
+    let heard = heard_by(alloc, receiver, Source::Slice(bytes), [ALL, ALL, ALL]);
+    heard.steps == two_refused_steps()
+        && heard.report.as_slice() == TWO_REFUSED.as_bytes()
+        && receiver.totals() == two_refused_totals()
+}
+
+/// The same of a new receiver of frames with figures.
+fn new_receives(alloc: Global, bytes: &[u8]) -> Result<bool, Fail> {
+    match toy(alloc, MAX_SYMBOLS, true) {
+        Ok(mut receiver) => Ok(receives(alloc, &mut receiver, bytes)),
+        Err(fault) => Err(fault),
+    }
+}
+
+fn receives_parts(alloc: Global, parts: &[Part]) -> Result<bool, Fail> {
+    let bytes = stream_of(alloc, parts)?;
+    new_receives(alloc, &bytes)
 }
 
 #[test]
 fn refused_headers_are_counted_and_sums_stop_at_their_most(rt: HostRuntime) -> Result<(), Fail> {
-    let bytes = two_refused(rt.alloc())?;
-    assert_refused(&rt, rt.alloc(), &bytes)
+    let refused = Part::Frame(12);
+    let parts = [Part::Frame(-1), refused, Part::Frame(1), refused];
+    assert!(rt; receives_parts(rt.alloc(), &parts)?);
+    Ok(())
 }

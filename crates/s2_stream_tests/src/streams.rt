@@ -2,7 +2,7 @@
 //! such modules only, each in a function without a contract. So a test's own proof stays small.
 use s2_link::{Setup, SetupFault};
 use s2_matrix::Matrix;
-use s2_mode::{ByOne, Counted, Counting, Endless, FailAt, Mode, Shape};
+use s2_mode::{ByOne, Counted, Counting, FailAt, Mode, Shape};
 use s2_receive::{Fault, Step};
 use s2_rows::make_rows;
 use s2_send::{Counts, SendFault, Transmitter};
@@ -59,12 +59,11 @@ pub fn packet_of_zeros() -> [u8; 188] {
     packet
 }
 
-/// The input: a slice, all at once or byte by byte, or one that repeats for ever.
+/// The input: a slice, all at once or byte by byte.
 #[derive(Clone, Copy)]
 pub enum Source<'a> {
     Slice(&'a [u8]),
     Bytes(ByOne<'a>),
-    Repeated(Endless<'a>),
 }
 
 impl Read for Source<'_> {
@@ -72,7 +71,6 @@ impl Read for Source<'_> {
         match self {
             Source::Slice(bytes) => bytes.read(buf),
             Source::Bytes(bytes) => bytes.read(buf),
-            Source::Repeated(bytes) => bytes.read(buf),
         }
     }
 }

@@ -1,21 +1,19 @@
 //! A receiver with a made-up decider, for tests. It takes frames of 8PSK 3/5 in short frames, with or without the
 //! results of a code. The first symbol after a frame's header gives its content; its field has 100 bytes of zeros.
 //! As in `streams`, calls with a large contract are made only here in the tests.
-ghost use Rattle.std.specs.Prelude.{◌≡◌, ◌/◌, ◌<◌, ◌≤◌, IfOk, IfSome, length};
-ghost use Rattle.s2_receive.specs.Limits.{max_symbols};
-ghost use Rattle.s2_receive.specs.Receiving.{begun};
+ghost use Rattle.std.specs.Prelude.{◌≡◌, ◌/◌, ◌<◌, ◌≤◌, IfSome, length};
 ghost use Rattle.s2_stream_tests.specs.Toy.{content_of, energy_for, figures_for, header_for, outcome_for, place_for, verdict_for};
 
 use super::sending::{header_of, put_symbol};
-use super::streams::{ALL, Fed, Heard, Reader, Source, Steps, Writer, reader_of, taken, writer_of};
+use super::streams::{ALL, Heard, Reader, Source, Steps, Writer, reader_of, taken, writer_of};
 use s2_bbframe::{Header, HeaderFault};
 use s2_bits::Bits;
 use s2_check::Verdict;
-use s2_mode::{Counted, Mode, Symbol, WriteFault};
+use s2_mode::{Counted, Mode, Symbol};
 use s2_plframe::HeaderTolerance;
 use s2_receive::{
     Correlation, Decide, Decided, Fault, Figures, Frame, MAX_SYMBOLS, Outcome, Receiver, Report,
-    Step, Tally, Totals, receive_bytes,
+    Step, Tally, Totals,
 };
 use std::alloc::{AllocError, Global};
 use std::test::Fail;
@@ -231,21 +229,8 @@ impl Decide for HalfPackets {
 /// A receiver of these frames.
 pub(crate) type Toy = Receiver<HalfPackets>;
 
-/// A receiver that takes at most this number of symbols, without figures.
-pub(crate) fn toy(alloc: Global, limit: u64) -> Result<Toy, Fail>
-    requires { limit ≤ MAX_SYMBOLS }
-    ensures limit { IfOk result (λ r. r.limit ≡ limit) }
-    ensures begun { IfOk result (λ r. r.state ≡ begun) }
-{
-    toy_with(alloc, limit, false)
-}
-
-/// The same with or without figures.
-fn toy_with(alloc: Global, limit: u64, figured: bool) -> Result<Toy, Fail>
-    requires { limit ≤ MAX_SYMBOLS }
-    ensures limit { IfOk result (λ r. r.limit ≡ limit) }
-    ensures begun { IfOk result (λ r. r.state ≡ begun) }
-{
+/// A receiver that takes at most this number of symbols, with or without figures.
+pub(crate) fn toy(alloc: Global, limit: u64, figured: bool) -> Result<Toy, Fail> {
     let mode = Mode::of(12, true, false).ok_or("no mode")?;
     let decider = HalfPackets {
         mode,
@@ -254,11 +239,12 @@ fn toy_with(alloc: Global, limit: u64, figured: bool) -> Result<Toy, Fail>
         content: 0,
         figured,
     };
+    let limit = limit.min(MAX_SYMBOLS);
     Ok(Receiver::new(alloc, mode, false, HeaderTolerance::usual(), decider, limit)?)
 }
 
 /// A number of symbols at which nothing begins.
-pub(crate) fn put_symbols(bytes: &mut Vec<u8>, count: u32) -> Result<(), AllocError> {
+fn put_symbols(bytes: &mut Vec<u8>, count: u32) -> Result<(), AllocError> {
     for _ in 0..count {
         put_symbol(bytes, Symbol { i: 1, q: 1 })?;
     }
@@ -274,21 +260,56 @@ fn put_code(bytes: &mut Vec<u8>, code: u64) -> Result<(), AllocError> {
 }
 
 /// The header of a frame.
-pub(crate) fn put_header(bytes: &mut Vec<u8>) -> Result<(), AllocError> {
+fn put_header(bytes: &mut Vec<u8>) -> Result<(), AllocError> {
     put_code(bytes, CODED_CODE)
 }
 
 /// A frame whose first symbol after the header has this Q.
-pub(crate) fn put_frame(bytes: &mut Vec<u8>, first: i16) -> Result<(), AllocError> {
+fn put_frame(bytes: &mut Vec<u8>, first: i16) -> Result<(), AllocError> {
     put_header(bytes)?;
     put_symbol(bytes, Symbol { i: 1, q: first })?;
     put_symbols(bytes, 5399)
 }
 
 /// A dummy frame, or its first symbols, 90 at least.
-pub(crate) fn put_dummy(bytes: &mut Vec<u8>, symbols: u32) -> Result<(), AllocError> {
+fn put_dummy(bytes: &mut Vec<u8>, symbols: u32) -> Result<(), AllocError> {
     put_code(bytes, DUMMY_CODE)?;
     put_symbols(bytes, symbols.saturating_sub(90))
+}
+
+/// A part of a stream: a frame with this content, a header, a number of symbols of a dummy frame or of others, or up to
+/// three bytes.
+#[derive(Clone, Copy)]
+pub(crate) enum Part {
+    Frame(i16),
+    Header,
+    Dummy(u32),
+    Symbols(u32),
+    Bytes(usize),
+}
+
+fn put_part(bytes: &mut Vec<u8>, part: Part) -> Result<(), AllocError> {
+    match part {
+        Part::Frame(first) => put_frame(bytes, first),
+        Part::Header => put_header(bytes),
+        Part::Dummy(symbols) => put_dummy(bytes, symbols),
+        Part::Symbols(count) => put_symbols(bytes, count),
+        Part::Bytes(count) => bytes.extend_from_slice(&[1; 3][..count.min(3)]),
+    }
+}
+
+fn put_parts(bytes: &mut Vec<u8>, parts: &[Part]) -> Result<(), AllocError> {
+    for part in parts {
+        put_part(bytes, *part)?;
+    }
+    Ok(())
+}
+
+/// The bytes of a stream.
+pub(crate) fn stream_of(alloc: Global, parts: &[Part]) -> Result<Vec<u8>, AllocError> {
+    let mut bytes = Vec::new(alloc);
+    put_parts(&mut bytes, parts)?;
+    Ok(bytes)
 }
 
 /// A frame that was delivered.
@@ -389,23 +410,6 @@ pub(crate) fn feed(receiver: &mut Toy, bytes: &[u8]) -> (usize, Option<Step>)
     (count, receiver.advance(&bytes[..count]))
 }
 
-/// Gives a receiver bytes room by room, this number of times.
-pub(crate) fn feed_rooms(
-    alloc: Global,
-    receiver: &mut Toy,
-    bytes: &[u8],
-    rooms: u32,
-) -> Result<Fed, AllocError> {
-    let mut fed = Fed::new(alloc);
-    let mut rest = bytes;
-    for _ in 0..rooms {
-        let (count, step) = feed(receiver, rest);
-        rest = &rest[count..];
-        fed.put(count, step, receiver.packets())?;
-    }
-    Ok(fed)
-}
-
 fn five_steps(
     receiver: &mut Toy,
     reader: &mut Reader<'_>,
@@ -434,109 +438,5 @@ pub(crate) fn heard_by(
         steps,
         packets: taken(packets),
         report: taken(report),
-    }
-}
-
-/// The results of five calls of a receiver, the bytes that they wrote, and the totals after them.
-pub(crate) struct Taken {
-    pub(crate) heard: Heard,
-    pub(crate) totals: Totals,
-}
-
-impl Drop for Taken {
-    fn drop(self) {
-        let Taken {
-            heard: _,
-            totals: _,
-        } = self;
-    }
-}
-
-fn taken_by(alloc: Global, receiver: &mut Toy, source: Source<'_>) -> Taken {
-    let heard = heard_by(alloc, receiver, source, [ALL, ALL, ALL]);
-    Taken {
-        heard,
-        totals: receiver.totals(),
-    }
-}
-
-/// Calls a new receiver, which takes at most this number of symbols, five times.
-pub(crate) fn take_within(alloc: Global, limit: u64, source: Source<'_>) -> Result<Taken, Fail> {
-    match toy(alloc, limit.min(MAX_SYMBOLS)) {
-        Ok(mut receiver) => Ok(taken_by(alloc, &mut receiver, source)),
-        Err(fault) => Err(fault),
-    }
-}
-
-/// Calls a new receiver five times.
-pub(crate) fn take(alloc: Global, source: Source<'_>) -> Result<Taken, Fail> {
-    take_within(alloc, MAX_SYMBOLS, source)
-}
-
-/// Calls a new receiver of frames with figures five times.
-pub(crate) fn take_figured(alloc: Global, source: Source<'_>) -> Result<Taken, Fail> {
-    match toy_with(alloc, MAX_SYMBOLS, true) {
-        Ok(mut receiver) => Ok(taken_by(alloc, &mut receiver, source)),
-        Err(fault) => Err(fault),
-    }
-}
-
-/// Receives bytes in memory.
-fn receive_into(
-    receiver: &mut Toy,
-    bytes: &[u8],
-    packets: &mut Writer,
-    report: &mut Writer,
-) -> Result<Totals, WriteFault>
-    requires begun { receiver.old.state ≡ begun }
-    requires limit { receiver.old.limit ≡ max_symbols }
-{
-    if packets.count() == u64::MAX || report.count() == u64::MAX {
-        return Err(WriteFault);
-    }
-    let bytes = &bytes[..bytes.len().min(1 << 30)];
-    receive_bytes(receiver, bytes, packets, report)
-}
-
-/// The results of bytes in memory.
-pub(crate) struct InBytes {
-    pub(crate) answer: Result<Totals, WriteFault>,
-    pub(crate) packets: Vec<u8>,
-    pub(crate) report: Vec<u8>,
-}
-
-impl Drop for InBytes {
-    fn drop(self) {
-        let InBytes {
-            answer: _,
-            packets: _,
-            report: _,
-        } = self;
-    }
-}
-
-fn in_bytes_by(alloc: Global, receiver: &mut Toy, bytes: &[u8], writes: [u64; 2]) -> InBytes
-    requires begun { receiver.old.state ≡ begun }
-    requires limit { receiver.old.limit ≡ max_symbols }
-{
-    let mut packets = writer_of(alloc, writes[0]);
-    let mut report = writer_of(alloc, writes[1]);
-    let answer = receive_into(receiver, bytes, &mut packets, &mut report);
-    InBytes {
-        answer,
-        packets: taken(packets),
-        report: taken(report),
-    }
-}
-
-/// The results of bytes in memory, if these numbers of writes of packets and of lines succeed.
-pub(crate) fn receive_in_bytes(
-    alloc: Global,
-    bytes: &[u8],
-    writes: [u64; 2],
-) -> Result<InBytes, Fail> {
-    match toy(alloc, MAX_SYMBOLS) {
-        Ok(mut receiver) => Ok(in_bytes_by(alloc, &mut receiver, bytes, writes)),
-        Err(fault) => Err(fault),
     }
 }
