@@ -1,4 +1,4 @@
-"""Frames of made codes, and the result of settling for each: the tables of `frames_tests.rt` and of `tests/cases/made_frames.py`.
+"""Frames of made codes, and the result of settling for each: the table of `tests/cases/made_frames.py`.
 
 Each frame is a group, groups, q, the weight of a row, a seed, the deviation of the noise and a number of passes. Its rows, its codeword and
 its soft values come from the seed. It prints a line for each: the FNV-1a of the certificate file, or 0 if none is found, and the verdict on the

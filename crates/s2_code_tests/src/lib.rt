@@ -1,5 +1,5 @@
-//! Tests of the codes, their decoders and their certificates, over public calls alone, with the numbers of
-//! the format or of another program. What a command shows is tested by scripts (`docs/working.md`).
+//! Tests of the codes, their decoders and their certificates, over public calls alone: memory that is refused, and calls
+//! that no command makes. What a command shows is tested by scripts (`docs/working.md`).
 //!
 //! Each crate's tests are in a module of its name. Several of them share `codes` (matrices), `values` (soft values),
 //! `certificate_bytes` (a file), and `again` (calls that are made again after memory was refused).
@@ -18,10 +18,6 @@ mod check_tests;
 #[cfg(test)]
 mod codes;
 #[cfg(test)]
-mod file_tests;
-#[cfg(test)]
-mod frames_tests;
-#[cfg(test)]
 mod judge_memory_tests;
 #[cfg(test)]
 mod matrix_memory_tests;
@@ -30,10 +26,6 @@ mod matrix_tests;
 #[cfg(test)]
 mod minsum_memory_tests;
 #[cfg(test)]
-mod settle_tests;
-#[cfg(test)]
 mod split_memory_tests;
-#[cfg(test)]
-mod split_tests;
 #[cfg(test)]
 mod values;

@@ -1,4 +1,4 @@
-//! Soft values, and numbers of no order.
+//! Soft values.
 ghost use Rattle.std.specs.Prelude.{◌≡◌, All, IfOk, IsTrue, length};
 ghost use Rattle.s2_mode.specs.Limits.{max_soft};
 ghost use Rattle.s2_check.specs.Views.{IsSoft};
@@ -8,18 +8,13 @@ use s2_mode::MAX_SOFT;
 use std::alloc::{AllocError, Global};
 
 /// The largest and the least soft value.
-pub(crate) const LARGEST: i16 = MAX_SOFT as i16;
+const LARGEST: i16 = MAX_SOFT as i16;
 
-pub(crate) const LEAST: i16 = -LARGEST;
+const LEAST: i16 = -LARGEST;
 
 /// A wrong bit: of 20 values all are 10 but the first.
 pub(crate) const WRONG: [i16; 20] = [
     -4, 10, 10, 10, 10, 10, 10, 10, 10, 10, 10, 10, 10, 10, 10, 10, 10, 10, 10, 10,
-];
-
-/// A wrong bit whose neighbours are weak.
-pub(crate) const WEAK: [i16; 20] = [
-    -4, 10, 10, 10, 1, 1, 1, 10, 10, 10, 10, 10, 10, 10, 10, 10, 10, 10, 10, 10,
 ];
 
 /// Whether all values lie within the limits of a soft value.
@@ -44,9 +39,4 @@ pub(crate) fn soft_values(alloc: Global, values: &[i16]) -> Result<Vec<i16>, All
         soft.push((*value).clamp(LEAST, LARGEST))?;
     }
     Ok(soft)
-}
-
-/// The next number of no order.
-pub(crate) fn next_number(number: u32) -> u32 {
-    number.wrapping_mul(1664525).wrapping_add(1013904223)
 }
