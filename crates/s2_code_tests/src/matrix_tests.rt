@@ -1,7 +1,6 @@
 //! A small code, check by check.
 use super::codes::{TOY, matrix_of};
 use s2_matrix::Matrix;
-use std::process::Abort;
 use std::test::Fail;
 
 const CHECKS: [&[u32]; 12] = [
@@ -19,36 +18,40 @@ const CHECKS: [&[u32]; 12] = [
     &[1, 7, 18, 19],
 ];
 
-/// Asserts the members of a check, and the numbers of its edges.
-fn assert_check<R: Abort>(rt: &R, matrix: &Matrix, j: usize, check: &[u32], edge: usize) {
-    assert!(rt; j < matrix.check_count());
-    assert_eq!(rt; matrix.members_at(j), check);
-    assert_eq!(rt; matrix.degree(j), check.len());
-    assert_eq!(rt; matrix.first_edge(j), edge);
-    for at in 0..matrix.degree(j) {
-        assert_eq!(rt; Some(matrix.members(j, at) as u32), check.get(at).copied());
-        let own = edge.wrapping_add(at);
-        assert!(rt; own < matrix.edges());
-        assert_eq!(rt; matrix.check_of_edge(own), j);
+/// Whether a check has these members, by each call, and its edges begin with this one.
+fn is_check(matrix: &Matrix, j: usize, check: &[u32], edge: usize) -> bool {
+    if j >= matrix.check_count() || matrix.members_at(j) != check {
+        return false;
     }
+    for at in 0..matrix.degree(j) {
+        let own = edge.wrapping_add(at);
+        if own >= matrix.edges() || matrix.check_of_edge(own) != j {
+            return false;
+        }
+        if check.get(at) != Some(&(matrix.members(j, at) as u32)) {
+            return false;
+        }
+    }
+    matrix.degree(j) == check.len() && matrix.first_edge(j) == edge
 }
 
-fn assert_checks<R: Abort>(rt: &R, matrix: &Matrix) {
-    assert_eq!(rt;
-        [matrix.bits(), matrix.check_count(), matrix.edges()],
-        [20, 12, 47]
-    );
-    assert_eq!(rt; [matrix.shape().k(), matrix.shape().n()], [8, 20]);
+/// Whether a matrix has these checks.
+pub(crate) fn is_built(matrix: &Matrix) -> bool {
     let mut edge = 0usize;
     for j in 0..CHECKS.len() {
-        assert_check(rt, matrix, j, CHECKS[j], edge);
+        if !is_check(matrix, j, CHECKS[j], edge) {
+            return false;
+        }
         edge = edge.wrapping_add(CHECKS[j].len());
     }
+    let shape = matrix.shape();
+    [matrix.bits(), matrix.check_count(), matrix.edges()] == [20, 12, 47]
+        && [shape.k(), shape.n()] == [8, 20]
 }
 
 #[test]
 fn builds_the_checks_of_a_small_code(rt: HostRuntime) -> Result<(), Fail> {
     let matrix = matrix_of(rt.alloc(), TOY)?;
-    assert_checks(&rt, &matrix);
+    assert!(rt; is_built(&matrix));
     Ok(())
 }
