@@ -7,10 +7,11 @@ use s2_commands::{Channel, DemodOptions, RunOptions};
 use s2_console::Fault;
 use s2_link_commands::setup_of;
 use s2_mode::{FaultText, Mode};
+use s2_options::limits;
 use s2_tuning::{Number, Tuning, Wanted, divisor_by, judging_by, tuning_by};
 use s2_words::{
     AuditArguments, ChannelArguments, DemodArguments, JudgeArguments, NumberArguments,
-    RunArguments, StrengthArguments, TuningArguments, limits,
+    RunArguments, StrengthArguments, TuningArguments,
 };
 
 const _: () = prove!(limits::MAX_ADDRESSES as usize == s2_rows::MAX_ADDRESSES);

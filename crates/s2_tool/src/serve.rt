@@ -21,14 +21,14 @@ use s2_opening::{
     open_audit, open_compare, open_input, open_inputs, open_join, open_noise, open_scan,
     screen_beside, show_on, standard_input,
 };
+use s2_options::{Unread, not_text};
 use s2_progress::{Pace, Terminal};
 use s2_scan::scan_command;
 use s2_table::table_command;
 use s2_words::{
     AuditArguments, CheckArguments, CodeArguments, CompareArguments, DemodArguments, JoinArguments,
     JudgeArguments, ModesArguments, NoiseArguments, Request, RowsArguments, RunArguments,
-    ScanArguments, ShapeArguments, TableArguments, Unread, WordsArguments, not_text,
-    parse_arguments,
+    ScanArguments, ShapeArguments, TableArguments, WordsArguments, parse_arguments,
 };
 use std::alloc::{AllocError, Global};
 use std::env::FillError;

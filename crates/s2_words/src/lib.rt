@@ -1,9 +1,8 @@
 //! The command line of the program: arguments in, a [`Request`] out.
 //!
-//! One table has each command's options, their ranges and their help. [`parse_arguments`] parses the arguments with clap,
-//! using this table. It returns the request with all options. Or it returns why there is none: help or the version is
-//! requested, or memory ran out, or there is a usage error, reported by one line. [`not_text`] makes the line for an
-//! argument that is not UTF-8.
+//! [`parse_arguments`] has the arguments parsed by the table of `s2_options`. It returns the request with all options. Or it
+//! returns why there is none: help or the version is requested, or memory ran out, or there is a usage error, reported by
+//! one line.
 //!
 //! ```text
 //! match parse_arguments(alloc, &words)? {
@@ -12,22 +11,14 @@
 //! ```
 #![tactic(auto)]
 
-mod arguments;
 mod decibels;
-mod help;
-pub mod limits;
-mod misuse;
 mod options;
-mod parser;
 mod reading;
-mod refusal;
+mod refused;
 mod request;
 mod seed_range;
-mod table;
-mod unread;
 
 pub use reading::parse_arguments;
-pub use refusal::not_text;
 pub use request::{
     AuditArguments, ChannelArguments, CheckArguments, CodeArguments, CompareArguments,
     DemodArguments, ExitBy, JoinArguments, JudgeArguments, LinkArguments, ModArguments,
@@ -35,4 +26,3 @@ pub use request::{
     Request, RowsArguments, RunArguments, ScanArguments, Seeds, ShapeArguments, StrengthArguments,
     TableArguments, TuningArguments, WordsArguments,
 };
-pub use unread::Unread;

@@ -1,10 +1,7 @@
 //! The request of the command line.
-use crate::arguments::{CERTAINTY_TEXT, DELIVERY_TEXT};
 use crate::decibels::read_esn0;
-use crate::limits::MAX_ROLL_OFF;
 use crate::options::{progress_by, read_modcod};
-use crate::parser::program;
-use crate::refusal::{not_understood, unread_of};
+use crate::refused::not_understood;
 use crate::request::{
     AuditArguments, ChannelArguments, CheckArguments, CodeArguments, CompareArguments,
     DemodArguments, ExitBy, JoinArguments, JudgeArguments, LinkArguments, ModArguments,
@@ -13,10 +10,11 @@ use crate::request::{
     TableArguments, TuningArguments, WordsArguments,
 };
 use crate::seed_range::read_seeds;
-use crate::unread::Unread;
+use clap::ArgMatches;
 use clap::parser::ValueSource;
-use clap::{ArgMatches, Error};
 use s2_names::SymbolRate;
+use s2_options::limits::MAX_ROLL_OFF;
+use s2_options::{CERTAINTY_TEXT, DELIVERY_TEXT, Unread, matches_of, unread_of};
 use std::alloc::Global;
 
 /// Reads the values of a command's options, and notices if one is missing or invalid.
@@ -431,11 +429,6 @@ fn request_in<'a>(alloc: Global, matches: &ArgMatches<'a>) -> Result<Request<'a>
         Some(request) if !reader.lacks => Ok(request),
         _ => Err(not_understood(alloc, name, inner)?),
     }
-}
-
-/// The parsed arguments.
-fn matches_of<'a>(alloc: Global, arguments: &'a [String]) -> Result<ArgMatches<'a>, Error> {
-    program(alloc)?.try_get_matches_from(arguments)
 }
 
 /// The request of the command line, or why there is none. The parser accepts any text for a few values: it is a usage

@@ -4,7 +4,7 @@ use crate::help::{ABOUT, MORE, more_of};
 use crate::table::{
     Choice, CommandHelp, CommandName, Rule, arguments_of, choices_of, commands, rule_of,
 };
-use clap::{Arg, ArgAction, ArgGroup, Command};
+use clap::{Arg, ArgAction, ArgGroup, ArgMatches, Command, Error};
 use std::alloc::{AllocError, Global};
 
 /// An option with a value. A negative number is also taken as its value, so that an error is about the value.
@@ -108,11 +108,16 @@ fn commands_of<'a>(alloc: Global) -> Result<Vec<Command<'a>>, AllocError> {
 }
 
 /// The parser of all commands.
-pub(crate) fn program<'a>(alloc: Global) -> Result<Command<'a>, AllocError> {
+fn program<'a>(alloc: Global) -> Result<Command<'a>, AllocError> {
     let all = commands_of(alloc)?;
     Command::new(alloc, "s2")
         .version("0.1")
         .about(ABOUT)
         .after_help(MORE)
         .subcommands(all)
+}
+
+/// The parsed arguments.
+pub fn matches_of<'a>(alloc: Global, arguments: &'a [String]) -> Result<ArgMatches<'a>, Error> {
+    program(alloc)?.try_get_matches_from(arguments)
 }

@@ -22,10 +22,10 @@ pub(crate) const DEFAULT_FACTOR_TEXT: &str = "12";
 pub(crate) const DEFAULT_LOCK_TEXT: &str = "12";
 
 /// The exit status is 0 if every frame is certified. This is the default.
-pub(crate) const CERTAINTY_TEXT: &str = "certainty";
+pub const CERTAINTY_TEXT: &str = "certainty";
 
 /// The exit status is 0 if every frame is delivered, and no symbols are skipped.
-pub(crate) const DELIVERY_TEXT: &str = "delivery";
+pub const DELIVERY_TEXT: &str = "delivery";
 
 /// The values of `--exit-by`.
 pub(crate) const EXIT_BY_TEXTS: [&str; 2] = [CERTAINTY_TEXT, DELIVERY_TEXT];

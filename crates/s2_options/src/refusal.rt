@@ -1,20 +1,16 @@
 //! Usage errors. Each is one line with the mistake, the accepted values, and the command that prints the help.
 use crate::arguments::ArgumentKind;
-use crate::decibels::read_esn0;
 use crate::misuse::{Misuse, misuse_of};
-use crate::options::read_modcod;
-use crate::reading::roll_off_of;
-use crate::seed_range::read_seeds;
 use crate::table::{CommandHelp, arguments_of, commands};
 use crate::unread::Unread;
+use clap::Error;
 use clap::builder::ValueParser;
 use clap::error::ErrorKind;
-use clap::{ArgMatches, Error};
 use s2_mode::{MAX_MODCOD, Mode, Modulation};
-use s2_names::{Case, SymbolRate, constellation};
+use s2_names::{Case, constellation};
 use std::alloc::{AllocError, Global};
 
-/// What is said of arguments that nothing else describes.
+/// The description of arguments for which there is no other.
 const NOT_UNDERSTOOD: &str = "the arguments are not understood";
 
 /// The command of this name.
@@ -57,7 +53,7 @@ fn push_word(text: &mut String, word: &str) -> Result<(), AllocError> {
     }
 }
 
-/// Appends an argument, and what is said of it.
+/// Appends an argument and its description.
 fn push_said(text: &mut String, word: &str, said: &str) -> Result<(), AllocError> {
     push_word(text, word)?;
     text.push_str(said)
@@ -238,11 +234,7 @@ fn fault_line(
 }
 
 /// Why a command line is not a request, from the parser's error.
-pub(crate) fn unread_of(
-    alloc: Global,
-    arguments: &[String],
-    error: Error,
-) -> Result<Unread, AllocError> {
+pub fn unread_of(alloc: Global, arguments: &[String], error: Error) -> Result<Unread, AllocError> {
     match error.kind() {
         ErrorKind::OutOfMemory => Ok(Unread::NoMemory),
         ErrorKind::DisplayHelp | ErrorKind::DisplayVersion => Ok(Unread::Asked(error)),
@@ -287,7 +279,7 @@ fn begins_with(name: &str, small: &str, capital: &str) -> bool {
 }
 
 /// The line for an invalid MODCOD.
-fn modcod_line(alloc: Global, value: &str) -> Result<String, AllocError> {
+pub fn modcod_line(alloc: Global, value: &str) -> Result<String, AllocError> {
     let mut text = String::from_str(alloc, "s2: ")?;
     push_refused(&mut text, "--modcod", value)?;
     push_accepted_modes(&mut text, value)?;
@@ -297,57 +289,10 @@ fn modcod_line(alloc: Global, value: &str) -> Result<String, AllocError> {
 
 /// An option, a value that it does not accept, and those that it accepts.
 #[derive(Clone, Copy)]
-struct Refused<'a> {
-    value: &'a str,
-    option: &'static str,
-    accepted: &'static str,
-}
-
-/// The value of an option, if it is given and invalid.
-fn refused_by<'a>(
-    value: Option<&'a str>,
-    is_read: bool,
-    option: &'static str,
-    accepted: &'static str,
-) -> Option<Refused<'a>> {
-    match value {
-        Some(value) if !is_read => Some(Refused {
-            value,
-            option,
-            accepted,
-        }),
-        _ => None,
-    }
-}
-
-/// The first invalid value of the options for which the parser accepts any text, apart from `--modcod`.
-fn refused_in<'a>(m: &ArgMatches<'a>) -> Option<Refused<'a>> {
-    let (roll_off, esn0) = (m.get_str("ro"), m.get_str("esn0"));
-    let (seeds, rate) = (m.get_str("seeds"), m.get_str("rate"));
-    refused_by(
-        roll_off,
-        roll_off_of(m).is_some(),
-        "--ro",
-        "0 for 0.35, 1 for 0.25 or 2 for 0.20",
-    )
-    .or(refused_by(
-        esn0,
-        esn0.and_then(read_esn0).is_some(),
-        "--esn0",
-        "-10 to 40, with at most two decimals",
-    ))
-    .or(refused_by(
-        seeds,
-        seeds.and_then(read_seeds).is_some(),
-        "--seeds",
-        "two unsigned 64-bit numbers with two dots between them, the first at most the second, for example 1..100",
-    ))
-    .or(refused_by(
-        rate,
-        rate.and_then(SymbolRate::read).is_some(),
-        "--rate",
-        "a whole number, 1 to 1000000000, also as 27.5M, 27.5e6 or 27500k",
-    ))
+pub struct Refused<'a> {
+    pub value: &'a str,
+    pub option: &'static str,
+    pub accepted: &'static str,
 }
 
 /// Appends that an option does not accept its value, and what it accepts.
@@ -356,29 +301,19 @@ fn push_said_of(text: &mut String, refused: Refused<'_>) -> Result<(), AllocErro
     text.push_str(refused.accepted)
 }
 
-/// The line for the first invalid value.
-fn refused_line(alloc: Global, name: &str, m: &ArgMatches<'_>) -> Result<String, AllocError> {
+/// The line for an invalid value of a command with this name, if there is one.
+pub fn refused_line(
+    alloc: Global,
+    name: &str,
+    refused: Option<Refused<'_>>,
+) -> Result<String, AllocError> {
     let mut text = String::from_str(alloc, "s2: ")?;
-    match refused_in(m) {
+    match refused {
         Some(refused) => push_said_of(&mut text, refused)?,
         None => text.push_str(NOT_UNDERSTOOD)?,
     }
     push_way(&mut text, entry_of(name))?;
     Ok(text)
-}
-
-/// The usage error of arguments from which no request can be made.
-pub(crate) fn not_understood(
-    alloc: Global,
-    name: &str,
-    m: &ArgMatches<'_>,
-) -> Result<Unread, AllocError> {
-    match m.get_str("modcod") {
-        Some(value) if read_modcod(value).is_none() => Ok(Unread::Fault(modcod_line(
-            alloc, value,
-        )?)),
-        _ => Ok(Unread::Fault(refused_line(alloc, name, m)?)),
-    }
 }
 
 /// The usage error of an argument that is not text.
