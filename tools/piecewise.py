@@ -49,6 +49,7 @@ SKIPPED_NOTE = re.compile(rb"s2: note: (\d+) symbols? skipped in (\d+) places?, 
 NO_FRAME = re.compile(rb"(s2: note: no frame of .* in )\d+( symbols.*\n)")
 REFUSED = re.compile(rb"s2: note: of \d+ lost frames? (\d+) had a BCH word whose header is refused\n")
 UNDECODED = b"s2: note: headers are right but no frame is decoded: another scrambling number or other rows? try s2 scan\n"
+SLIPPED = b"s2: note: a frame's length was skipped after a frame: try --turns, the carrier may have slipped\n"
 # The amplitude of a sent symbol, the range that is not noted, and the greatest.
 AMPLITUDE, USUAL_AMPLITUDES, GREATEST_AMPLITUDE = 990, range(833, 1178), 46341
 
@@ -519,14 +520,14 @@ class Whole:
         header = b"".join(self.symbols(Stretch(frame.at, frame.at + HEADER, False)))
         return sum(it * it for it in struct.unpack(f">{2 * HEADER}h", header))
 
-    def amplitude_note(self):
-        """The note on another amplitude, if no frame is delivered."""
+    def amplitude_note(self, is_equalized):
+        """The note on another amplitude, if no frame is delivered without an equalizer."""
         frames = self.count["frames"]
         root = min((math.isqrt(4 * self.energy // (HEADER * frames)) + 1) // 2, GREATEST_AMPLITUDE) if frames else AMPLITUDE
-        if self.count["delivered"] or root in USUAL_AMPLITUDES:
+        if is_equalized or self.count["delivered"] or root in USUAL_AMPLITUDES:
             return []
         gain = (20_000 * AMPLITUDE + root) // (2 * root)
-        gained = f"use --gain {gain // 10_000}.{gain % 10_000:04} of tools/convert"
+        gained = f"use --gain {gain // 10_000}.{gain % 10_000:04} of tools/convert, or --equalize"
         return [f"s2: note: the headers' amplitude, noise included, is {root}, not {AMPLITUDE}: {gained}\n".encode()]
 
     def count_figures(self, frame):
@@ -615,13 +616,23 @@ class Whole:
         self.outputs.put("bbframes", frame)
         self.joiner.step(frame[:BBHEADER])
 
-    def advice(self, lost, is_tuned):
-        """The last notes after the report: on another amplitude, and what to try after frames were lost."""
-        amplitude, frames = self.amplitude_note(), self.count["frames"]
-        if frames and not self.count["delivered"] and not self.refused and not amplitude:
-            return [UNDECODED]
-        proposed = not is_tuned and lost != self.refused
-        return amplitude + [f"s2: note: {lost} of {frames} frames lost: try --tuned\n".encode()] * proposed
+    def is_undecoded(self):
+        """Whether headers of the usual amplitude came, and no BCH word was found."""
+        return self.count["frames"] and not self.count["delivered"] and not self.refused and not self.amplitude_note(False)
+
+    def is_slipped(self):
+        """Whether a frame's length or more was skipped, and not all of it before the first frame."""
+        count = self.count
+        return count["frames"] and count["symbols"] >= self.receiver.size and (self.first or count["places"] > 1)
+
+    def advice(self, lost, chosen):
+        """The last notes after the report: on another amplitude, what to try after frames were lost, and on slips."""
+        lines = self.amplitude_note(chosen.equalize)
+        if self.is_undecoded():
+            lines.append(UNDECODED)
+        elif not chosen.tuned and lost != self.refused:
+            lines.append(f"s2: note: {lost} of {self.count['frames']} frames lost: try --tuned\n".encode())
+        return lines + [SLIPPED] * bool(self.is_slipped() and not chosen.turns and not chosen.tuned)
 
     def finish(self, total, chosen):
         """The stream ends here: the remaining symbols, the end line, the notes, and the exit status."""
@@ -656,7 +667,7 @@ class Whole:
         lost = count["frames"] - count["delivered"]
         refused = f"s2: note: of {counted(lost, 'lost frame')} {self.refused} had a BCH word whose header is refused\n"
         lines += [refused.encode()] if self.refused else []
-        lines += self.advice(lost, chosen.tuned)
+        lines += self.advice(lost, chosen)
         if not chosen.quiet:
             sys.stderr.buffer.write(b"".join(lines))
             sys.stderr.buffer.flush()

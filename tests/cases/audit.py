@@ -10,6 +10,8 @@ HINT = "likely causes: another divisor (try --tuned), another mode, or a recordi
 HEAD = 13
 # Seeds and levels for which at least one of the two frames is most likely and not sole; for the second one another is only `parity`.
 LIKELY = [(1, 300), (6, 400)]
+# Seed and level of a noise with which both frames have a certificate.
+NOISY = (1, 200)
 WORDS = f"audit {LINK} made symbols report certificates"
 
 
@@ -172,6 +174,13 @@ def tuned_cases(symbols, report, certificates):
     """Of the report of a reception with --tuned."""
     fine, other = "".join(shown(report, apart(certificates))) + last(report), failed(certified(report)[0], "other values")
     for words, is_fine in (("--tuned", True), ("--divisor 16384", True), ("--tuned --divisor 16384", True), ("", False), ("--tuned --divisor 4096", False), ("--divisor 4096", False)):
+        yield case(report, symbols, certificates, 0 if is_fine else NO, fine if is_fine else other, words=WORDS.replace(LINK, f"{LINK} {words}"))
+
+
+def impaired_cases(symbols, report, certificates):
+    """Of the report of a reception with --turns and --equalize."""
+    fine, other = "".join(shown(report, apart(certificates))) + last(report), failed(certified(report)[0], "other values")
+    for words, is_fine in (("--turns --equalize", True), ("--equalize --tuned --divisor 4096", True), ("--turns", False), ("", False)):
         yield case(report, symbols, certificates, 0 if is_fine else NO, fine if is_fine else other, words=WORDS.replace(LINK, f"{LINK} {words}"))
 
 

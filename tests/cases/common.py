@@ -124,6 +124,10 @@ def refused_headers(lost, refused):
 UNDECODED = "headers are right but no frame is decoded: another scrambling number or other rows? try s2 scan"
 
 
+# The note on a gap after which frames may continue in another rotation.
+SLIPPED = "a frame's length was skipped after a frame: try --turns, the carrier may have slipped"
+
+
 def missing(*gaps):
     """The notes at once on gaps, each by the symbol after which no frame came, and the first symbol of the frame after it, if one came."""
     again = "frames again from symbol {}"

@@ -146,6 +146,7 @@ def cases(made_by):
         through(noisy, 6.06, -30, 0.00002),
         through(noisy, 2.5, 20, -0.00005),
         through(sent, 46.8),
+        ahead(through(sent, 46.8), 1),
         through(sent, 0.01),
         without_signal(sent),
     ]

@@ -2,7 +2,7 @@
 import functools
 
 from cases.common import (
-    ANY, DIVISORS, LINK, LONG_ROWS, NO, ONE, PACKET, PAIR, TOY, TWO, UNDECODED, WANTED, Case, digest, Rule, ending, fault, missing, noted, refused_headers, size, tuned,
+    ANY, DIVISORS, LINK, LONG_ROWS, NO, ONE, PACKET, PAIR, SLIPPED, TOY, TWO, UNDECODED, WANTED, Case, digest, Rule, ending, fault, missing, noted, refused_headers, size, tuned,
 )  # fmt: skip
 from cases.drawn import gaussian, made_rows, spoilt
 from cases.plain_receiver import broken, checks_of, soft_value, weakened
@@ -243,16 +243,17 @@ def silent(two):
     incomplete, cases = "1 packet incomplete", []
     for count in (size - 1, size, 5 * size):
         at, said = size + count, missing((size, size + count)) if count >= size else []
+        slipped = [SLIPPED] * (count >= size)
         report = ONE + f"frame 2 at {at} sole fixed 0\nend frames 2 delivered 2 packets 1 bad 0\n"
-        cases.append((one + bytes(4 * count) + other, report, PACKET, [*said, f"{count} symbols skipped in 1 place, the first at {size}", incomplete]))
+        cases.append((one + bytes(4 * count) + other, report, PACKET, [*said, f"{count} symbols skipped in 1 place, the first at {size}", incomplete, *slipped]))
     for count in (2 * size - 1, 2 * size, 5 * size):
         said = missing((2 * size,)) if count >= 2 * size else []
-        cases.append((two + bytes(4 * count), TWO, 2 * PACKET, [*said, f"{count} symbols skipped in 1 place, the first at {2 * size}"]))
+        cases.append((two + bytes(4 * count), TWO, 2 * PACKET, [*said, f"{count} symbols skipped in 1 place, the first at {2 * size}", SLIPPED]))
     # before the first frame, and between both
     far = bytes(8 * size)
     report = f"frame 1 at {2 * size} sole fixed 0\nframe 2 at {5 * size} sole fixed 0\nend frames 2 delivered 2 packets 1 bad 0\n"
     twice = f"{4 * size} symbols skipped in 2 places, the first at 0"
-    cases.append((far + one + far + other, report, PACKET, [*missing((0, 2 * size), (3 * size, 5 * size)), twice, incomplete]))
+    cases.append((far + one + far + other, report, PACKET, [*missing((0, 2 * size), (3 * size, 5 * size)), twice, incomplete, SLIPPED]))
     return [
         case
         for symbols, report, packets, notes in cases
@@ -270,7 +271,7 @@ def loud(symbols, component):
 
 
 def amplitude(root, gain):
-    return f"the headers' amplitude, noise included, is {root}, not 990: use --gain {gain} of tools/convert"
+    return f"the headers' amplitude, noise included, is {root}, not 990: use --gain {gain} of tools/convert, or --equalize"
 
 
 def undelivered(said, *more):

@@ -5,7 +5,7 @@ from dataclasses import dataclass, field
 
 from cases import audit, comparing, equalized, figured, links, listing, progress, records, rotations
 from cases.common import (
-    ANY, FINE, LINK, NO, PACKET, PAIR, STORED, STORED_CERTIFICATE, STORED_MOVED, TOY, TWO, UNDECODED, WANTED, Case, Rule, digest, ending, noted,
+    ANY, FINE, LINK, NO, PACKET, PAIR, SLIPPED, STORED, STORED_CERTIFICATE, STORED_MOVED, TOY, TWO, UNDECODED, WANTED, Case, Rule, digest, ending, noted,
 )  # fmt: skip
 from cases.drawn import gaussian, made_rows, spoilt
 from cases.judging import HARD_NOTE, LEFT
@@ -226,7 +226,8 @@ EVERY = {"": WELL, "--every 1": received(f"every 1\n{FIRST}{SUMS[0]}{SECOND}{SUM
 EVERY |= {"--every 2": received(f"every 2\n{SECOND}{SUMS[1]}{LAST}")} | {f"--every {count}": received(f"every {count}\n{LAST}") for count in (3, 2**32 - 1)}
 # If the second of two frames is not found.
 PASSED = ["8190 symbols skipped in 1 place, the first at 8190"]
-UNFOUND = received("frame 1 at 0 sole fixed 0\nend frames 1 delivered 1 packets 1 bad 0\n", FINE, PACKET, PASSED)
+UNFOUND = received("frame 1 at 0 sole fixed 0\nend frames 1 delivered 1 packets 1 bad 0\n", FINE, PACKET, [*PASSED, SLIPPED])
+UNFOUND_TURNED = received("frame 1 at 0 sole fixed 0\nend frames 1 delivered 1 packets 1 bad 0\n", FINE, PACKET, PASSED)
 
 
 def both(option, words, ends, channel, more):
@@ -300,17 +301,18 @@ def demod_effects(two, pilots):
         by_lock = {f"--lock {lock}": WELL if wrong <= lock else UNFOUND for lock in sorted({12, wrong - 1, wrong, 30, 40})}
         yield Effect("--lock", f"demod {LINK} {{}} made in out", {"": UNFOUND} | by_lock, {"reads": {"in": wrong_headers(two, wrong)}})
     for wrong in (20, 30, 40):
-        by_lock = {f"--lock {lock}": WELL if wrong <= lock else UNFOUND for lock in sorted({12, wrong - 1, wrong, 30, 40})}
+        by_lock = {f"--lock {lock}": WELL if wrong <= lock else UNFOUND_TURNED for lock in sorted({12, wrong - 1, wrong, 30, 40})}
         ends = {"": by_lock["--lock 30"]} | by_lock
-        yield Effect("--lock", f"demod {LINK} --tuned {{}} made in out", ends, {"reads": {"in": wrong_headers(two, wrong)}})
+        yield Effect("--lock", f"demod {LINK} --tuned {{}} made in out", ends, {"reads": {"in": rotations.scattered(two, wrong)}})
     # the second frame one quarter ahead
     rotated = two[: len(two) // 2] + rotations.ahead(two[len(two) // 2 :], 1)
     both_frames = received(TWO.replace("8190 sole fixed 0", "8190 sole fixed 0 turn 1"))
     ends = {"": UNFOUND, "--turns": both_frames, "--turns --lock 40": both_frames}
     yield Effect("--turns", f"demod {LINK} {{}} made in out", ends, {"reads": {"in": rotated}})
-    # frames with three times their amplitude, which are received either way; tests/cases/equalized.py has those that are not
-    ends = {"": WELL, "--equalize": WELL, "--equalize --turns": WELL}
-    yield Effect("--equalize", f"demod {LINK} {{}} made in out", ends, {"reads": {"in": equalized.through(two, 3)}})
+    # frames with three times their amplitude: equalized, their soft values are those of frames with the usual one
+    usual, other = (ended(TWO, out=2 * PACKET, record=values) for values in (records.records(two)["--values"], ANY))
+    ends = {"": other, "--equalize": usual, "--equalize --turns": usual}
+    yield Effect("--equalize", f"demod {LINK} --values record {{}} made in out", ends, {"reads": {"in": equalized.through(two, 3)}})
     gap = ["100 symbols skipped in 1 place, the first at 16380"]
     ends = {"": received(TWO, notes=gap), "--strict": received(TWO, NO, notes=gap)}
     yield Effect("--strict", f"demod {LINK} {{}} made in out", ends, {"reads": {"in": two + bytes(400)}})
@@ -335,9 +337,10 @@ def run_effects(report, others):
     ends = {"--seeds 1..1": one, "--seeds 5..5": one, "--seeds 0..2": three, f"--seeds {2**64 - 3}..{2**64 - 1}": three}
     yield Effect("--seeds", f"run {LINK} --level 0 {{}} made packets out", ends)
     yield Effect("--every", f"run {LINK} --seed 1 --level 0 {{}} made packets out", EVERY)
-    # a channel without a gain
-    yield Effect("--equalize", f"run {LINK} --seed 1 --level 0 {{}} made packets out", dict.fromkeys(("", "--equalize"), WELL))
-    # a channel without slips
+    # noise moves the gain a little, and so the soft values
+    by_noise = [ended(TWO, out=2 * PACKET, record=ANY) for _ in range(2)]
+    yield Effect("--equalize", f"run {LINK} --seed 1 --level 100 --values record {{}} made packets out", dict(zip(("", "--equalize"), by_noise)))
+    # the channel of `run` has no slips
     yield Effect("--turns", f"run {LINK} --seed 1 --level 0 {{}} made packets out", dict.fromkeys(("", "--turns"), WELL))
     yield Effect("--seed", f"{words} --level {NOISY[1]} {{}} made packets out", each("--seed", (NOISY[0], 15), (usual, other)))
     yield Effect("--pilots", f"run {LINK} --seed 1 --level 0 {{}} made packets out", {"": WELL, "--pilots": received(TWO.replace("8190", "8370"))})
@@ -393,8 +396,8 @@ def unshown(name, text, found):
     ]
 
 
-# Options without a visible effect: these commands write no notes, and a receiver accepts any roll-off.
-SAME = {("modes", "--quiet"), ("rows", "--quiet"), ("check", "--quiet"), ("compare", "--quiet"), ("audit", "--ro"), ("demod", "--ro")}
+# Options without a visible effect: these commands write no notes, a receiver accepts any roll-off, and the channel of `run` has no slips.
+SAME = {("modes", "--quiet"), ("rows", "--quiet"), ("check", "--quiet"), ("compare", "--quiet"), ("audit", "--ro"), ("demod", "--ro"), ("run", "--turns")}
 
 
 def has_difference(effect):

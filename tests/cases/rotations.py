@@ -14,9 +14,9 @@ SIX = numbered(6)
 
 
 def turned(symbol, turn):
-    """A symbol times i to this power."""
+    """A symbol times i to this power. The negative of -32768 is 32767."""
     i, q = symbol
-    return [(i, q), (-q, i), (-i, -q), (q, -i)][turn % 4]
+    return tuple(min(it, 32767) for it in [(i, q), (-q, i), (-i, -q), (q, -i)][turn % 4])
 
 
 def samples(symbols):
@@ -48,10 +48,28 @@ def bit_of(place, symbol):
     return int((i + q if place % 2 == 0 else q - i) < 0)
 
 
+def wrong_bits(symbols, bits, turn):
+    """The number of a header's bits that are wrong after rotating back."""
+    return sum(bit_of(at, turned(each, 4 - turn)) != bit for at, (each, bit) in enumerate(zip(symbols, bits)))
+
+
 def rotation_of(symbols, bits=OWN):
     """The rotation of a frame: after rotating back by it, the fewest bits of its header are wrong."""
-    wrong = [sum(bit_of(at, turned(each, 4 - turn)) != bit for at, (each, bit) in enumerate(zip(symbols, bits))) for turn in range(4)]
+    wrong = [wrong_bits(symbols, bits, turn) for turn in range(4)]
     return wrong.index(min(wrong))
+
+
+def scattered(symbols, count, frame=FRAME):
+    """The symbols with a number of bits of the second header inverted, at drawn places. No other header in any rotation has as few wrong bits."""
+    made, drawn = samples(symbols), random.Random(count)
+    own = [bit_of(at, symbol) for at, symbol in enumerate(made[:HEADER])]
+    others = [(bits, turn) for bits in (own, *(header(0, it) for it in range(4))) for turn in range(4) if bits != own or turn]
+    while True:
+        heard = made[frame : frame + HEADER]
+        for at in drawn.sample(range(HEADER), count):
+            heard[at] = turned(heard[at], 2)
+        if all(wrong_bits(heard, *other) > count for other in others):
+            return in_bytes([*made[:frame], *heard, *made[frame + HEADER :]])
 
 
 def line(number, at, turn, outcome="sole fixed 0"):
@@ -121,6 +139,14 @@ def cases(made_by):
     dummies = ahead(ahead(among, 3, FRAME, DUMMY), 2, 2 * FRAME + DUMMY, DUMMY)
     rng = random.Random(7)
     streams = [slipped(five, rng) for _ in range(3)]
+    # one slip, in the first frame and in the last one
+    for at in (0, count - 1):
+        streams.append((ahead(five, 3, FRAME * at + FRAME // 2), [it != at for it in range(count)]))
+    # a slip in the first dummy frame
+    in_dummy = ahead(among, 1, FRAME + DUMMY // 2)
+    # the largest numbers, and no signal at all
+    loud = in_bytes([(32767 if i > 0 else -32768, 32767 if q > 0 else -32768) for i, q in samples(five)])
+    silent = bytes(2 * 4 * FRAME)
     tuned = report(alternating, places, len(SIX) // 188)
     return [
         received(alternating, places, SIX),
@@ -128,6 +154,9 @@ def cases(made_by):
         *(received(symbols, places[:3], FOUR) for symbols in all_ahead),
         received(in_header, places[:3], FOUR),
         received(dummies, [0, FRAME + DUMMY], 2 * PACKET),
+        received(in_dummy, [0, FRAME + DUMMY], 2 * PACKET),
+        received(frames_ahead(loud, [(3 * at + 1) % 4 for at in range(count)]), places, SIX),
+        Case(f"demod {LINK} --turns --equalize --tuned made in out", 0, END.format(0, 0), ANY, reads={"in": silent}, writes={"out": b""}),
         # as --tuned has it
         Case(f"demod {LINK} --tuned made in out", 0, tuned, reads={"in": alternating}, writes={"out": SIX}),
         # without the option a rotated frame is no frame

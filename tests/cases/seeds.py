@@ -21,7 +21,7 @@ NOTES = {
     "none": re.compile(rb"(s2: note: no frame of .* in )(\d+)( symbols: try s2 scan\n)"),
     "incomplete": re.compile(rb"s2: note: (\d+) packets? incomplete\n"),
     "refused": re.compile(rb"s2: note: of (\d+) lost frames? (\d+) had a BCH word whose header is refused\n"),
-    "amplitude": re.compile(rb"s2: note: the headers' amplitude, noise included, is (\d+), not 990: use --gain \d+\.\d{4} of tools/convert\n"),
+    "amplitude": re.compile(rb"s2: note: the headers' amplitude, noise included, is (\d+), not 990: use --gain \d+\.\d{4} of tools/convert, or --equalize\n"),
 }
 
 

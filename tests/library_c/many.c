@@ -1,4 +1,5 @@
-/* many MODCOD ROWS: makes and ends 1000 receivers, transmitters and judges on one code, and looks at the memory that stays. */
+/* many MODCOD ROWS: makes and ends 1000 receivers, transmitters and judges, and takes their code from a shelf each time. Looks at the memory
+ * that stays. */
 #include "both.h"
 
 static long pages(void) {
@@ -32,7 +33,6 @@ int main(int argc, char **argv) {
     long before = pages();
     for (int i = 0; i < 1000; i++) {
         turn(&code, &o);
-        if (i % 10) continue;
         s2_end(&code);
         must(s2_shelf_code(&shelf, rows, length, o.modcod, 0, &code), "code again");
     }

@@ -1,7 +1,7 @@
 -- Losses of a received stream: the exit of its command, and the notes (own).
 use Rattle.std.specs.Prelude.{◌≡◌, ◌⊎◌, ℕ, ◌+◌, ◌-◌, ◌*◌, ◌/◌, ◌%◌, Bool, ◌&&◌, ◌||◌, not, nat_eq, nat_le, if◌then◌else◌, List, [], ◌++◌, drop, codes, decimal, Option, Some, None, Result, Ok, Err}
 use Rattle.s2_mode.specs.Limits.{header_symbols}
-use Rattle.s2_mode.specs.Mode.{Mode}
+use Rattle.s2_mode.specs.Mode.{Mode, symbols_in}
 use Rattle.s2_names.specs.Names.{mode_words}
 use Rattle.s2_receive.specs.declared.report.Received.{Received}
 use Rattle.s2_receive.specs.declared.report.Totals.{Totals}
@@ -78,9 +78,9 @@ refused_note t =
 abbrev pub header_amplitude : Totals → ℕ
 header_amplitude t = amplitude_by t.energy (header_symbols * t.frames)
 
--- this amplitude, if frames came, none was delivered, and symbols of this amplitude need a gain
-abbrev pub odd_amplitude : Totals → Option ℕ
-odd_amplitude t = if nat_eq t.frames 0 || not (nat_eq t.delivered 0) || is_usual (header_amplitude t) then None else Some (header_amplitude t)
+-- this amplitude, if frames came without an equalizer, none was delivered, and symbols of this amplitude need a gain
+abbrev pub odd_amplitude : (equalize : Bool) → Totals → Option ℕ
+odd_amplitude equalize t = if equalize || nat_eq t.frames 0 || not (nat_eq t.delivered 0) || is_usual (header_amplitude t) then None else Some (header_amplitude t)
 
 -- the amplitude, and the gain as far as its point
 unfoldable pub amplitude_start : ℕ → ℕ → List ℕ
@@ -89,7 +89,7 @@ amplitude_start amplitude whole =
 
 -- the note of an amplitude, with a gain in ten-thousandths: four digits after its point
 abbrev pub gained_note : ℕ → ℕ → List ℕ
-gained_note amplitude gain = amplitude_start amplitude (gain / 10000) ++ (drop 1 (decimal (10000 + gain % 10000)) ++ codes " of tools/convert\n")
+gained_note amplitude gain = amplitude_start amplitude (gain / 10000) ++ (drop 1 (decimal (10000 + gain % 10000)) ++ codes " of tools/convert, or --equalize\n")
 
 -- the note of an amplitude, with the gain to use, which is 990 divided by it
 abbrev pub amplitude_note : ℕ → List ℕ
@@ -101,8 +101,8 @@ amplitude_notes None = []
 amplitude_notes (Some amplitude) = amplitude_note amplitude
 
 -- the notes on the frames of a stream
-abbrev pub frame_notes : Totals → List ℕ
-frame_notes t = note_if (not (nat_eq t.refused 0)) (refused_note t) ++ amplitude_notes (odd_amplitude t)
+abbrev pub frame_notes : (equalize : Bool) → Totals → List ℕ
+frame_notes equalize t = note_if (not (nat_eq t.refused 0)) (refused_note t) ++ amplitude_notes (odd_amplitude equalize t)
 
 -- L of F frames lost, and advice
 unfoldable pub tuned_note : Totals → List ℕ
@@ -128,13 +128,21 @@ headers_note = codes "s2: note: headers are right but no frame is decoded: anoth
 abbrev pub advice : (tuned : Bool) → Totals → List ℕ
 advice tuned t = if is_undecoded t then headers_note else note_if (is_proposed tuned t) (tuned_note t)
 
+-- the carrier may have slipped: a frame's length or more was skipped, and not all of it before the first frame
+abbrev pub is_slipped : (slips : Bool) → Mode → Totals → Bool
+is_slipped slips m t = slips && not (nat_eq t.frames 0) && nat_le (symbols_in m) t.skipped && (not (nat_eq t.first 0) || nat_le 2 t.places)
+
+-- the note that proposes to seek all rotations
+abbrev pub slip_note : List ℕ
+slip_note = codes "s2: note: a frame's length was skipped after a frame: try --turns, the carrier may have slipped\n"
+
 -- the notes of a stream that was received to its end
-abbrev pub notes_of : (tuned : Bool) → Mode → Received → List ℕ
-notes_of tuned m r = loss_notes m r ++ frame_notes r.totals ++ advice tuned r.totals
+abbrev pub notes_of : NoteArguments → Mode → Received → List ℕ
+notes_of words m r = loss_notes m r ++ frame_notes words.equalize r.totals ++ advice words.tuned r.totals ++ note_if (is_slipped words.slips m r.totals) slip_note
 
 -- The end of a command that received this, and its notes. If their writer failed, that is its fault
 abbrev pub Answered : NoteArguments → Mode → Result Received Fault → Result Exit Fault → List ℕ → Screen → Screen → Type 0
-Answered words m (Ok r) ended notes old new = (notes ≡ (if words.quiet then [] else notes_of words.tuned m r)) × ((ended ≡ Ok (exit_by words r)) ⊎ NotesLost notes ended old new)
+Answered words m (Ok r) ended notes old new = (notes ≡ (if words.quiet then [] else notes_of words m r)) × ((ended ≡ Ok (exit_by words r)) ⊎ NotesLost notes ended old new)
 Answered words m (Err f) ended notes old new = (notes ≡ (if words.quiet then [] else fault_note m f)) × (ended ≡ Err f)
 
 -- The end of a command that received this, and its exit: its notes, and the line of a fault, are on the errors

@@ -2,11 +2,11 @@
 ghost use Rattle.std.specs.Prelude.{◌≡◌, ◌-◌, [], OnOk};
 ghost use Rattle.std.specs.Io.KnownBytes.{Appends};
 ghost use Rattle.s2_mode.specs.Counts.{CanCount, CountsFault};
-ghost use Rattle.s2_commands.specs.Losses.{advice, has_lost, headers_note, is_proposed, is_undecoded, note_if, tuned_note};
+ghost use Rattle.s2_commands.specs.Losses.{advice, has_lost, headers_note, is_proposed, is_slipped, is_undecoded, note_if, slip_note, tuned_note};
 
 use crate::frame_notes::header_amplitude;
 use s2_console::Line;
-use s2_mode::{CountedWrite, WriteFault, write_full};
+use s2_mode::{CountedWrite, Mode, WriteFault, write_full};
 use s2_receive::Totals;
 use s2_scan::is_usual;
 
@@ -97,4 +97,43 @@ pub(crate) fn write_advice<W: CountedWrite>(
         return write_headers_note(out);
     }
     write_proposal(tuned, totals, out)
+}
+
+/// Whether the carrier may have slipped: a frame's length or more was skipped, and not all of it before the first frame.
+fn is_slipped(slips: bool, mode: &Mode, totals: Totals) -> bool
+    ensures { result ≡ is_slipped slips mode.now totals }
+{
+    slips
+        && totals.frames != 0
+        && totals.skipped >= mode.symbols() as u64
+        && (totals.first != 0 || totals.places >= 2)
+}
+
+/// Writes the note that proposes to seek all rotations.
+fn write_slip_note<W: CountedWrite>(out: &mut W) -> Result<(), WriteFault>
+    requires { CanCount (W.count out.old) }
+    ensures bytes { OnOk result (Appends (W.contents out.old) (W.contents out.new) slip_note) }
+    ensures cause { CountsFault (W.count out.old) (W.count out.new) result }
+{
+    let note =
+        "s2: note: a frame's length was skipped after a frame: try --turns, the carrier may have slipped\n";
+    write_full(out, note.as_bytes())
+}
+
+/// Writes the note that proposes to seek all rotations, if the carrier may have slipped.
+pub(crate) fn write_if_slipped<W: CountedWrite>(
+    slips: bool,
+    mode: &Mode,
+    totals: Totals,
+    out: &mut W,
+) -> Result<(), WriteFault>
+    requires { CanCount (W.count out.old) }
+    ensures bytes { OnOk result (Appends (W.contents out.old) (W.contents out.new) (note_if (is_slipped slips mode.now totals) slip_note)) }
+    ensures none { note_if (is_slipped slips mode.now totals) slip_note ≡ [] → out.new ≡ out.old }
+    ensures cause { CountsFault (W.count out.old) (W.count out.new) result }
+{
+    if !is_slipped(slips, mode, totals) {
+        return Ok(());
+    }
+    write_slip_note(out)
 }

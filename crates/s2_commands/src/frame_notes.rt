@@ -47,11 +47,16 @@ pub(crate) fn header_amplitude(totals: Totals) -> u64
     amplitude_by(u128::from(totals.energy), symbols)
 }
 
-/// The amplitude of the headers, if frames came, none was delivered, and symbols of this amplitude need a gain.
-fn odd_amplitude(totals: Totals) -> Option<u64>
-    ensures { result ≡ odd_amplitude totals }
+/// The amplitude of the headers, if frames came without an equalizer, none was delivered, and symbols of this amplitude
+/// need a gain.
+fn odd_amplitude(equalize: bool, totals: Totals) -> Option<u64>
+    ensures { result ≡ odd_amplitude equalize totals }
 {
-    if totals.frames == 0 || totals.delivered != 0 || is_usual(header_amplitude(totals)) {
+    if equalize
+        || totals.frames == 0
+        || totals.delivered != 0
+        || is_usual(header_amplitude(totals))
+    {
         None
     } else {
         Some(header_amplitude(totals))
@@ -95,7 +100,7 @@ fn write_gained<W: CountedWrite>(amplitude: u64, gain: u64, out: &mut W) -> Resu
 {
     write_full(out, amplitude_start(amplitude, gain / 10_000).as_bytes())?;
     write_fraction(10_000 + gain % 10_000, out)?;
-    write_full(out, " of tools/convert\n".as_bytes())
+    write_full(out, " of tools/convert, or --equalize\n".as_bytes())
 }
 
 /// Writes the note of an amplitude, and the gain to use.
@@ -124,14 +129,15 @@ fn write_if_odd<W: CountedWrite>(amplitude: Option<u64>, out: &mut W) -> Result<
 /// Writes the notes on the frames of a stream.
 #[tactic(auto, using(crate::proofs::NoteLemmas::both_empty))]
 pub(crate) fn write_frame_notes<W: CountedWrite>(
+    equalize: bool,
     totals: Totals,
     out: &mut W,
 ) -> Result<(), WriteFault>
     requires { CanCount (W.count out.old) }
-    ensures bytes { OnOk result (Appends (W.contents out.old) (W.contents out.new) (frame_notes totals)) }
-    ensures none { frame_notes totals ≡ [] → out.new ≡ out.old }
+    ensures bytes { OnOk result (Appends (W.contents out.old) (W.contents out.new) (frame_notes equalize totals)) }
+    ensures none { frame_notes equalize totals ≡ [] → out.new ≡ out.old }
     ensures cause { CountsFault (W.count out.old) (W.count out.new) result }
 {
     write_refused(totals, out)?;
-    write_if_odd(odd_amplitude(totals), out)
+    write_if_odd(odd_amplitude(equalize, totals), out)
 }

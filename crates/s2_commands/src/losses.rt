@@ -5,7 +5,7 @@ ghost use Rattle.s2_mode.specs.Counts.{CanCount, CountsFault};
 ghost use Rattle.s2_console.specs.Lines.{line_room};
 ghost use Rattle.s2_commands.specs.Losses.{all_delivered, counted, no_sync, is_clean, exit_by, has_come, skipped_note, no_sync_end, no_sync_note, incomplete_note, note_if, loss_notes, notes_of, Finishes};
 
-use crate::advice::write_advice;
+use crate::advice::{write_advice, write_if_slipped};
 use crate::frame_notes::write_frame_notes;
 use s2_console::{Console, Exit, Fault, Line};
 use s2_mode::{CountedWrite, HEADER_SYMBOLS, Mode, WriteFault, write_full};
@@ -181,19 +181,20 @@ fn write_loss_notes<W: CountedWrite>(
 /// Writes the notes of a stream that was received to its end.
 #[tactic(auto, using(crate::proofs::NoteLemmas::both_empty))]
 fn write_notes<W: CountedWrite>(
-    tuned: bool,
+    words: NoteArguments,
     mode: &Mode,
     received: Received,
     out: &mut W,
 ) -> Result<(), WriteFault>
     requires { CanCount (W.count out.old) }
-    ensures bytes { OnOk result (Appends (W.contents out.old) (W.contents out.new) (notes_of tuned mode.now received)) }
-    ensures none { notes_of tuned mode.now received ≡ [] → out.new ≡ out.old }
+    ensures bytes { OnOk result (Appends (W.contents out.old) (W.contents out.new) (notes_of words mode.now received)) }
+    ensures none { notes_of words mode.now received ≡ [] → out.new ≡ out.old }
     ensures cause { CountsFault (W.count out.old) (W.count out.new) result }
 {
     write_loss_notes(mode, received, out)?;
-    write_frame_notes(received.totals, out)?;
-    write_advice(tuned, received.totals, out)
+    write_frame_notes(words.equalize, received.totals, out)?;
+    write_advice(words.tuned, received.totals, out)?;
+    write_if_slipped(words.slips, mode, received.totals, out)
 }
 
 /// The exit of a command after its reception. Its notes are written, unless they are left out. A fault is reported. If
@@ -212,7 +213,7 @@ pub(crate) fn finish_reception<O: CountedWrite, E: CountedWrite>(
 {
     match reception {
         Ok(received) if words.quiet => exit_by(words, received),
-        Ok(received) => match write_notes(words.tuned, mode, received, &mut console.errors) {
+        Ok(received) => match write_notes(words, mode, received, &mut console.errors) {
             Ok(()) => exit_by(words, received),
             Err(_) => console.report_fault(Fault::Write),
         },

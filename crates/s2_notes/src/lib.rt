@@ -1,6 +1,6 @@
-//! Notes on standard error that no command writes. They say why a call on a file failed, that a file begins with a byte order
-//! mark, where packets begin in a packet file, and how many bytes were left out. There is also one on the likely causes of a
-//! refused audit. A note that cannot be written is lost.
+//! Notes on standard error that no command writes. They give the cause of a failed call on a file, a byte order mark at its
+//! beginning, the places of packets in a packet file, and the number of bytes left out. There is also one on the likely causes
+//! of a refused audit. A note that cannot be written is lost.
 //!
 //! This is plain code. Of a writer its contracts say only that no call failed so far.
 //!

@@ -193,9 +193,10 @@ Notes, on standard error:
   no frame of MODE in N symbols: try s2 scan           the recording may have another mode, byte order, sample format or rotation
   N packets incomplete                                 they began, but a frame with the rest is missing or was not delivered
   of N lost frames M had a BCH word whose header is refused    decoded, but not a transport stream (a generic stream? another format?)
-  the headers' amplitude, noise included, is A, not 990: use --gain G of tools/convert    no frame is delivered, and the amplitude is off by 1.5 dB or more
+  the headers' amplitude, noise included, is A, not 990: use --gain G of tools/convert, or --equalize    no frame is delivered, and the amplitude is off by 1.5 dB or more
   headers are right but no frame is decoded: another scrambling number or other rows? try s2 scan    the amplitude is as expected
   L of F frames lost: try --tuned                      the settings of --tuned deliver frames at a lower Es/N0
+  a frame's length was skipped after a frame: try --turns, the carrier may have slipped    printed by `demod`: frames may go on in another rotation
 ",
             $notes,
             "

@@ -191,11 +191,14 @@ fn exit_by_of(r: &mut Reader<'_, '_>) -> ExitBy {
     ExitBy::Certainty
 }
 
-fn notes_of(r: &mut Reader<'_, '_>) -> NoteArguments {
+/// `slips` says whether the carrier of these symbols may have slipped.
+fn notes_of(r: &mut Reader<'_, '_>, slips: bool) -> NoteArguments {
     NoteArguments {
         exit_by: exit_by_of(r),
         strict: r.flag("strict"),
         tuned: r.flag("tuned"),
+        slips: slips && !r.flag("turns") && !r.flag("tuned"),
+        equalize: r.flag("equalize"),
         quiet: r.flag("quiet"),
     }
 }
@@ -336,7 +339,7 @@ fn demod_of<'a>(r: &mut Reader<'_, 'a>) -> Option<Request<'a>> {
     Some(Request::Demod(DemodArguments {
         link: link_of(r),
         tuning: tuning_of(r),
-        notes: notes_of(r),
+        notes: notes_of(r, true),
         every: every_of(r.matches),
         progress: progress_of(r),
         records: records_of(r),
@@ -355,7 +358,7 @@ fn run_of<'a>(r: &mut Reader<'_, 'a>) -> Option<Request<'a>> {
         tuning: tuning_of(r),
         channel: first_channel_of(r, seeds),
         seeds,
-        notes: notes_of(r),
+        notes: notes_of(r, false),
         every: every_of(r.matches),
         progress: progress_of(r),
         records: records_of(r),

@@ -173,12 +173,15 @@ pub enum ExitBy {
 }
 
 /// The notes and the exit status of a reception: what the status depends on, and whether it also depends on losses. If
-/// the best settings are in use already, no note proposes them. Notes can be suppressed.
+/// the best settings are in use already, no note proposes them. All rotations are proposed only if the carrier may have
+/// slipped and they were not sought, and the equalizer only if it is not in use. Notes can be suppressed.
 #[derive(Clone, Copy)]
 pub struct NoteArguments {
     pub exit_by: ExitBy,
     pub strict: bool,
     pub tuned: bool,
+    pub slips: bool,
+    pub equalize: bool,
     pub quiet: bool,
 }
 

@@ -11,5 +11,5 @@ returns-clause-bytes g c =
     let d = g.W.CountedWrite.contents c.write_full-2.new.writer in
     let first = subst (λ (xs : List ℕ). Appends a b xs) (c.as_bytes.ensures ∙ c.amplitude_start.ensures) c.in_ok-write_full.ensures.bytes in
     let last = subst (λ (xs : List ℕ). OnOk c.write_full-2.result (Appends fraction d xs)) c.as_bytes-2.ensures.value c.write_full-2.ensures.bytes in
-    note_written c.write_full-2.result a b fraction d (amplitude_start c.args.amplitude (c.args.gain / 10000)) (drop 1 (decimal (10000 + c.args.gain % 10000))) (codes " of tools/convert\n") first
+    note_written c.write_full-2.result a b fraction d (amplitude_start c.args.amplitude (c.args.gain / 10000)) (drop 1 (decimal (10000 + c.args.gain % 10000))) (codes " of tools/convert, or --equalize\n") first
     c.in_ok-write_fraction.ensures.bytes last

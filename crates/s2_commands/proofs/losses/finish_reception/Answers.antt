@@ -15,7 +15,7 @@ returns-in-Ok-clause-finishes g c =
 
 pub returns-in-Ok-write_notes-clause-finishes : goal.returns-in-Ok-write_notes-clause-finishes
 returns-in-Ok-write_notes-clause-finishes g c =
-    let notes = notes_of c.args.words.tuned c.args.mode.now c.in-Ok-2.received in
+    let notes = notes_of c.args.words c.args.mode.now c.in-Ok-2.received in
     rw (sym c.console.view_is) (record {
       ended = Ok (exit_by c.args.words c.in-Ok-2.received);
       notes = notes;
@@ -26,7 +26,7 @@ returns-in-Ok-write_notes-clause-finishes g c =
 
 pub returns-in-Err-write_notes-clause-finishes : goal.returns-in-Err-write_notes-clause-finishes
 returns-in-Err-write_notes-clause-finishes g c =
-    let notes = notes_of c.args.words.tuned c.args.mode.now c.in-Ok-2.received in
+    let notes = notes_of c.args.words c.args.mode.now c.in-Ok-2.received in
     let some : notes ≢ [] =
     λ e. absurd (omega (arith, c.in-Err-write_notes.ensures.cause, ap (λ w. g.E.Counted.count w) (c.write_notes.ensures.none e))) in
     rw (sym c.console.view_is) (record {
