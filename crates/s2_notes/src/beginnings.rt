@@ -1,12 +1,11 @@
 //! The note on a packet file that does not begin with packets. This is plain code.
 ghost use Rattle.std.specs.Prelude.{◌≤◌, IfOk, length};
-ghost use Rattle.s2_mode.specs.Counts.{CanCount};
 
-use crate::errors::errors_of;
+use crate::errors::write_note;
 use crate::names::has_control;
 use s2_bbframe::{PACKET_BYTES, SYNC};
 use s2_files::{Disk, Opener, Role, is_standard};
-use s2_mode::{CountedWrite, read_full, write_full};
+use s2_mode::read_full;
 use s2_progress::Terminal;
 use s2_resync::{Syncs, first_syncs};
 use s2_scan::push_name;
@@ -16,18 +15,19 @@ use std::fs;
 /// The first bytes of a file, which are searched.
 const SEARCHED: usize = 65_536;
 
-/// Writes a note on standard error. If it cannot be written, it is lost.
-fn write_note<W: CountedWrite>(errors: &mut W, note: &[u8])
-    requires { CanCount (W.count errors.old) }
-{
-    let _ = write_full(errors, note);
-}
-
 /// Whether a file can be read again by its name: a regular file can.
 fn is_again<R: Disk>(rt: &R, name: &str) -> bool {
     match fs::metadata(rt, name) {
         Ok(metadata) => metadata.is_file() && !is_standard(Role::Input, name),
         Err(_) => false,
+    }
+}
+
+/// Reads the first bytes of a file, as many as fit, and returns their number. It is 0 if the file cannot be read.
+fn read_start<R: Disk>(rt: &R, name: &str, bytes: &mut [u8]) -> usize {
+    match Opener::new(rt).read(name) {
+        Ok(mut file) => read_full(&mut file, bytes).unwrap_or(0),
+        Err(_) => 0,
     }
 }
 
@@ -40,10 +40,7 @@ fn first_bytes<R: Disk + AllocGlobal>(
     ensures { IfOk result (λ bytes. length bytes.items ≤ most) }
 {
     let mut bytes = vec![in rt.alloc(); 0u8; most]?;
-    let count = match Opener::new(rt).read(name) {
-        Ok(mut file) => read_full(&mut file, &mut bytes).unwrap_or(0),
-        Err(_) => 0,
-    };
+    let count = read_start(rt, name, &mut bytes);
     bytes.truncate(count);
     Ok(bytes)
 }
@@ -112,6 +109,6 @@ pub fn note_beginning<R: Disk + AllocGlobal>(terminal: &Terminal<'_, R>, name: &
         return;
     }
     if let Ok(Some(note)) = beginning_note(rt, name) {
-        write_note(&mut errors_of(terminal), &note);
+        write_note(terminal, &note);
     }
 }
