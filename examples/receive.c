@@ -2,8 +2,8 @@
  *
  *     cc -Iinclude examples/receive.c build/libs2.a -o receive */
 #include <s2.h>
+#include <inttypes.h>
 #include <stdio.h>
-#include <stdlib.h>
 
 int main(void) {
     static uint8_t bytes[1 << 20], packets[7520];
@@ -18,11 +18,12 @@ int main(void) {
     while (step.kind != S2_STREAM_END) {
         s2_receiver_room(&receiver, &room);
         if (s2_receiver_advance(&receiver, bytes, fread(bytes, 1, room, in), &step)) return 1;
-        if (step.kind == S2_FRAME) printf("frame %d at %d\n", (int)step.number, (int)step.at);
+        if (step.kind != S2_FRAME) continue;
+        printf("frame %" PRIu64 " at %" PRIu64 "\n", step.number, step.at);
         s2_receiver_packets(&receiver, packets, sizeof packets, &count);
-        if (step.kind == S2_FRAME) fwrite(packets, 1, count, out);
+        fwrite(packets, 1, count, out);
     }
     s2_end(&receiver);
     s2_end(&code);
-    return fclose(out);
+    return fclose(out) != 0;
 }

@@ -5,20 +5,21 @@
  * Results    A call returns S2_OK (0), or a negative code of enum s2_result. After a negative code nothing was
  *            changed and nothing was written, unless the call says otherwise. s2_error_text has a text for each code.
  * Handles    A handle is a code, a shelf, a receiver, a transmitter, a judge or a scanner. `s2_handle h = {0};` is an empty one.
- *            A call whose name ends with _new fills an empty handle. s2_end ends what is behind a handle, gives back
- *            its memory, and leaves it empty. An ended or empty handle is answered with S2_EMPTY, one of another kind with
- *            S2_OTHER_KIND. The members belong to the library. Do not use two copies of a handle.
+ *            A call whose name ends with _new fills an empty handle, and so do s2_code_of_shape and s2_shelf_code. s2_end ends
+ *            the object of a handle, gives back its memory, and leaves the handle empty. A call returns S2_EMPTY for an empty
+ *            handle, and S2_OTHER_KIND for one of another kind. The members belong to the library. Do not use two copies of
+ *            a handle.
  * Threads    One call at a time on a handle; a call with two handles uses both. Handles are independent: different
  *            threads can use different ones at the same time, also receivers on the same code. A handle can be used by
  *            one thread after another, if these are ordered, as by a lock or by joining.
- * Memory     A _new call allocates all that its handle needs. Of the others only those allocate that can return
- *            S2_NO_MEMORY. The library keeps no pointer of the caller's after a call.
+ * Memory     Only calls that can return S2_NO_MEMORY allocate. So a receiver, a transmitter and a judge have all the memory
+ *            that they need for their stream once they are made. The library keeps no pointer of the caller's after a call.
  * Structs    Set `size` to sizeof the struct before each call: another size is S2_BAD_SIZE. Set all else that is not
  *            used to 0, and so `reserved`: a later version gives it a meaning, with 0 for what this version does.
  * Outputs    A call that copies a list takes `room`, the number of items at `out`, and sets *count to the length of
  *            the list. If that is over `room`, it is S2_TOO_SHORT and nothing is copied. So room 0 asks for the length.
  * Symbols    4 bytes each: I, then Q, 16 bits, two's complement, most significant byte first; amplitude 990 or so.
- * Soft values -511 to 511, positive for a 0. Words: a byte for each bit, 0 or 1. BBFRAMEs: 8 bits a byte, first bit highest.
+ * Soft values -511 to 511, positive for a 0. Words: a byte for each bit, 0 or 1. BBFRAMEs: 8 bits per byte, first bit highest.
  *
  * The caller owes: pointers that are valid for the call, not NULL unless the number beside it is 0; outputs that overlap
  * neither each other nor inputs; handles and structs that are aligned as C does it; malloc, realloc and free of one
@@ -53,7 +54,8 @@ enum s2_result {
     S2_BAD_SCRAMBLING = -10,  /* the scrambling number is over 262141 */
     S2_BAD_ROLL_OFF = -11,    /* the roll-off is over 2 */
     S2_BAD_TUNING = -12,      /* a number of the tuning is out of its range */
-    S2_BAD_OPTION = -13,      /* a member for 0 or 1 has another value, dummy_every is over 65535, or reserved is not 0 */
+    S2_BAD_OPTION = -13,      /* a member for 0 or 1 has another value, dummy_every is over 65535, given is over 31, or
+                                 reserved is not 0 */
     S2_TOO_MANY = -14,        /* more was given than can be taken */
     S2_TOO_SHORT = -15,       /* there is no room for all: *count has the length */
     S2_NO_SYNC = -16,         /* a packet does not begin with 47 hexadecimal */
@@ -73,7 +75,7 @@ typedef struct s2_handle {
     uint64_t live;
 } s2_handle;
 
-/* Ends what is behind a handle, and leaves the handle empty. An empty one stays empty. */
+/* Ends the object of a handle, and leaves the handle empty. An empty one stays empty. */
 void s2_end(s2_handle *handle);
 
 /* The numbers of a mode. */
@@ -114,7 +116,8 @@ int32_t s2_code_facts(s2_handle *code, uint32_t *n, uint32_t *k, uint32_t *is_st
 int32_t s2_shelf_new(s2_handle *shelf);
 
 /* As s2_code_new; but if a code with the same rows is on the shelf, it is that one, and takes no more memory. Otherwise
- * the new code is put on the shelf. Codes: S2_IN_USE (of `code`), S2_EMPTY, S2_OTHER_KIND (of `shelf`), and as there. */
+ * the new code is put on the shelf. Codes: S2_IN_USE (of `code`), S2_EMPTY, S2_OTHER_KIND (of `shelf`), and as there. After
+ * S2_NO_MEMORY the code may be on the shelf already. */
 int32_t s2_shelf_code(s2_handle *shelf, const uint8_t *text, size_t length, uint32_t modcod, uint32_t is_short,
                       s2_handle *code);
 
@@ -334,8 +337,8 @@ typedef struct s2_seen {
     uint32_t modcod;         /* 0 to 28; 0: dummy frames */
     uint32_t is_short;
     uint32_t has_pilots;
-    uint32_t turn;           /* quarter turns that undo the rotation */
-    uint32_t conjugate;      /* 1: the symbols are conjugated */
+    uint32_t turn;           /* the quarter turns by which the symbols are rotated, 0 to 3 */
+    uint32_t conjugate;      /* 1: the symbols are conjugated, after that rotation */
     uint32_t little_endian;  /* 1: least significant byte first */
     uint32_t reserved0;
     uint64_t seen;           /* headers */
@@ -353,7 +356,7 @@ int32_t s2_scan_new(s2_handle *scanner);
  * S2_NO_MEMORY. */
 int32_t s2_scan_feed(s2_handle *scanner, const uint8_t *symbols, size_t length);
 
-/* Searches what was fed so far. *count: how many kinds of headers were seen, the likeliest first. Codes: also S2_NO_MEMORY. */
+/* Searches what was fed so far. *count: how many kinds of headers were seen, the most probable first. Codes: also S2_NO_MEMORY. */
 int32_t s2_scan_find(s2_handle *scanner, size_t *count);
 
 /* What the last search found at this place, counted from 0. S2_NONE_THERE if there is none. Codes: also S2_BAD_SIZE. */
