@@ -44,9 +44,10 @@ class Ending(gr.basic_block):
 class receiver(Ending):
     """Symbols, one sample per symbol, to the bytes of packets.
 
-    `rows` is a row file, `mode` a MODCOD or a name such as "qpsk3/4". `amplitude` is that of the symbols. The other options are those of
-    `sembarohy.Receiver`. The message port `frames` gets a dictionary for each frame: number, at (its first symbol), verdict, outcome, packets,
-    fixed if it was delivered, and figures if these are requested. The first byte of each frame's packets has the tag `frame` with it.
+    `rows` is a row file, `mode` a MODCOD or a name such as "qpsk3/4". `amplitude` is that of the symbols. The other options, `equalize` among
+    them, are those of `sembarohy.Receiver`. The message port `frames` gets a dictionary for each frame: number, at (its first symbol), verdict,
+    outcome, packets, fixed if it was delivered, and figures if these are requested. The first byte of each frame's packets has the tag `frame`
+    with it.
 
     After the graph has ended, `totals` and `cut` are those of the stream."""
 
