@@ -17,9 +17,22 @@ import re
 import struct
 import sys
 
-# A code has at most this many bits, a certificate at most this many shares, a row file at most this many bytes.
-MAX_BITS, MAX_SHARES, MAX_TEXT = 64_800, 1_555_200, 1 << 24
-MAX_ADDRESSES, MAX_SOFT, MAX_SCALE, MAX_AMOUNT = 24, 511, 4096, 2**31 - 1
+# The values that each number of the files may have (docs/formats.md).
+RANGES = {
+    "bytes of a row file": range(2**24 + 1),
+    "addresses of a row": range(1, 25),
+    "group": range(1, 361),
+    "groups": range(1, 2**16),
+    "q": range(1, 2**16),
+    "bits": range(64_801),
+    "scale": range(1, 4097),
+    "entries": range(1_555_201),
+    "soft value": range(-511, 512),
+    "padding bit": range(1),
+    "amount": range(2**31),
+}
+# Of each version the numbers after its byte, and those of an entry of its split: a share, or the place and the amount of a move.
+VERSIONS = {1: (">4HI", ">i"), 2: (">4H", ">HI")}
 
 
 class Refused(Exception):
@@ -44,7 +57,7 @@ def shares_of(members, word, version, split):
         shares = [[-amount if at == place else amount for at in range(len(bits))] for bits, (place, amount) in zip(members, split)]
     else:
         fits, left = len(split) == sum(map(len, members)), iter(split)
-        shares = [[-share if word[i] else share for i, share in zip(bits, left)] for bits in members]
+        shares = [[-share if word[i] else share for i, (share,) in zip(bits, left)] for bits in members]
     return shares if fits else None
 
 
@@ -63,73 +76,79 @@ def checked(members, scale, soft, word, shares):
     return f"{'sole' if min(rests) > 0 else 'yes'} cost {cost}"
 
 
+def are_in(name, *values):
+    return all(value in RANGES[name] for value in values)
+
+
 def rows_of(text, group, groups, q):
     """The rows of a row file: for each group of bits its addresses, all below the count of checks, none twice."""
     rows = []
     for number, line in enumerate(text.split(b"\n"), 1):
         words = re.findall(rb"[^ \t\r]+", line)
         if words and not words[0].startswith(b"#"):
-            row = [int(word[-5:]) for word in words if re.fullmatch(rb"0*[0-9]{1,5}", word)]
-            if len(row) < len(words) or len(row) > MAX_ADDRESSES or len(set(row)) < len(row) or max(row) >= group * q:
+            row = [int(found[1]) for word in words if (found := re.fullmatch(rb"0*([0-9]{1,5})", word))]
+            if len(row) < len(words) or not are_in("addresses of a row", len(row)) or len(set(row)) < len(row) or max(row) >= group * q:
                 raise Refused(f"rows: line {number} is no row of addresses")
             rows.append(row)
-    if len(rows) != groups or len(text) > MAX_TEXT:
+    if len(rows) != groups or not are_in("bytes of a row file", len(text)):
         raise Refused(f"rows: there are not {groups} rows")
     return rows
 
 
-def read_head(file, each):
-    """Version, shape, scale and count of shares of the certificate that begins here. With --each, None at the end of the file."""
-    head = file.read(5)
-    if each and not head:
-        return None
-    if not b"S2ML".startswith(head[:4]) or head[4:] not in (b"", b"\x01", b"\x02"):
+def next_bytes(file, size):
+    """The next bytes of a certificate."""
+    found = file.read(size)
+    if len(found) < size:
+        raise Refused("certificate: cut")
+    return found
+
+
+def read_head(file, front):
+    """Version, shape, scale and number of entries of the certificate that begins with these bytes, five if it is whole."""
+    if not any((b"S2ML%c" % version).startswith(front) for version in VERSIONS):
         raise Refused("certificate: magic")
-    size = 12 if head[4:] == b"\x01" else 8
-    rest = file.read(size)
-    if len(rest) < size:
+    if len(front) < 5:
         raise Refused("certificate: cut")
-    group, groups, q, scale = struct.unpack(">4H", rest[:8])
-    if not 1 <= group <= 360 or not groups or not q or group * (groups + q) > MAX_BITS:
+    numbers = VERSIONS[front[4]][0]
+    group, groups, q, scale, *entries = struct.unpack(numbers, next_bytes(file, struct.calcsize(numbers)))
+    if not (are_in("group", group) and are_in("groups", groups) and are_in("q", q) and are_in("bits", group * (groups + q))):
         raise Refused("certificate: shape")
-    count = int.from_bytes(rest[8:], "big")
-    if not 1 <= scale <= MAX_SCALE or count > MAX_SHARES:
+    # without their number there is one for each check
+    [entries] = entries or [group * q]
+    if not (are_in("scale", scale) and are_in("entries", entries)):
         raise Refused("certificate: range")
-    return head[4], (group, groups, q), scale, count
+    return front[4], (group, groups, q), scale, entries
 
 
-def read_body(file, version, shape, count, alone):
-    """Soft values, word and split of a certificate. A single one must be the whole file."""
+def read_body(file, version, shape, entries, is_last):
+    """Soft values, word and split of a certificate. After the last one the file must end."""
     group, groups, q = shape
-    n = group * (groups + q)
-    packed = 2 * n + (n + 7) // 8
-    size = packed + (4 * count if version == 1 else 6 * group * q)
-    body = file.read(size)
-    if len(body) < size:
-        raise Refused("certificate: cut")
-    if alone and file.read(1):
+    n, entry = group * (groups + q), VERSIONS[version][1]
+    soft = struct.unpack(f">{n}h", next_bytes(file, 2 * n))
+    bits = [byte >> place & 1 for byte in next_bytes(file, (n + 7) // 8) for place in range(7, -1, -1)]
+    split = [*struct.iter_unpack(entry, next_bytes(file, entries * struct.calcsize(entry)))]
+    if is_last and file.read(1):
         raise Refused("certificate: extra")
-    soft = struct.unpack(f">{n}h", body[: 2 * n])
-    bits = [byte >> place & 1 for byte in body[2 * n : packed] for place in range(7, -1, -1)]
-    split = [*struct.iter_unpack(">HI", body[packed:])] if version == 2 else struct.unpack(f">{count}i", body[packed:])
-    wrong = version == 2 and any(amount > MAX_AMOUNT or place and not amount for place, amount in split)
-    if wrong or any(bits[n:]) or max(map(abs, soft)) > MAX_SOFT:
+    moves = [move for move in split if move[1:]]
+    are_moves = are_in("amount", *(amount for _, amount in moves)) and all(amount or not place for place, amount in moves)
+    if not (are_in("soft value", *soft) and are_in("padding bit", *bits[n:]) and are_moves):
         raise Refused("certificate: range")
     return soft, bits[:n], split
 
 
 def answers(text, file, each):
     """The line for each certificate of a file, as they come. The rows are those of the first one's shape."""
-    known, members = None, []
-    while head := read_head(file, each):
-        version, shape, scale, count = head
-        soft, word, split = read_body(file, version, shape, count, not each)
+    known, front = None, file.read(5)
+    while front or not each:
+        version, shape, scale, entries = read_head(file, front)
+        soft, word, split = read_body(file, version, shape, entries, not each)
         if known is None:
             known, members = shape, members_of(rows_of(text, *shape), *shape)
         shares = shares_of(members, word, version, split) if shape == known else None
         yield "no shape" if shares is None else checked(members, scale, soft, word, shares)
         if not each:
             return
+        front = file.read(5)
 
 
 def opened(name):
@@ -152,7 +171,7 @@ def check_files(rows, certificates, each):
     """Writes a line for each certificate, and returns whether all are accepted."""
     is_accepted = True
     with opened(rows) as file:
-        text = file.read(MAX_TEXT + 1)
+        text = file.read(RANGES["bytes of a row file"].stop)
     with opened(certificates) as file:
         for line in answers(text, file, each):
             written(line)

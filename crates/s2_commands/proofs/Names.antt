@@ -39,7 +39,8 @@ unfoldable pub use Rattle.s2_commands.specs.Refusals.{packet_note}
 pub use Rattle.s2_commands.specs.Receptions.{Demodulates, ReceivesToEnd}
 pub use Rattle.s2_commands.specs.Seeding.{FailsSeed, HearsRange, HearsSeed}
 unfoldable pub use Rattle.s2_commands.specs.Seeding.{HearsSeeds}
-pub use Rattle.s2_commands.specs.Sums.{nothing_received, received_sum, seeds_in}
+pub use Rattle.s2_commands.specs.Sums.{seeds_in}
+pub use Rattle.s2_receive.specs.Sums.{nothing_received, received_sum}
 pub use Rattle.s2_send.specs.Sinks.{Taking as SentTaking}
 pub use Rattle.s2_commands.specs.Refusals.{Sent, refusal_fault, refusal_note, refused_by, sent_by}
 pub use Rattle.s2_send.specs.declared.outcome.Counts.{Counts}

@@ -13,7 +13,8 @@ use Rattle.s2_words.specs.declared.request.Seeds.{Seeds}
 use Rattle.s2_commands.specs.Ends.{Ends}
 use Rattle.s2_commands.specs.NoisyReception.{kept_fault, Stops, hearing, Noised}
 use Rattle.s2_commands.specs.Receptions.{ReceivesToEnd}
-use Rattle.s2_commands.specs.Sums.{nothing_received, received_sum, seeds_in, sums_line}
+use Rattle.s2_commands.specs.Sums.{seeds_in, sums_line}
+use Rattle.s2_receive.specs.Sums.{nothing_received, received_sum}
 
 -- the symbols with noise are received, and the result is appended to the output so far
 abbrev pub HearsNoisy : {K : Type 0} → (takes fails : Taking K) → Rules → List ℕ → Result Exit Fault → (old new : Ends K) → Result Received Fault → Type 0

@@ -11,7 +11,7 @@ use crate::choices::{Channel, RunOptions};
 use crate::demod::receive_to_end;
 use crate::noise::add_noise;
 use crate::noisy_reception::kept_fault;
-use crate::sums::{nothing_received, received_sum, sums_line};
+use crate::sums::sums_line;
 use s2_console::Fault;
 use s2_files::{Destination, Output};
 use s2_link::Link;
@@ -80,7 +80,7 @@ fn receive_seeds<K: Sink, W: CountedWrite, O: CountedWrite>(
         CausesWith K.count (ends_of (ends packets.old out.old) sinks.old) (ends_of (ends packets.new out.new) sinks.new) result }
     ensures few { K.count sinks.new ≤ K.count sinks.old + 1 }
 {
-    let mut sum = nothing_received();
+    let mut sum = Received::none();
     'seeds: for seed in seeds.first..=seeds.last {
         let channel = Channel {
             seed,
@@ -96,7 +96,7 @@ fn receive_seeds<K: Sink, W: CountedWrite, O: CountedWrite>(
             packets,
             out,
         )?;
-        sum = received_sum(sum, received);
+        sum = sum.plus(received);
     }
     Ok(sum)
 }

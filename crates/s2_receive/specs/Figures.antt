@@ -19,22 +19,28 @@ abbrev pub sums_of : Figures → Sums
 sums_of f =
     record { changed = f.changed; known = f.known; payload = f.payload; known_power = f.known_correlation.power; payload_power = f.payload_correlation.power }
 
--- the sums over one frame more
-abbrev pub sums_with : Sums → Figures → Sums
-sums_with s f =
+-- two sums in one
+abbrev pub sums_plus : Sums → Sums → Sums
+sums_plus s t =
     record {
-      changed = tally_sum s.changed f.changed;
-      known = tally_sum s.known f.known;
-      payload = tally_sum s.payload f.payload;
-      known_power = saturated s.known_power f.known_correlation.power;
-      payload_power = saturated s.payload_power f.payload_correlation.power;
+      changed = tally_sum s.changed t.changed;
+      known = tally_sum s.known t.known;
+      payload = tally_sum s.payload t.payload;
+      known_power = saturated s.known_power t.known_power;
+      payload_power = saturated s.payload_power t.payload_power;
     }
+
+-- the sums of both, if any has them
+abbrev pub sums_of_both : Option Sums → Option Sums → Option Sums
+sums_of_both None later = later
+sums_of_both (Some s) None = Some s
+sums_of_both (Some s) (Some t) = Some (sums_plus s t)
 
 -- the sums after a frame, which has figures or not; there are none until a frame with figures comes
 abbrev pub sums_after : Option Sums → Option Figures → Option Sums
 sums_after sums None = sums
 sums_after None (Some f) = Some (sums_of f)
-sums_after (Some s) (Some f) = Some (sums_with s f)
+sums_after (Some s) (Some f) = Some (sums_plus s (sums_of f))
 
 -- 1 for a frame with a BCH word whose header is refused, else 0
 abbrev pub refused_in : Outcome → ℕ

@@ -4,6 +4,7 @@ pub mod Synchronization
 pub mod Faults
 pub mod Figures
 pub mod Receiving
+pub mod Sums
 pub mod Answers
 pub mod Sinks
 pub mod Decider

@@ -1,6 +1,6 @@
 //! Figures of the link: of a frame, and summed over frames.
 ghost use Rattle.std.specs.Prelude.{◌≡◌};
-ghost use Rattle.s2_receive.specs.Figures.{saturated, sums_after, sums_of, sums_with, tally_sum};
+ghost use Rattle.s2_receive.specs.Figures.{saturated, sums_after, sums_of, sums_of_both, sums_plus, tally_sum};
 
 /// A sum, and over how many bits or symbols it goes.
 #[derive(Clone, Copy, Debug, PartialEq, Eq)]
@@ -84,21 +84,28 @@ impl Sums {
         }
     }
 
-    /// The sums over one frame more.
-    fn plus(self, figures: Figures) -> Sums
-        ensures { result ≡ sums_with self figures }
+    /// Two sums in one. Each number stops at 2^64 - 1.
+    fn plus(self, other: Sums) -> Sums
+        ensures { result ≡ sums_plus self other }
     {
         Sums {
-            changed: self.changed.plus(figures.changed),
-            known: self.known.plus(figures.known),
-            payload: self.payload.plus(figures.payload),
-            known_power: self
-                .known_power
-                .saturating_add(figures.known_correlation.power),
-            payload_power: self
-                .payload_power
-                .saturating_add(figures.payload_correlation.power),
+            changed: self.changed.plus(other.changed),
+            known: self.known.plus(other.known),
+            payload: self.payload.plus(other.payload),
+            known_power: self.known_power.saturating_add(other.known_power),
+            payload_power: self.payload_power.saturating_add(other.payload_power),
         }
+    }
+}
+
+/// The sums of both, if any has them.
+pub(crate) fn sums_of_both(first: Option<Sums>, later: Option<Sums>) -> Option<Sums>
+    ensures { result ≡ sums_of_both first later }
+{
+    match (first, later) {
+        (None, later) => later,
+        (Some(first), None) => Some(first),
+        (Some(first), Some(later)) => Some(first.plus(later)),
     }
 }
 
@@ -109,6 +116,6 @@ pub(crate) fn sums_after(sums: Option<Sums>, figures: Option<Figures>) -> Option
     match (sums, figures) {
         (sums, None) => sums,
         (None, Some(figures)) => Some(Sums::of(figures)),
-        (Some(sums), Some(figures)) => Some(sums.plus(figures)),
+        (Some(sums), Some(figures)) => Some(sums.plus(Sums::of(figures))),
     }
 }

@@ -4,9 +4,10 @@ ghost use Rattle.s2_receive.specs.Faults.{fault_of};
 ghost use Rattle.s2_receive.specs.Figures.{refused_in};
 ghost use Rattle.s2_receive.specs.Receiving.{at_start, with_gap, cut_totals, frame_totals};
 ghost use Rattle.s2_receive.specs.Output.{IsFew};
+ghost use Rattle.s2_receive.specs.Sums.{nothing_received, received_sum, totals_sum};
 
 use crate::decider::Decided;
-use crate::figures::{Figures, Sums, sums_after};
+use crate::figures::{Figures, Sums, sums_after, sums_of_both};
 use crate::gap::Gap;
 use crate::packet_buffer::StepCounts;
 use s2_bbframe::HeaderFault;
@@ -98,7 +99,7 @@ pub struct Totals {
 
 impl Totals {
     /// No frames and no symbols.
-    pub(crate) fn none() -> Totals
+    pub fn none() -> Totals
         ensures { result ≡ at_start.totals }
     {
         Totals {
@@ -114,6 +115,31 @@ impl Totals {
             refused: 0,
             energy: 0,
             sums: None,
+        }
+    }
+
+    /// The totals of two receptions in one. Each number stops at 2^64 - 1. The first skipped symbol is that of the first
+    /// reception that has one.
+    pub fn plus(self, later: Totals) -> Totals
+        ensures { result ≡ totals_sum self later }
+    {
+        Totals {
+            frames: self.frames.saturating_add(later.frames),
+            delivered: self.delivered.saturating_add(later.delivered),
+            packets: self.packets.saturating_add(later.packets),
+            bad: self.bad.saturating_add(later.bad),
+            incomplete: self.incomplete.saturating_add(later.incomplete),
+            cut: self.cut || later.cut,
+            skipped: self.skipped.saturating_add(later.skipped),
+            places: self.places.saturating_add(later.places),
+            first: if self.places == 0 {
+                later.first
+            } else {
+                self.first
+            },
+            refused: self.refused.saturating_add(later.refused),
+            energy: self.energy.saturating_add(later.energy),
+            sums: sums_of_both(self.sums, later.sums),
         }
     }
 
@@ -177,6 +203,30 @@ pub struct Received {
     pub all_certified: bool,
     /// The number of symbols taken in all.
     pub symbols: u64,
+}
+
+impl Received {
+    /// No reception.
+    pub fn none() -> Received
+        ensures { result ≡ nothing_received }
+    {
+        Received {
+            totals: Totals::none(),
+            all_certified: true,
+            symbols: 0,
+        }
+    }
+
+    /// Two receptions in one. Each number stops at 2^64 - 1.
+    pub fn plus(self, later: Received) -> Received
+        ensures { result ≡ received_sum self later }
+    {
+        Received {
+            totals: self.totals.plus(later.totals),
+            all_certified: self.all_certified && later.all_certified,
+            symbols: self.symbols.saturating_add(later.symbols),
+        }
+    }
 }
 
 /// A step: a frame; a cut frame, with the symbol at which it begins and the number of its symbols; or the end.

@@ -33,6 +33,6 @@ returns-clause-hears g c = elim c.seeds-test.branch [
   | else-seeds-test w ↦ rw (w.sinks-is, w.packets-is, w.out-is, w.sum-is) (all_heard g.K.Sink.takes g.K.Sink.fails (link_rules c.args.link.now c.args.words.now.tuning max_symbols) c.args.words.now.channel c.args.symbols.now c.args.seeds.first _ _ _ _ c.seeds.sum
       (omega (arith, w.seeds-test.false, c.seeds.invariant.within)) c.seeds.invariant.heard)
   | then-seeds-test+in_ok-received+else-seed-seed-end w ↦ rw (w.sinks-is, w.packets-is, w.out-is, w.sum-is) (all_heard g.K.Sink.takes g.K.Sink.fails (link_rules c.args.link.now c.args.words.now.tuning max_symbols) c.args.words.now.channel c.args.symbols.now c.args.seeds.first
-      (c.seeds.seed + 1 - c.args.seeds.first) _ _ _ w.received_sum-sum.result (omega arith) (heard_next g.K.Sink.takes g.K.Sink.fails (link_rules c.args.link.now c.args.words.now.tuning max_symbols) c.args.words.now.channel c.args.symbols.now c.args.seeds.first c.seeds.seed _ _ _ c.seeds.sum
-      w.in_ok-received.received _ (omega arith) c.seeds.invariant.heard w.in_ok-received.ensures.hears w.received_sum-sum.ensures))
+      (c.seeds.seed + 1 - c.args.seeds.first) _ _ _ w.plus-sum.result (omega arith) (heard_next g.K.Sink.takes g.K.Sink.fails (link_rules c.args.link.now c.args.words.now.tuning max_symbols) c.args.words.now.channel c.args.symbols.now c.args.seeds.first c.seeds.seed _ _ _ c.seeds.sum
+      w.in_ok-received.received _ (omega arith) c.seeds.invariant.heard w.in_ok-received.ensures.hears w.plus-sum.ensures))
 ]
