@@ -1,5 +1,6 @@
 -- The structs that C shares (own).
-use Rattle.std.specs.Prelude.{◌≡◌, ℕ, Bool, pos, replicate, Option, Some, None, if◌then◌else◌, is_some}
+use Rattle.std.specs.Prelude.{◌≡◌, ℕ, ◌/◌, Bool, pos, replicate, Option, Some, None, if◌then◌else◌, is_some}
+use Rattle.s2_mode.specs.Mode.{Mode, n_of, k_of, kbch_of, q_of, width_of, symbols_in}
 use Rattle.s2_check.specs.declared.verdict.Verdict.{Verdict}
 use Rattle.s2_check.specs.declared.verdict.Verdict.TheVariants as verdicts
 use Rattle.s2_bbframe.specs.declared.header.HeaderFault.TheVariants as faults
@@ -11,6 +12,7 @@ use Rattle.s2_receive.specs.declared.report.Step.TheVariants as steps
 use Rattle.s2_receive.specs.declared.report.Totals.{Totals}
 use Rattle.s2_receive.specs.declared.figures.Figures.{Figures}
 use Rattle.s2_receive.specs.declared.figures.Sums.{Sums}
+use Rattle.s2_library.specs.declared.mode.ModeFields.{ModeFields}
 use Rattle.s2_library.specs.declared.step.StepFields.{StepFields}
 use Rattle.s2_library.specs.declared.totals.TotalsFields.{TotalsFields}
 use Rattle.s2_library.specs.declared.figures.FiguresFields.{FiguresFields}
@@ -18,6 +20,21 @@ use Rattle.s2_library.specs.declared.figures.FiguresFields.{FiguresFields}
 -- a truth as a number
 abbrev pub flag_of : Bool → ℕ
 flag_of truth = if truth then 1 else 0
+
+-- the numbers of a mode
+abbrev pub mode_fields : Mode → ModeFields
+mode_fields m = record {
+  size = 64;
+  n = n_of m;
+  k = k_of m;
+  kbch = kbch_of m;
+  bits = width_of m;
+  symbols = symbols_in m;
+  group = 360;
+  groups = k_of m / 360;
+  q = q_of m;
+  reserved = replicate 7 0;
+}
 
 -- the number of a verdict
 abbrev pub verdict_number : Verdict → ℕ

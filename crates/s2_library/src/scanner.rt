@@ -1,5 +1,5 @@
 //! Scanners of unknown recordings.
-ghost use Rattle.s2_library.specs.Slots.{Finds};
+ghost use Rattle.s2_library.specs.Slots.{Finds, FindsOf, IsNewScanner, KeepsBytes, KeepsBytesOf};
 
 use crate::refusal::Refusal;
 use crate::slot::Slot;
@@ -45,7 +45,9 @@ impl Drop for Scanner {
 }
 
 /// A scanner that has seen nothing.
-pub fn new_scanner(alloc: Global) -> Slot {
+pub fn new_scanner(alloc: Global) -> Slot
+    ensures { IsNewScanner result }
+{
     Slot::Scanner(Scanner {
         bytes: Vec::new(alloc),
         found: Vec::new(alloc),
@@ -53,16 +55,25 @@ pub fn new_scanner(alloc: Global) -> Slot {
 }
 
 /// Gives a scanner bytes of symbols.
-pub fn scan_feed(slot: &mut Slot, bytes: &[u8]) -> Result<(), Refusal> {
-    let Slot::Scanner(scanner) = slot else {
-        return Err(Refusal::OtherKind);
-    };
+fn feed(scanner: &mut Scanner, bytes: &[u8]) -> Result<(), Refusal>
+    ensures { KeepsBytes scanner.old scanner.new bytes.now result }
+{
     if bytes.len() > MOST || scanner.bytes.len() > MOST - bytes.len() {
         return Err(Refusal::TooMany);
     }
     match scanner.bytes.extend_from_slice(bytes) {
         Ok(()) => Ok(()),
         Err(_) => Err(Refusal::NoMemory),
+    }
+}
+
+/// Gives the scanner of a slot bytes of symbols.
+pub fn scan_feed(slot: &mut Slot, bytes: &[u8]) -> Result<(), Refusal>
+    ensures { KeepsBytesOf slot.old slot.new bytes.now result }
+{
+    match slot {
+        Slot::Scanner(scanner) => feed(scanner, bytes),
+        _ => Err(Refusal::OtherKind),
     }
 }
 
@@ -81,7 +92,9 @@ fn find(alloc: Global, scanner: &mut Scanner, count: &mut usize) -> Result<(), R
 }
 
 /// Searches the bytes of a slot's scanner so far, and gives the number of kinds of headers that were seen.
-pub fn scan_find(alloc: Global, slot: &mut Slot, count: &mut usize) -> Result<(), Refusal> {
+pub fn scan_find(alloc: Global, slot: &mut Slot, count: &mut usize) -> Result<(), Refusal>
+    ensures { FindsOf slot.old slot.new count.old count.new result }
+{
     match slot {
         Slot::Scanner(scanner) => find(alloc, scanner, count),
         _ => Err(Refusal::OtherKind),
