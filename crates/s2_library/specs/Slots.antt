@@ -1,5 +1,5 @@
 -- The contents of a slot, and the calls on them (own).
-use Rattle.std.specs.Prelude.{◌≡◌, ◌≢◌, ◌↔◌, ◌⊎◌, ℕ, ◌+◌, ◌/◌, ◌<◌, ◌≤◌, ℤ, List, [], ◌++◌, length, Bool, true, false, if◌then◌else◌, Option, Some, None, Result, Ok, Err, All}
+use Rattle.std.specs.Prelude.{◌≡◌, ◌≢◌, ◌↔◌, ◌⊎◌, ℕ, ◌+◌, ◌/◌, ◌<◌, ◌≤◌, ℤ, List, [], ◌++◌, length, slice_get, Bool, true, false, if◌then◌else◌, Option, Some, None, Result, Ok, Err, All}
 use Rattle.s2_mode.specs.Mode.{Mode}
 use Rattle.s2_bits.specs.Bits.{bytes_from}
 use Rattle.s2_scramble.specs.Baseband.{scrambled}
@@ -21,6 +21,7 @@ use Rattle.s2_matrix.specs.Code.{code_of}
 use Rattle.s2_judge.specs.Judging.{Judging}
 use Rattle.s2_judge.specs.Deciding.{decided}
 use Rattle.s2_scan.specs.Scanning.{AreHeadersOf}
+use Rattle.s2_scan.specs.declared.candidate.Candidate.{Candidate}
 use Rattle.s2_library.specs.Copying.{Copies, digits_of}
 use Rattle.s2_library.specs.declared.scanner.Scanner.{Scanner}
 use Rattle.s2_library.specs.Fields.{mode_fields, step_fields, verdict_number}
@@ -46,6 +47,16 @@ sender_in slot = None
 abbrev pub judge_in : Slot → Option Judging
 judge_in (slots.Judge j) = Some j
 judge_in slot = None
+
+-- the scanner of a slot
+abbrev pub scanner_in : Slot → Option Scanner
+scanner_in (slots.Scanner s) = Some s
+scanner_in slot = None
+
+-- what the last search of a scanner found at a place
+abbrev pub seen_in : Option Scanner → ℕ → Option (Option Candidate)
+seen_in None place = None
+seen_in (Some s) place = Some (slice_get s.found.items place)
 
 -- a list of a slot's contents, if they are of this kind
 abbrev pub listed : {X A : Type 0} → (X → List A) → Option X → Option (List A)

@@ -1,5 +1,7 @@
 //! Scanners of unknown recordings.
-ghost use Rattle.s2_library.specs.Slots.{Finds, FindsOf, IsNewScanner, KeepsBytes, KeepsBytesOf};
+ghost use Rattle.std.specs.Prelude.{◌≡◌, nat_eq, slice_get};
+ghost use Rattle.s2_library.specs.Fields as fields;
+ghost use Rattle.s2_library.specs.Slots.{Finds, FindsOf, GivesFieldsIf, IsNewScanner, KeepsBytes, KeepsBytesOf, scanner_in, seen_in};
 
 use crate::refusal::Refusal;
 use crate::slot::Slot;
@@ -102,7 +104,9 @@ pub fn scan_find(alloc: Global, slot: &mut Slot, count: &mut usize) -> Result<()
 }
 
 /// The fields of a kind of headers.
-fn fields_of(seen: &Candidate) -> SeenFields {
+fn fields_of(seen: Candidate) -> SeenFields
+    ensures { result ≡ fields.seen_fields seen }
+{
     let form = seen.form % 8;
     SeenFields {
         size: SIZE,
@@ -122,15 +126,24 @@ fn fields_of(seen: &Candidate) -> SeenFields {
     }
 }
 
+/// The kind of headers that the last search found at a place.
+fn seen_at(scanner: &Scanner, place: usize) -> Option<Candidate>
+    ensures { result ≡ slice_get scanner.now.found.items place }
+{
+    scanner.found.get(place).copied()
+}
+
 /// Gives the kind of headers that the last search found at a place.
-pub fn scan_at(slot: &Slot, place: usize, out: &mut SeenFields) -> Result<(), Refusal> {
+pub fn scan_at(slot: &Slot, place: usize, out: &mut SeenFields) -> Result<(), Refusal>
+    ensures { GivesFieldsIf fields.seen_fields (seen_in (scanner_in slot.now) place) (nat_eq out.old.size 96) out.old out.new result }
+{
     let Slot::Scanner(scanner) = slot else {
         return Err(Refusal::OtherKind);
     };
     if out.size != SIZE {
         return Err(Refusal::BadSize);
     }
-    match scanner.found.get(place) {
+    match seen_at(scanner, place) {
         Some(seen) => {
             *out = fields_of(seen);
             Ok(())
