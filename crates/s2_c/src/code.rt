@@ -1,4 +1,16 @@
 //! The exports of codes and modes, and those without a handle.
+ghost use Rattle.std.specs.Prelude.{◌≡◌, ◌↔◌, false, None, Some, Err};
+ghost use Rattle.s2_mode.specs.Mode.{mode_of};
+ghost use Rattle.s2_mode.specs.Shape.{shape_of};
+ghost use Rattle.s2_library.specs.declared.slot.Slot.{Slot};
+ghost use Rattle.s2_library.specs.Asked.{is_set};
+ghost use Rattle.s2_library.specs.Codes.{GivesFacts, HasCodeOf, HasCodeOfShape, code_in};
+ghost use Rattle.s2_library.specs.Copying.{CopiesSome};
+ghost use Rattle.s2_library.specs.Results.{answer_of};
+ghost use Rattle.s2_library.specs.Shelves.{Finds, HasShelved, IsNewShelf, shelf_in};
+ghost use Rattle.s2_library.specs.Slots.{GivesMode};
+ghost use Rattle.s2_c.specs.Handles.{Fills};
+
 use crate::handle::{Handle, fill};
 use s2_library::{
     ModeFields, Refusal, code_facts, copy_bytes, mode_fields, new_code, new_shelf, result_number,
@@ -8,13 +20,17 @@ use std::alloc::Global;
 
 /// The version of the library.
 #[unsafe(no_mangle)]
-pub extern "C" fn s2_version() -> u32 {
+pub extern "C" fn s2_version() -> u32
+    ensures { result ≡ 1 }
+{
     1
 }
 
 /// Copies the text of a result.
 #[unsafe(no_mangle)]
-pub extern "C" fn s2_error_text(number: i32, out: &mut [u8], count: &mut usize) -> i32 {
+pub extern "C" fn s2_error_text(number: i32, out: &mut [u8], count: &mut usize) -> i32
+    ensures { CopiesSome out.old out.new count.new (answer_of result) }
+{
     result_number(copy_bytes(text_of(number).as_bytes(), out, count))
 }
 
@@ -25,7 +41,9 @@ pub extern "C" fn s2_mode_of(
     is_short: u32,
     has_pilots: u32,
     mode: &mut ModeFields,
-) -> i32 {
+) -> i32
+    ensures { GivesMode (mode_of modcod (is_set is_short) (is_set has_pilots)) mode.old mode.new (answer_of result) }
+{
     result_number(mode_fields(modcod, is_short, has_pilots, mode))
 }
 
@@ -37,7 +55,9 @@ pub extern "C" fn s2_code_new(
     modcod: u32,
     is_short: u32,
     code: &mut Handle,
-) -> i32 {
+) -> i32
+    ensures { Fills (HasCodeOf text.now (mode_of modcod (is_set is_short) false)) code.old.cell.value code.new.cell.value (answer_of result) }
+{
     if code.live != 0 {
         return Refusal::InUse.number();
     }
@@ -53,7 +73,9 @@ pub extern "C" fn s2_code_of_shape(
     groups: u32,
     q: u32,
     code: &mut Handle,
-) -> i32 {
+) -> i32
+    ensures { Fills (HasCodeOfShape text.now (shape_of group groups q)) code.old.cell.value code.new.cell.value (answer_of result) }
+{
     if code.live != 0 {
         return Refusal::InUse.number();
     }
@@ -68,7 +90,11 @@ pub extern "C" fn s2_code_facts(
     n: &mut u32,
     k: &mut u32,
     is_standard: &mut u32,
-) -> i32 {
+) -> i32
+    ensures empty { code.old.cell.value ≡ None → (answer_of result ≡ Err Refusal.Empty) × (n.new ≡ n.old) × (k.new ≡ k.old) × (is_standard.new ≡ is_standard.old) }
+    ensures full { (s : Slot) → code.old.cell.value ≡ Some s → GivesFacts (code_in s) n.old n.new k.old k.new is_standard.old is_standard.new (answer_of result) }
+    ensures kept { code.new.cell.value ≡ code.old.cell.value }
+{
     let Some(slot) = code.open(alloc) else {
         return Refusal::Empty.number();
     };
@@ -79,7 +105,9 @@ pub extern "C" fn s2_code_facts(
 
 /// Makes an empty shelf.
 #[unsafe(no_mangle)]
-pub extern "C" fn s2_shelf_new(alloc: Global, shelf: &mut Handle) -> i32 {
+pub extern "C" fn s2_shelf_new(alloc: Global, shelf: &mut Handle) -> i32
+    ensures { Fills IsNewShelf shelf.old.cell.value shelf.new.cell.value (answer_of result) }
+{
     if shelf.live != 0 {
         return Refusal::InUse.number();
     }
@@ -95,7 +123,12 @@ pub extern "C" fn s2_shelf_code(
     modcod: u32,
     is_short: u32,
     code: &mut Handle,
-) -> i32 {
+) -> i32
+    ensures empty { shelf.old.cell.value ≡ None → code.old.cell.value ≡ None → (answer_of result ≡ Err Refusal.Empty) × (code.new.cell.value ≡ None) }
+    ensures made { (s t : Slot) → shelf.old.cell.value ≡ Some s → shelf.new.cell.value ≡ Some t → Fills (HasShelved text.now (mode_of modcod (is_set is_short) false) (shelf_in t)) code.old.cell.value code.new.cell.value (answer_of result) }
+    ensures again { (s t : Slot) → shelf.old.cell.value ≡ Some s → shelf.new.cell.value ≡ Some t → Finds text.now (mode_of modcod (is_set is_short) false) (shelf_in s) (shelf_in t) }
+    ensures kept { (shelf.new.cell.value ≡ None) ↔ (shelf.old.cell.value ≡ None) }
+{
     if code.live != 0 {
         return Refusal::InUse.number();
     }

@@ -1,5 +1,7 @@
 //! Handles.
-ghost use Rattle.std.specs.Prelude.{◌≡◌, ◌↔◌, None, Some, MatchOption};
+ghost use Rattle.std.specs.Prelude.{◌≡◌, ◌↔◌, None, Ok, Some, Err, IfErr, MatchOption};
+ghost use Rattle.s2_library.specs.Results.{answer_of};
+ghost use Rattle.s2_c.specs.Handles.{Fills};
 
 use crate::cell::Cell;
 use crate::loose::Loose;
@@ -41,6 +43,8 @@ impl Handle {
 /// Puts a new slot into an empty handle, and returns the number of the result.
 pub(crate) fn fill(alloc: Global, made: Result<Slot, Refusal>, handle: &mut Handle) -> i32
     requires { handle.old.cell.value ≡ None }
+    ensures fills { Fills (λ slot. made ≡ Ok slot) None handle.new.cell.value (answer_of result) }
+    ensures refused { IfErr made (λ refusal. (answer_of result ≡ Err refusal) × (handle.new.cell.value ≡ None)) }
 {
     match made {
         Ok(slot) => match Box::new(alloc, slot) {

@@ -1,9 +1,13 @@
 //! The exports of judges, and of the checker.
-ghost use Rattle.std.specs.Prelude.{◌≡◌, ◌↔◌, None, Some, Err};
+ghost use Rattle.std.specs.Prelude.{◌≡◌, ◌↔◌, None, Some, Err, IfSome};
 ghost use Rattle.s2_library.specs.declared.slot.Slot.{Slot};
+ghost use Rattle.s2_library.specs.Asked.{IsJudgeOf};
+ghost use Rattle.s2_library.specs.Checked.{ChecksFile};
+ghost use Rattle.s2_library.specs.Codes.{code_in};
 ghost use Rattle.s2_library.specs.Results.{answer_of};
 ghost use Rattle.s2_library.specs.Copying.{digits_of};
-ghost use Rattle.s2_library.specs.Slots.{CopiesOf, DecidesOnOf, judge_in, listed};
+ghost use Rattle.s2_library.specs.Slots.{CopiesMadeOf, CopiesOf, DecidesOnOf, decided_file, judge_in, listed};
+ghost use Rattle.s2_c.specs.Handles.{Fills};
 
 use crate::handle::{Handle, fill};
 use s2_library::{
@@ -19,7 +23,11 @@ pub extern "C" fn s2_judge_new(
     code: &mut Handle,
     options: &Options,
     judge: &mut Handle,
-) -> i32 {
+) -> i32
+    ensures empty { code.old.cell.value ≡ None → judge.old.cell.value ≡ None → (answer_of result ≡ Err Refusal.Empty) × (judge.new.cell.value ≡ None) }
+    ensures made { (s : Slot) → code.old.cell.value ≡ Some s → Fills (λ slot. IfSome (code_in s) (λ c. IsJudgeOf options.now c.matrix.now slot)) judge.old.cell.value judge.new.cell.value (answer_of result) }
+    ensures kept { code.new.cell.value ≡ code.old.cell.value }
+{
     if judge.live != 0 {
         return Refusal::InUse.number();
     }
@@ -78,7 +86,11 @@ pub extern "C" fn s2_judge_certificate(
     judge: &mut Handle,
     out: &mut [u8],
     count: &mut usize,
-) -> i32 {
+) -> i32
+    ensures empty { judge.old.cell.value ≡ None → (answer_of result ≡ Err Refusal.Empty) × (out.new ≡ out.old) × (count.new ≡ count.old) }
+    ensures full { (s : Slot) → judge.old.cell.value ≡ Some s → CopiesMadeOf (decided_file (judge_in s)) out.old out.new count.old count.new (answer_of result) }
+    ensures kept { judge.new.cell.value ≡ judge.old.cell.value }
+{
     let Some(slot) = judge.open(alloc) else {
         return Refusal::Empty.number();
     };
@@ -94,7 +106,11 @@ pub extern "C" fn s2_check(
     code: &mut Handle,
     bytes: &[u8],
     checked: &mut CheckedFields,
-) -> i32 {
+) -> i32
+    ensures empty { code.old.cell.value ≡ None → (answer_of result ≡ Err Refusal.Empty) × (checked.new ≡ checked.old) }
+    ensures full { (s : Slot) → code.old.cell.value ≡ Some s → ChecksFile (code_in s) bytes.now checked.old checked.new (answer_of result) }
+    ensures kept { code.new.cell.value ≡ code.old.cell.value }
+{
     let Some(slot) = code.open(alloc) else {
         return Refusal::Empty.number();
     };

@@ -1,10 +1,13 @@
 //! The exports of receivers.
-ghost use Rattle.std.specs.Prelude.{◌≡◌, ◌↔◌, None, Some, Err, nat_eq};
+ghost use Rattle.std.specs.Prelude.{◌≡◌, ◌↔◌, None, Some, Err, IfSome, nat_eq};
 ghost use Rattle.s2_library.specs.declared.slot.Slot.{Slot};
+ghost use Rattle.s2_library.specs.Asked.{IsReceiverOf};
+ghost use Rattle.s2_library.specs.Codes.{code_in};
 ghost use Rattle.s2_library.specs.Results.{answer_of};
 ghost use Rattle.s2_library.specs.Copying.{digits_of};
 ghost use Rattle.s2_library.specs.Fields as fields;
-ghost use Rattle.s2_library.specs.Slots.{AdvancesSlot, CopiesOf, Gives, GivesFields, GivesFieldsIf, ResetsSlot, last_figures, listed, reception_in, receiver_in, room_in, sums_in, totals_in};
+ghost use Rattle.s2_c.specs.Handles.{Fills};
+ghost use Rattle.s2_library.specs.Slots.{AdvancesSlot, CopiesMadeOf, CopiesOf, Gives, GivesFields, GivesFieldsIf, ResetsSlot, bbframe_in, last_figures, listed, received_file, reception_in, receiver_in, room_in, sums_in, totals_in};
 
 use crate::handle::{Handle, fill};
 use s2_library::{
@@ -21,7 +24,11 @@ pub extern "C" fn s2_receiver_new(
     code: &mut Handle,
     options: &Options,
     receiver: &mut Handle,
-) -> i32 {
+) -> i32
+    ensures empty { code.old.cell.value ≡ None → receiver.old.cell.value ≡ None → (answer_of result ≡ Err Refusal.Empty) × (receiver.new.cell.value ≡ None) }
+    ensures made { (s : Slot) → code.old.cell.value ≡ Some s → Fills (λ slot. IfSome (code_in s) (λ c. IsReceiverOf options.now c.matrix.now slot)) receiver.old.cell.value receiver.new.cell.value (answer_of result) }
+    ensures kept { code.new.cell.value ≡ code.old.cell.value }
+{
     if receiver.live != 0 {
         return Refusal::InUse.number();
     }
@@ -150,7 +157,11 @@ pub extern "C" fn s2_receiver_bbframe(
     receiver: &mut Handle,
     out: &mut [u8],
     count: &mut usize,
-) -> i32 {
+) -> i32
+    ensures empty { receiver.old.cell.value ≡ None → (answer_of result ≡ Err Refusal.Empty) × (out.new ≡ out.old) × (count.new ≡ count.old) }
+    ensures full { (s : Slot) → receiver.old.cell.value ≡ Some s → CopiesMadeOf (bbframe_in (reception_in s)) out.old out.new count.old count.new (answer_of result) }
+    ensures kept { receiver.new.cell.value ≡ receiver.old.cell.value }
+{
     let Some(slot) = receiver.open(alloc) else {
         return Refusal::Empty.number();
     };
@@ -166,7 +177,11 @@ pub extern "C" fn s2_receiver_certificate(
     receiver: &mut Handle,
     out: &mut [u8],
     count: &mut usize,
-) -> i32 {
+) -> i32
+    ensures empty { receiver.old.cell.value ≡ None → (answer_of result ≡ Err Refusal.Empty) × (out.new ≡ out.old) × (count.new ≡ count.old) }
+    ensures full { (s : Slot) → receiver.old.cell.value ≡ Some s → CopiesMadeOf (received_file (receiver_in s)) out.old out.new count.old count.new (answer_of result) }
+    ensures kept { receiver.new.cell.value ≡ receiver.old.cell.value }
+{
     let Some(slot) = receiver.open(alloc) else {
         return Refusal::Empty.number();
     };

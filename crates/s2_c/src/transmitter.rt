@@ -1,9 +1,12 @@
 //! The exports of transmitters.
-ghost use Rattle.std.specs.Prelude.{◌≡◌, ◌↔◌, None, Some, Err};
+ghost use Rattle.std.specs.Prelude.{◌≡◌, ◌↔◌, None, Some, Err, IfSome};
 ghost use Rattle.s2_library.specs.declared.slot.Slot.{Slot};
+ghost use Rattle.s2_library.specs.Asked.{IsSenderOf};
+ghost use Rattle.s2_library.specs.Codes.{code_in};
 ghost use Rattle.s2_library.specs.Results.{answer_of};
 ghost use Rattle.s2_library.specs.Copying.{digits_of};
-ghost use Rattle.s2_library.specs.Slots.{ClosesStreamOf, CopiesOf, PutsPacketsOf, TakesFrameOf, listed, sender_in};
+ghost use Rattle.s2_library.specs.Slots.{ClosesStreamOf, CopiesOf, GivesCounts, GivesReady, PutsPacketsOf, RestartsOf, TakesFrameOf, listed, sender_in};
+ghost use Rattle.s2_c.specs.Handles.{Fills};
 
 use crate::handle::{Handle, fill};
 use s2_library::{
@@ -20,7 +23,11 @@ pub extern "C" fn s2_transmitter_new(
     code: &mut Handle,
     options: &Options,
     transmitter: &mut Handle,
-) -> i32 {
+) -> i32
+    ensures empty { code.old.cell.value ≡ None → transmitter.old.cell.value ≡ None → (answer_of result ≡ Err Refusal.Empty) × (transmitter.new.cell.value ≡ None) }
+    ensures made { (s : Slot) → code.old.cell.value ≡ Some s → Fills (λ slot. IfSome (code_in s) (λ c. IsSenderOf options.now c.matrix.now slot)) transmitter.old.cell.value transmitter.new.cell.value (answer_of result) }
+    ensures kept { code.new.cell.value ≡ code.old.cell.value }
+{
     if transmitter.live != 0 {
         return Refusal::InUse.number();
     }
@@ -73,7 +80,11 @@ pub extern "C" fn s2_transmitter_ready(
     alloc: Global,
     transmitter: &mut Handle,
     is_ready: &mut u32,
-) -> i32 {
+) -> i32
+    ensures empty { transmitter.old.cell.value ≡ None → (answer_of result ≡ Err Refusal.Empty) × (is_ready.new ≡ is_ready.old) }
+    ensures full { (s : Slot) → transmitter.old.cell.value ≡ Some s → GivesReady (sender_in s) is_ready.old is_ready.new (answer_of result) }
+    ensures kept { transmitter.new.cell.value ≡ transmitter.old.cell.value }
+{
     let Some(slot) = transmitter.open(alloc) else {
         return Refusal::Empty.number();
     };
@@ -149,7 +160,11 @@ pub extern "C" fn s2_transmitter_counts(
     transmitter: &mut Handle,
     packets: &mut u64,
     frames: &mut u64,
-) -> i32 {
+) -> i32
+    ensures empty { transmitter.old.cell.value ≡ None → (answer_of result ≡ Err Refusal.Empty) × (packets.new ≡ packets.old) × (frames.new ≡ frames.old) }
+    ensures full { (s : Slot) → transmitter.old.cell.value ≡ Some s → GivesCounts (sender_in s) packets.old packets.new frames.old frames.new (answer_of result) }
+    ensures kept { transmitter.new.cell.value ≡ transmitter.old.cell.value }
+{
     let Some(slot) = transmitter.open(alloc) else {
         return Refusal::Empty.number();
     };
@@ -160,7 +175,11 @@ pub extern "C" fn s2_transmitter_counts(
 
 /// Begins a new stream.
 #[unsafe(no_mangle)]
-pub extern "C" fn s2_transmitter_reset(alloc: Global, transmitter: &mut Handle) -> i32 {
+pub extern "C" fn s2_transmitter_reset(alloc: Global, transmitter: &mut Handle) -> i32
+    ensures empty { transmitter.old.cell.value ≡ None → answer_of result ≡ Err Refusal.Empty }
+    ensures full { (s t : Slot) → transmitter.old.cell.value ≡ Some s → transmitter.new.cell.value ≡ Some t → RestartsOf s t (answer_of result) }
+    ensures kept { (transmitter.new.cell.value ≡ None) ↔ (transmitter.old.cell.value ≡ None) }
+{
     let Some(mut slot) = transmitter.open(alloc) else {
         return Refusal::Empty.number();
     };

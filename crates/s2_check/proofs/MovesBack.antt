@@ -79,4 +79,4 @@ moves_listed code word scale ms all h unmoved =
     ))
 
 pub moves_back : MovesBack
-moves_back code word scale ms h = moves_listed code word scale ms h.moves_long h.targets (λ j low. h.unmoved j)
+moves_back code word scale ms h = moves_listed code word scale ms h.moves.long h.moves.targets (λ j low. h.moves.unmoved j)

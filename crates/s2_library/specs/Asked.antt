@@ -4,7 +4,7 @@ use Rattle.s2_mode.specs.Mode.{Mode, mode_of}
 use Rattle.s2_rows.specs.Rows.{Rows}
 use Rattle.s2_link.specs.Link.{Link, link_of}
 use Rattle.s2_tuning.specs.Tuning.{Tuning}
-use Rattle.s2_tuning.specs.Wanted.{tuning_by}
+use Rattle.s2_tuning.specs.Wanted.{tuning_by, judging_by}
 use Rattle.s2_tuning.specs.declared.wanted.Number.{Number}
 use Rattle.s2_tuning.specs.declared.wanted.Wanted.{Wanted}
 use Rattle.s2_modem.specs.Reception.{IsNew}
@@ -75,3 +75,13 @@ abbrev pub IsSenderOf : Options → Rows → Slot → Type 0
 IsSenderOf o rows (slots.Transmitter s) =
     (s.link ≡ link_in o rows) × (s.dummy_every ≡ o.dummy_every) × (s.stream ≡ at_first (field_bytes (mode_in o)) max_packets)
 IsSenderOf o rows slot = ⊥
+
+-- the tuning of a judge: that of the mode of options, or without a mode that of their passes and factor
+abbrev pub judging_in : Options → Tuning
+judging_in o =
+    if nat_eq o.modcod 0 then judging_by (wanted_by (flags_of o) o).passes.value (wanted_by (flags_of o) o).factor.value (is_set o.uncertified) else tuning_in o
+
+-- a judge of these rows, with the tuning of options
+abbrev pub IsJudgeOf : Options → Rows → Slot → Type 0
+IsJudgeOf o rows (slots.Judge j) = (j.rows ≡ rows) × (j.tuning ≡ judging_in o)
+IsJudgeOf o rows slot = ⊥

@@ -1,5 +1,6 @@
 -- The structs that C shares (own).
-use Rattle.std.specs.Prelude.{◌≡◌, ℕ, Bool, pos, replicate, Option, Some, None, if◌then◌else◌, is_some}
+use Rattle.std.specs.Prelude.{◌≡◌, ℕ, ◌-◌, ◌/◌, ◌%◌, min, nat_le, Bool, pos, replicate, Option, Some, None, if◌then◌else◌, is_some}
+use Rattle.s2_mode.specs.Mode.{Mode, n_of, k_of, kbch_of, q_of, width_of, symbols_in}
 use Rattle.s2_check.specs.declared.verdict.Verdict.{Verdict}
 use Rattle.s2_check.specs.declared.verdict.Verdict.TheVariants as verdicts
 use Rattle.s2_bbframe.specs.declared.header.HeaderFault.TheVariants as faults
@@ -11,13 +12,31 @@ use Rattle.s2_receive.specs.declared.report.Step.TheVariants as steps
 use Rattle.s2_receive.specs.declared.report.Totals.{Totals}
 use Rattle.s2_receive.specs.declared.figures.Figures.{Figures}
 use Rattle.s2_receive.specs.declared.figures.Sums.{Sums}
+use Rattle.s2_library.specs.declared.mode.ModeFields.{ModeFields}
 use Rattle.s2_library.specs.declared.step.StepFields.{StepFields}
+use Rattle.s2_scan.specs.declared.candidate.Candidate.{Candidate}
+use Rattle.s2_library.specs.declared.scanner.SeenFields.{SeenFields}
 use Rattle.s2_library.specs.declared.totals.TotalsFields.{TotalsFields}
 use Rattle.s2_library.specs.declared.figures.FiguresFields.{FiguresFields}
 
 -- a truth as a number
 abbrev pub flag_of : Bool → ℕ
 flag_of truth = if truth then 1 else 0
+
+-- the numbers of a mode
+abbrev pub mode_fields : Mode → ModeFields
+mode_fields m = record {
+  size = 64;
+  n = n_of m;
+  k = k_of m;
+  kbch = kbch_of m;
+  bits = width_of m;
+  symbols = symbols_in m;
+  group = 360;
+  groups = k_of m / 360;
+  q = q_of m;
+  reserved = replicate 7 0;
+}
 
 -- the number of a verdict
 abbrev pub verdict_number : Verdict → ℕ
@@ -139,4 +158,23 @@ sums_fields s = record {
   payload_power = s.payload_power;
   payload_along = pos 0;
   payload_across = pos 0;
+}
+
+-- A kind of headers that a scanner has seen. Its form says in which way the symbols are changed
+abbrev pub seen_fields : Candidate → SeenFields
+seen_fields c = record {
+  size = 96;
+  modcod = min (c.header / 4) 28;
+  is_short = c.header / 2 % 2;
+  has_pilots = c.header % 2;
+  turn = (4 - c.form % 8 % 4) % 4;
+  conjugate = flag_of (nat_le 4 (c.form % 8));
+  little_endian = flag_of (nat_le 8 c.form);
+  reserved0 = 0;
+  seen = c.seen;
+  pairs = c.pairs;
+  first = c.first;
+  every = c.every;
+  amplitude = c.amplitude;
+  reserved = replicate 3 0;
 }

@@ -1,4 +1,5 @@
 pub mod Asked
+pub mod Checked
 pub mod Codes
 pub mod Copying
 pub mod Fields

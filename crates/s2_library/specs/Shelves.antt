@@ -32,6 +32,11 @@ abbrev pub shelf_in : Slot → List Rows
 shelf_in (slots.Shelf shelf) = shelf
 shelf_in slot = []
 
+-- an empty shelf
+abbrev pub IsNewShelf : Slot → Type 0
+IsNewShelf (slots.Shelf shelf) = shelf ≡ []
+IsNewShelf slot = ⊥
+
 -- a slot with such a code
 abbrev pub HasShelved : List ℕ → Mode → List Rows → Slot → Type 0
 HasShelved text mode shelf (slots.Code code) = IsShelved text mode shelf code

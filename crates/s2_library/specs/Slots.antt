@@ -1,23 +1,31 @@
 -- The contents of a slot, and the calls on them (own).
-use Rattle.std.specs.Prelude.{◌≡◌, ◌≢◌, ℕ, ◌<◌, ◌≤◌, ℤ, List, length, Bool, true, false, Option, Some, None, Result, Ok, Err, All}
+use Rattle.std.specs.Prelude.{◌≡◌, ◌≢◌, ◌↔◌, ◌⊎◌, ℕ, ◌+◌, ◌/◌, ◌<◌, ◌≤◌, ℤ, List, [], ◌++◌, length, slice_get, Bool, true, false, if◌then◌else◌, Option, Some, None, Result, Ok, Err, All}
+use Rattle.s2_mode.specs.Mode.{Mode}
+use Rattle.s2_bits.specs.Bits.{bytes_from}
+use Rattle.s2_scramble.specs.Baseband.{scrambled}
+use Rattle.s2_check.specs.CertificateBytes.{bytes_of}
+use Rattle.s2_check.specs.Views.{View, IsSoft}
 use Rattle.s2_receive.specs.Receiving.{asked}
 use Rattle.s2_receive.specs.declared.report.Totals.{Totals}
-use Rattle.s2_modem.specs.Reception.{Receiver, IsNew, rules_for, seen}
-use Rattle.s2_send.specs.Sender.{Sender, Closes, MakesFrame, PutsBytes, ended}
-use Rattle.s2_bbframe.specs.DataStream.{IsReady}
+use Rattle.s2_modem.specs.Reception.{Receiver, IsNew, certificate_of, rules_for, seen}
+use Rattle.s2_send.specs.Sender.{Sender, MakesFrame, PutsBytes, at_first, ended}
+use Rattle.s2_bbframe.specs.DataStream.{IsReady, field_bytes}
 use Rattle.s2_receive.specs.Answers.{Advances}
+use Rattle.s2_receive.specs.declared.report.Outcome.{Outcome}
+use Rattle.s2_receive.specs.declared.report.Outcome.TheVariants as outcomes
 use Rattle.s2_receive.specs.declared.report.Step.{Step}
 use Rattle.s2_receive.specs.declared.report.Step.TheVariants as steps
 use Rattle.s2_receive.specs.declared.figures.Figures.{Figures}
 use Rattle.s2_receive.specs.declared.figures.Sums.{Sums}
-use Rattle.s2_check.specs.Views.{IsSoft}
 use Rattle.s2_matrix.specs.Code.{code_of}
 use Rattle.s2_judge.specs.Judging.{Judging}
 use Rattle.s2_judge.specs.Deciding.{decided}
 use Rattle.s2_scan.specs.Scanning.{AreHeadersOf}
+use Rattle.s2_scan.specs.declared.candidate.Candidate.{Candidate}
 use Rattle.s2_library.specs.Copying.{Copies, digits_of}
 use Rattle.s2_library.specs.declared.scanner.Scanner.{Scanner}
-use Rattle.s2_library.specs.Fields.{step_fields, verdict_number}
+use Rattle.s2_library.specs.Fields.{mode_fields, step_fields, verdict_number}
+use Rattle.s2_library.specs.declared.mode.ModeFields.{ModeFields}
 use Rattle.s2_library.specs.declared.step.StepFields.{StepFields}
 use Rattle.s2_library.specs.declared.refusal.Refusal.{Refusal}
 use Rattle.s2_library.specs.declared.refusal.Refusal.TheVariants.{OtherKind, BadSize, BadSoft, Closed, TooMany, NoneThere, NoMemory}
@@ -39,6 +47,16 @@ sender_in slot = None
 abbrev pub judge_in : Slot → Option Judging
 judge_in (slots.Judge j) = Some j
 judge_in slot = None
+
+-- the scanner of a slot
+abbrev pub scanner_in : Slot → Option Scanner
+scanner_in (slots.Scanner s) = Some s
+scanner_in slot = None
+
+-- what the last search of a scanner found at a place
+abbrev pub seen_in : Option Scanner → ℕ → Option (Option Candidate)
+seen_in None place = None
+seen_in (Some s) place = Some (slice_get s.found.items place)
 
 -- a list of a slot's contents, if they are of this kind
 abbrev pub listed : {X A : Type 0} → (X → List A) → Option X → Option (List A)
@@ -65,6 +83,45 @@ abbrev pub reception_in : Slot → Option Reception
 reception_in (slots.Receiver r) = Some r
 reception_in slot = None
 
+-- A list of a slot that may be missing is copied to a buffer. It takes memory to make it
+abbrev pub CopiesMadeOf : Option (Option (List ℕ)) → (old new : List ℕ) → (n m : ℕ) → Result (Unit {0}) Refusal → Type 0
+CopiesMadeOf None old new n m result = (result ≡ Err OtherKind) × (new ≡ old) × (m ≡ n)
+CopiesMadeOf (Some None) old new n m result = (result ≡ Err NoneThere) × (new ≡ old) × (m ≡ n)
+CopiesMadeOf (Some (Some items)) old new n m result = Copies items old new m result ⊎ ((result ≡ Err NoMemory) × (new ≡ old) × (m ≡ n))
+
+-- the file of a certificate
+abbrev pub file_in : Option View → Option (List ℕ)
+file_in None = None
+file_in (Some view) = Some (bytes_of view)
+
+-- the file of the certificate of a judge's last decision
+abbrev pub decided_file : Option Judging → Option (Option (List ℕ))
+decided_file None = None
+decided_file (Some j) = Some (file_in j.certificate)
+
+-- the file of the certificate of a receiver's last step
+abbrev pub received_file : Option Receiver → Option (Option (List ℕ))
+received_file None = None
+received_file (Some r) = Some (file_in (certificate_of r))
+
+-- whether a step is a delivered frame
+abbrev pub is_delivered_by : Outcome → Bool
+is_delivered_by (outcomes.Delivered fixed) = true
+is_delivered_by outcome = false
+
+abbrev pub is_delivered : Option Step → Bool
+is_delivered (Some (steps.Frame report)) = is_delivered_by report.outcome
+is_delivered step = false
+
+-- the bytes of a message, descrambled
+abbrev pub message_bytes : List Bool → List ℕ
+message_bytes message = bytes_from 0 (length message / 8) (scrambled message)
+
+-- the BBFRAME of a receiver's last step, if that is a delivered frame
+abbrev pub bbframe_in : Option Reception → Option (Option (List ℕ))
+bbframe_in None = None
+bbframe_in (Some r) = Some (if is_delivered r.step then Some (message_bytes r.receiver.last.message) else None)
+
 -- the figures of a step
 abbrev pub figures_in : Option Step → Option Figures
 figures_in (Some (steps.Frame report)) = report.figures
@@ -90,6 +147,11 @@ abbrev pub GivesFields : {A F : Type 0} → (A → F) → Option A → (is_sized
 GivesFields fields None is_sized old new result = (result ≡ Err OtherKind) × (new ≡ old)
 GivesFields fields (Some x) false old new result = (result ≡ Err BadSize) × (new ≡ old)
 GivesFields fields (Some x) true old new result = (result ≡ Ok tt) × (new ≡ fields x)
+
+-- the numbers of a mode are written, or the struct is unchanged
+abbrev pub GivesMode : Mode → (old new : ModeFields) → Result (Unit {0}) Refusal → Type 0
+GivesMode m old new (Ok done) = new ≡ mode_fields m
+GivesMode m old new (Err refusal) = new ≡ old
 
 -- the same of a value that may be missing
 abbrev pub GivesFieldsIf : {A F : Type 0} → (A → F) → Option (Option A) → (is_sized : Bool) → (old new : F) → Result (Unit {0}) Refusal → Type 0
@@ -142,10 +204,54 @@ abbrev pub TakesFrameOf : (old new : Slot) → (before behind : List ℕ) → (n
 TakesFrameOf (slots.Transmitter s) (slots.Transmitter t) before behind n m result = TakesFrame s t before behind n m result
 TakesFrameOf old new before behind n m result = (result ≡ Err OtherKind) × (new ≡ old) × (behind ≡ before) × (m ≡ n)
 
+-- whether a transmitter has a frame that can be taken is given, if the slot has one
+abbrev pub GivesReady : Option Sender → (n m : ℕ) → Result (Unit {0}) Refusal → Type 0
+GivesReady None n m result = (result ≡ Err OtherKind) × (m ≡ n)
+GivesReady (Some s) n m result = (result ≡ Ok tt) × (m ≤ 1) × ((m ≡ 1) ↔ IsReady s.stream.slicing)
+
+-- the numbers of a transmitter's packets and frames are given, if the slot has one
+abbrev pub GivesCounts : Option Sender → (n m k l : ℕ) → Result (Unit {0}) Refusal → Type 0
+GivesCounts None n m k l result = (result ≡ Err OtherKind) × (m ≡ n) × (l ≡ k)
+GivesCounts (Some s) n m k l result = (result ≡ Ok tt) × (m ≡ s.stream.packets) × (l ≡ s.stream.fields)
+
+-- a transmitter begins anew on its link
+abbrev pub Restarts : (old new : Sender) → Result (Unit {0}) Refusal → Type 0
+Restarts old new result = (result ≡ Ok tt) × (new ≡ record old { stream = at_first (field_bytes old.link.setup.mode) old.stream.limit })
+
+-- the same for a slot
+abbrev pub RestartsOf : (old new : Slot) → Result (Unit {0}) Refusal → Type 0
+RestartsOf (slots.Transmitter s) (slots.Transmitter t) result = Restarts s t result
+RestartsOf old new result = (result ≡ Err OtherKind) × (new ≡ old)
+
+-- a scanner that has no bytes, and has found nothing
+abbrev pub IsNewScanner : Slot → Type 0
+IsNewScanner (slots.Scanner s) = (s.bytes.items ≡ []) × (s.found.items ≡ [])
+IsNewScanner slot = ⊥
+
+-- the most bytes that a scanner keeps
+abbrev pub most_scanned : ℕ
+most_scanned = 67108864
+
+-- a scanner keeps bytes too, or they are refused, and what it has is unchanged
+abbrev pub KeepsBytes : (old new : Scanner) → List ℕ → Result (Unit {0}) Refusal → Type 0
+KeepsBytes old new bytes (Ok done) = (new.bytes.items ≡ old.bytes.items ++ bytes) × (new.found ≡ old.found) × (length new.bytes.items ≤ most_scanned)
+KeepsBytes old new bytes (Err TooMany) = (most_scanned < length old.bytes.items + length bytes) × (new ≡ old)
+KeepsBytes old new bytes (Err refusal) = (refusal ≡ NoMemory) × (new.bytes.items ≡ old.bytes.items) × (new.found ≡ old.found)
+
+-- the same for a slot
+abbrev pub KeepsBytesOf : (old new : Slot) → List ℕ → Result (Unit {0}) Refusal → Type 0
+KeepsBytesOf (slots.Scanner s) (slots.Scanner t) bytes result = KeepsBytes s t bytes result
+KeepsBytesOf old new bytes result = (result ≡ Err OtherKind) × (new ≡ old)
+
 -- a scanner has found the headers of its bytes; or memory was refused, and nothing changes
 abbrev pub Finds : (old new : Scanner) → (n m : ℕ) → Result (Unit {0}) Refusal → Type 0
 Finds old new n m (Ok done) = AreHeadersOf (Some old.bytes.items) new.found.items × (m ≡ length new.found.items) × (new.bytes ≡ old.bytes)
 Finds old new n m (Err refusal) = (refusal ≡ NoMemory) × (new ≡ old) × (m ≡ n)
+
+-- the same for a slot
+abbrev pub FindsOf : (old new : Slot) → (n m : ℕ) → Result (Unit {0}) Refusal → Type 0
+FindsOf (slots.Scanner s) (slots.Scanner t) n m result = Finds s t n m result
+FindsOf old new n m result = (result ≡ Err OtherKind) × (new ≡ old) × (m ≡ n)
 
 -- A transmitter takes bytes, and their number is given. If its stream was closed, nothing changes
 abbrev pub PutsPackets : (old new : Sender) → List ℕ → (n m : ℕ) → Result (Unit {0}) Refusal → Type 0

@@ -1,4 +1,8 @@
 //! The checker of certificates.
+ghost use Rattle.std.specs.Prelude.{◌≡◌};
+ghost use Rattle.s2_library.specs.Checked.{AreOfFile, AreOfView, ChecksFile, checked, checked_fields};
+ghost use Rattle.s2_library.specs.Codes.{code_in as code_in_slot};
+
 use crate::code::code_in;
 use crate::refusal::Refusal;
 use crate::slot::Slot;
@@ -22,7 +26,9 @@ pub struct CheckedFields {
 }
 
 /// The fields of a result.
-fn fields_of(answer: u32, is_sole: bool, check: u32, cost: i64) -> CheckedFields {
+fn fields_of(answer: u32, is_sole: bool, check: u32, cost: i64) -> CheckedFields
+    ensures { result ≡ checked answer is_sole check cost }
+{
     CheckedFields {
         size: SIZE,
         answer,
@@ -34,7 +40,9 @@ fn fields_of(answer: u32, is_sole: bool, check: u32, cost: i64) -> CheckedFields
 }
 
 /// The fields of the checker's result.
-fn found_fields(found: Examined, cost: i64) -> CheckedFields {
+fn found_fields(found: Examined, cost: i64) -> CheckedFields
+    ensures { result ≡ checked_fields found.answer found.strict cost }
+{
     match found.answer {
         Answer::Yes => fields_of(0, found.strict, 0, cost),
         Answer::No(Doubt::OtherShape) => fields_of(1, false, 0, 0),
@@ -46,12 +54,16 @@ fn found_fields(found: Examined, cost: i64) -> CheckedFields {
 }
 
 /// The result on a view.
-fn view_fields(matrix: &Matrix, view: &CertView<'_>) -> CheckedFields {
+fn view_fields(matrix: &Matrix, view: &CertView<'_>) -> CheckedFields
+    ensures { AreOfView matrix.now view.now result }
+{
     found_fields(examine(matrix, view), view.cost())
 }
 
 /// The result on a certificate.
-fn certificate_fields(matrix: &Matrix, certificate: &Certificate) -> CheckedFields {
+fn certificate_fields(matrix: &Matrix, certificate: &Certificate) -> CheckedFields
+    ensures { AreOfFile matrix.now certificate.now result }
+{
     match certificate.view(matrix) {
         Some(view) => view_fields(matrix, &view),
         None => fields_of(1, false, 0, 0),
@@ -64,7 +76,9 @@ pub fn check(
     slot: &Slot,
     bytes: &[u8],
     fields: &mut CheckedFields,
-) -> Result<(), Refusal> {
+) -> Result<(), Refusal>
+    ensures { ChecksFile (code_in_slot slot.now) bytes.now fields.old fields.new result }
+{
     let code = code_in(slot)?;
     if fields.size != SIZE {
         return Err(Refusal::BadSize);

@@ -1,8 +1,9 @@
 //! Codes.
-ghost use Rattle.std.specs.Prelude.{◌≡◌, false, IfOk, Some};
+ghost use Rattle.std.specs.Prelude.{◌≡◌, false, IfErr, IfOk, None, Some};
 ghost use Rattle.s2_mode.specs.Mode.{mode_of};
+ghost use Rattle.s2_mode.specs.Shape.{shape_of};
 ghost use Rattle.s2_library.specs.Asked.{is_set};
-ghost use Rattle.s2_library.specs.Codes.{AreRowsOf, HasCodeOf, IsCodeOf, code_in as code_in_slot};
+ghost use Rattle.s2_library.specs.Codes.{AreRowsOf, GivesFacts, HasCodeOf, HasCodeOfShape, IsCodeOf, code_in as code_in_slot};
 
 use crate::options::{flag, mode_by};
 use crate::refusal::Refusal;
@@ -86,7 +87,9 @@ pub fn shape_code(
     group: u32,
     groups: u32,
     q: u32,
-) -> Result<Slot, Refusal> {
+) -> Result<Slot, Refusal>
+    ensures { IfOk result (HasCodeOfShape text.now (shape_of group groups q)) }
+{
     let Some(shape) = Shape::new(group as usize, groups as usize, q as usize) else {
         return Err(Refusal::BadShape);
     };
@@ -99,7 +102,8 @@ pub fn shape_code(
 
 /// The code in a slot.
 pub(crate) fn code_in(slot: &Slot) -> Result<Code, Refusal>
-    ensures { IfOk result (λ code. code_in_slot slot.now ≡ Some code) }
+    ensures found { IfOk result (λ code. code_in_slot slot.now ≡ Some code) }
+    ensures other { IfErr result (λ refusal. (refusal ≡ Refusal.OtherKind) × (code_in_slot slot.now ≡ None)) }
 {
     match slot {
         Slot::Code(code) => Ok(*code),
@@ -113,7 +117,9 @@ pub fn code_facts(
     n: &mut u32,
     k: &mut u32,
     is_standard: &mut u32,
-) -> Result<(), Refusal> {
+) -> Result<(), Refusal>
+    ensures { GivesFacts (code_in_slot slot.now) n.old n.new k.old k.new is_standard.old is_standard.new result }
+{
     let code = code_in(slot)?;
     let shape = code.matrix.shape();
     *n = shape.n() as u32;

@@ -1,7 +1,10 @@
 //! Judges.
-ghost use Rattle.std.specs.Prelude.{All, IsTrue};
+ghost use Rattle.std.specs.Prelude.{◌≡◌, All, IfOk, IfSome, IsTrue};
+ghost use Rattle.s2_tuning.specs.Wanted.{judging_by};
+ghost use Rattle.s2_library.specs.Asked.{IsJudgeOf, flags_of, judging_in, tuning_in, wanted_by as wanted_of};
+ghost use Rattle.s2_library.specs.Codes.{code_in as code_in_slot};
 ghost use Rattle.s2_library.specs.Copying.{digits_of};
-ghost use Rattle.s2_library.specs.Slots.{CopiesOf, DecidesOn, DecidesOnOf, judge_in, listed};
+ghost use Rattle.s2_library.specs.Slots.{CopiesMadeOf, CopiesOf, DecidesOn, DecidesOnOf, decided_file, judge_in, listed};
 ghost use Rattle.s2_check.specs.Views.{IsSoft};
 
 use crate::code::{Code, code_in};
@@ -16,7 +19,10 @@ use s2_tuning::{Tuning, judging_by, tuning_by};
 use std::alloc::Global;
 
 /// The tuning of a judge of a mode, whose code must be of the mode's shape.
-fn mode_tuning(code: Code, flags: Flags, options: &Options) -> Result<Tuning, Refusal> {
+fn mode_tuning(code: Code, flags: Flags, options: &Options) -> Result<Tuning, Refusal>
+    requires { flags ≡ flags_of options.now }
+    ensures { IfOk result (λ tuning. tuning ≡ tuning_in options.now) }
+{
     let mode = mode_by(options.modcod, flags.is_short, flags.has_pilots)?;
     if code.matrix.shape() != mode.shape() {
         return Err(Refusal::OtherShape);
@@ -28,7 +34,9 @@ fn mode_tuning(code: Code, flags: Flags, options: &Options) -> Result<Tuning, Re
 }
 
 /// The tuning of a judge without a mode.
-fn plain_tuning(flags: Flags, options: &Options) -> Result<Tuning, Refusal> {
+fn plain_tuning(flags: Flags, options: &Options) -> Result<Tuning, Refusal>
+    ensures { IfOk result (λ tuning. tuning ≡ judging_by (wanted_of flags options.now).passes.value (wanted_of flags options.now).factor.value flags.uncertified) }
+{
     let wanted = wanted_by(flags, options);
     match judging_by(wanted.passes.value, wanted.factor.value, flags.uncertified) {
         Some(tuning) => Ok(tuning),
@@ -37,7 +45,9 @@ fn plain_tuning(flags: Flags, options: &Options) -> Result<Tuning, Refusal> {
 }
 
 /// The tuning of a judge.
-fn tuning_of(code: Code, options: &Options) -> Result<Tuning, Refusal> {
+fn tuning_of(code: Code, options: &Options) -> Result<Tuning, Refusal>
+    ensures { IfOk result (λ tuning. tuning ≡ judging_in options.now) }
+{
     let flags = read_flags(options)?;
     if options.modcod == 0 {
         plain_tuning(flags, options)
@@ -47,7 +57,9 @@ fn tuning_of(code: Code, options: &Options) -> Result<Tuning, Refusal> {
 }
 
 /// A judge on a code, by options. The first refusal is returned.
-pub fn new_judge(alloc: Global, code: &Slot, options: &Options) -> Result<Slot, Refusal> {
+pub fn new_judge(alloc: Global, code: &Slot, options: &Options) -> Result<Slot, Refusal>
+    ensures { IfOk result (λ slot. IfSome (code_in_slot code.now) (λ c. IsJudgeOf options.now c.matrix.now slot)) }
+{
     let code = code_in(code)?;
     let tuning = tuning_of(code, options)?;
     match Judge::new(alloc, code.matrix, tuning) {
@@ -105,7 +117,9 @@ pub fn judge_certificate(
     slot: &Slot,
     out: &mut [u8],
     count: &mut usize,
-) -> Result<(), Refusal> {
+) -> Result<(), Refusal>
+    ensures { CopiesMadeOf (decided_file (judge_in slot.now)) out.old out.new count.old count.new result }
+{
     let Slot::Judge(judge) = slot else {
         return Err(Refusal::OtherKind);
     };

@@ -1,6 +1,13 @@
 //! The numbers of a mode.
+ghost use Rattle.std.specs.Prelude.{◌≡◌};
+ghost use Rattle.s2_mode.specs.Mode.{mode_of};
+ghost use Rattle.s2_library.specs.Asked.{is_set};
+ghost use Rattle.s2_library.specs.Fields.{mode_fields};
+ghost use Rattle.s2_library.specs.Slots.{GivesMode};
+
 use crate::options::{flag, mode_by};
 use crate::refusal::Refusal;
+use s2_mode::Mode;
 
 /// The size of [`ModeFields`] in bytes.
 const SIZE: u32 = 64;
@@ -21,19 +28,13 @@ pub struct ModeFields {
     pub reserved: [u32; 7],
 }
 
-/// The numbers of a mode. The struct is unchanged if it is refused.
-pub fn mode_fields(
-    modcod: u32,
-    is_short: u32,
-    has_pilots: u32,
-    fields: &mut ModeFields,
-) -> Result<(), Refusal> {
-    if fields.size != SIZE {
-        return Err(Refusal::BadSize);
-    }
-    let mode = mode_by(modcod, flag(is_short)?, flag(has_pilots)?)?;
+/// The numbers of a mode.
+#[tactic(auto, unfolding(s2_mode::specs::Mode::width_of))]
+fn fields_of(mode: Mode) -> ModeFields
+    ensures { result ≡ mode_fields mode }
+{
     let shape = mode.shape();
-    *fields = ModeFields {
+    ModeFields {
         size: SIZE,
         n: mode.n() as u32,
         k: mode.k() as u32,
@@ -44,6 +45,22 @@ pub fn mode_fields(
         groups: shape.groups() as u32,
         q: shape.q() as u32,
         reserved: [0; 7],
-    };
+    }
+}
+
+/// The numbers of a mode. The struct is unchanged if it is refused.
+pub fn mode_fields(
+    modcod: u32,
+    is_short: u32,
+    has_pilots: u32,
+    fields: &mut ModeFields,
+) -> Result<(), Refusal>
+    ensures { GivesMode (mode_of modcod (is_set is_short) (is_set has_pilots)) fields.old fields.new result }
+{
+    if fields.size != SIZE {
+        return Err(Refusal::BadSize);
+    }
+    let mode = mode_by(modcod, flag(is_short)?, flag(has_pilots)?)?;
+    *fields = fields_of(mode);
     Ok(())
 }

@@ -1,11 +1,12 @@
 //! Receivers.
-ghost use Rattle.std.specs.Prelude.{◌≡◌, ◌≤◌, length, IfOk, IfSome, IsOkUnless, nat_eq};
+ghost use Rattle.std.specs.Prelude.{◌≡◌, ◌≤◌, length, IfOk, IfSome, IsOkUnless, Some, nat_eq};
+ghost use Rattle.s2_check.specs.CertificateBytes.{bytes_of};
 ghost use Rattle.s2_modem.specs.Reception.{IsNew};
 ghost use Rattle.s2_library.specs.Asked.{IsReceiverOf, flags_of, link_in};
 ghost use Rattle.s2_library.specs.Codes.{code_in as code_in_slot};
 ghost use Rattle.s2_library.specs.Copying.{digits_of};
 ghost use Rattle.s2_library.specs.Fields as fields;
-ghost use Rattle.s2_library.specs.Slots.{AdvancesReception, AdvancesSlot, CopiesOf, Gives, GivesFields, GivesFieldsIf, ResetsReception, ResetsSlot, figures_in, last_figures, listed, reception_in, receiver_in, room_in, sums_in, totals_in};
+ghost use Rattle.s2_library.specs.Slots.{AdvancesReception, AdvancesSlot, CopiesMadeOf, CopiesOf, Gives, GivesFields, GivesFieldsIf, ResetsReception, ResetsSlot, bbframe_in, figures_in, is_delivered, last_figures, listed, message_bytes, received_file, reception_in, receiver_in, room_in, sums_in, totals_in};
 
 use crate::code::{Code, code_in};
 use crate::copying::{copy_bits, copy_bytes, copy_values};
@@ -188,7 +189,10 @@ pub fn receiver_word(slot: &Slot, out: &mut [u8], count: &mut usize) -> Result<(
 }
 
 /// The bytes of a message, descrambled.
-fn message_bytes(alloc: Global, message: &[bool]) -> Result<Vec<u8>, Refusal> {
+fn message_bytes(alloc: Global, message: &[bool]) -> Result<Vec<u8>, Refusal>
+    ensures are { IfOk result (λ bytes. bytes.items ≡ message_bytes message.now) }
+    ensures refused { IsOkUnless result Refusal.NoMemory }
+{
     let Ok(mut bits) = Bits::zeroed(alloc, message.len()) else {
         return Err(Refusal::NoMemory);
     };
@@ -202,7 +206,9 @@ fn message_bytes(alloc: Global, message: &[bool]) -> Result<Vec<u8>, Refusal> {
 }
 
 /// Whether a step was a delivered frame.
-fn is_delivered(step: Option<Step>) -> bool {
+fn is_delivered(step: Option<Step>) -> bool
+    ensures { result ≡ is_delivered step }
+{
     match step {
         Some(Step::Frame(report)) => match report.outcome {
             Outcome::Delivered { fixed: _ } => true,
@@ -218,7 +224,9 @@ pub fn receiver_bbframe(
     slot: &Slot,
     out: &mut [u8],
     count: &mut usize,
-) -> Result<(), Refusal> {
+) -> Result<(), Refusal>
+    ensures { CopiesMadeOf (bbframe_in (reception_in slot.now)) out.old out.new count.old count.new result }
+{
     let Slot::Receiver(reception) = slot else {
         return Err(Refusal::OtherKind);
     };
@@ -235,7 +243,9 @@ pub(crate) fn copy_certificate(
     view: &CertView<'_>,
     out: &mut [u8],
     count: &mut usize,
-) -> Result<(), Refusal> {
+) -> Result<(), Refusal>
+    ensures { CopiesMadeOf (Some (Some (bytes_of view.now))) out.old out.new count.old count.new result }
+{
     let mut sink = Counting::new(Vec::new(alloc));
     if view.write(&mut sink).is_err() {
         return Err(Refusal::NoMemory);
@@ -250,7 +260,9 @@ pub fn receiver_certificate(
     slot: &Slot,
     out: &mut [u8],
     count: &mut usize,
-) -> Result<(), Refusal> {
+) -> Result<(), Refusal>
+    ensures { CopiesMadeOf (received_file (receiver_in slot.now)) out.old out.new count.old count.new result }
+{
     let Slot::Receiver(reception) = slot else {
         return Err(Refusal::OtherKind);
     };

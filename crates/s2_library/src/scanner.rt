@@ -1,5 +1,7 @@
 //! Scanners of unknown recordings.
-ghost use Rattle.s2_library.specs.Slots.{Finds};
+ghost use Rattle.std.specs.Prelude.{◌≡◌, nat_eq, slice_get};
+ghost use Rattle.s2_library.specs.Fields as fields;
+ghost use Rattle.s2_library.specs.Slots.{Finds, FindsOf, GivesFieldsIf, IsNewScanner, KeepsBytes, KeepsBytesOf, scanner_in, seen_in};
 
 use crate::refusal::Refusal;
 use crate::slot::Slot;
@@ -45,7 +47,9 @@ impl Drop for Scanner {
 }
 
 /// A scanner that has seen nothing.
-pub fn new_scanner(alloc: Global) -> Slot {
+pub fn new_scanner(alloc: Global) -> Slot
+    ensures { IsNewScanner result }
+{
     Slot::Scanner(Scanner {
         bytes: Vec::new(alloc),
         found: Vec::new(alloc),
@@ -53,16 +57,25 @@ pub fn new_scanner(alloc: Global) -> Slot {
 }
 
 /// Gives a scanner bytes of symbols.
-pub fn scan_feed(slot: &mut Slot, bytes: &[u8]) -> Result<(), Refusal> {
-    let Slot::Scanner(scanner) = slot else {
-        return Err(Refusal::OtherKind);
-    };
+fn feed(scanner: &mut Scanner, bytes: &[u8]) -> Result<(), Refusal>
+    ensures { KeepsBytes scanner.old scanner.new bytes.now result }
+{
     if bytes.len() > MOST || scanner.bytes.len() > MOST - bytes.len() {
         return Err(Refusal::TooMany);
     }
     match scanner.bytes.extend_from_slice(bytes) {
         Ok(()) => Ok(()),
         Err(_) => Err(Refusal::NoMemory),
+    }
+}
+
+/// Gives the scanner of a slot bytes of symbols.
+pub fn scan_feed(slot: &mut Slot, bytes: &[u8]) -> Result<(), Refusal>
+    ensures { KeepsBytesOf slot.old slot.new bytes.now result }
+{
+    match slot {
+        Slot::Scanner(scanner) => feed(scanner, bytes),
+        _ => Err(Refusal::OtherKind),
     }
 }
 
@@ -81,7 +94,9 @@ fn find(alloc: Global, scanner: &mut Scanner, count: &mut usize) -> Result<(), R
 }
 
 /// Searches the bytes of a slot's scanner so far, and gives the number of kinds of headers that were seen.
-pub fn scan_find(alloc: Global, slot: &mut Slot, count: &mut usize) -> Result<(), Refusal> {
+pub fn scan_find(alloc: Global, slot: &mut Slot, count: &mut usize) -> Result<(), Refusal>
+    ensures { FindsOf slot.old slot.new count.old count.new result }
+{
     match slot {
         Slot::Scanner(scanner) => find(alloc, scanner, count),
         _ => Err(Refusal::OtherKind),
@@ -89,7 +104,9 @@ pub fn scan_find(alloc: Global, slot: &mut Slot, count: &mut usize) -> Result<()
 }
 
 /// The fields of a kind of headers.
-fn fields_of(seen: &Candidate) -> SeenFields {
+fn fields_of(seen: Candidate) -> SeenFields
+    ensures { result ≡ fields.seen_fields seen }
+{
     let form = seen.form % 8;
     SeenFields {
         size: SIZE,
@@ -109,15 +126,24 @@ fn fields_of(seen: &Candidate) -> SeenFields {
     }
 }
 
+/// The kind of headers that the last search found at a place.
+fn seen_at(scanner: &Scanner, place: usize) -> Option<Candidate>
+    ensures { result ≡ slice_get scanner.now.found.items place }
+{
+    scanner.found.get(place).copied()
+}
+
 /// Gives the kind of headers that the last search found at a place.
-pub fn scan_at(slot: &Slot, place: usize, out: &mut SeenFields) -> Result<(), Refusal> {
+pub fn scan_at(slot: &Slot, place: usize, out: &mut SeenFields) -> Result<(), Refusal>
+    ensures { GivesFieldsIf fields.seen_fields (seen_in (scanner_in slot.now) place) (nat_eq out.old.size 96) out.old out.new result }
+{
     let Slot::Scanner(scanner) = slot else {
         return Err(Refusal::OtherKind);
     };
     if out.size != SIZE {
         return Err(Refusal::BadSize);
     }
-    match scanner.found.get(place) {
+    match seen_at(scanner, place) {
         Some(seen) => {
             *out = fields_of(seen);
             Ok(())

@@ -2,7 +2,7 @@
 ghost use Rattle.std.specs.Prelude.{◌≡◌, ◌↔◌, ◌≤◌, ◌+◌, ◌++◌, ◌∷◌, [], false, length, IfOk, IfSome, IsErr, IsOk, IsTrue, None};
 ghost use Rattle.s2_mode.specs.Mode.{mode_of};
 ghost use Rattle.s2_library.specs.Asked.{is_set};
-ghost use Rattle.s2_library.specs.Shelves.{Finds, HasShelved, HaveSameRows, IsOn, IsShelved, shelf_in};
+ghost use Rattle.s2_library.specs.Shelves.{Finds, HasShelved, HaveSameRows, IsNewShelf, IsOn, IsShelved, shelf_in};
 
 use crate::code::{Code, keep, matrix_of, mode_of_code};
 use crate::refusal::Refusal;
@@ -35,7 +35,7 @@ impl Model for Shelf {
 
 /// An empty shelf.
 pub fn new_shelf(alloc: Global) -> Slot
-    ensures { shelf_in result ≡ [] }
+    ensures { IsNewShelf result }
 {
     Slot::Shelf(Shelf {
         codes: Vec::new(alloc),

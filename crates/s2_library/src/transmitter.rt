@@ -3,7 +3,7 @@ ghost use Rattle.std.specs.Prelude.{IfOk, IfSome};
 ghost use Rattle.s2_library.specs.Asked.{IsSenderOf};
 ghost use Rattle.s2_library.specs.Codes.{code_in as code_in_slot};
 ghost use Rattle.s2_library.specs.Copying.{digits_of};
-ghost use Rattle.s2_library.specs.Slots.{ClosesStream, ClosesStreamOf, CopiesOf, PutsPackets, PutsPacketsOf, TakesFrame, TakesFrameOf, listed, sender_in};
+ghost use Rattle.s2_library.specs.Slots.{ClosesStream, ClosesStreamOf, CopiesOf, GivesCounts, GivesReady, PutsPackets, PutsPacketsOf, Restarts, RestartsOf, TakesFrame, TakesFrameOf, listed, sender_in};
 
 use crate::code::code_in;
 use crate::copying::{copy_bits, copy_bytes};
@@ -84,11 +84,13 @@ pub fn transmitter_close(slot: &mut Slot) -> Result<(), Refusal>
 }
 
 /// Whether a frame can be taken, 1 or 0.
-pub fn transmitter_ready(slot: &Slot, is_ready: &mut u32) -> Result<(), Refusal> {
+pub fn transmitter_ready(slot: &Slot, is_ready: &mut u32) -> Result<(), Refusal>
+    ensures { GivesReady (sender_in slot.now) is_ready.old is_ready.new result }
+{
     let Slot::Transmitter(sender) = slot else {
         return Err(Refusal::OtherKind);
     };
-    *is_ready = u32::from(sender.is_ready());
+    *is_ready = if sender.is_ready() { 1 } else { 0 };
     Ok(())
 }
 
@@ -134,7 +136,9 @@ pub fn transmitter_word(slot: &Slot, out: &mut [u8], count: &mut usize) -> Resul
 }
 
 /// Gives the numbers of packets and frames.
-pub fn transmitter_counts(slot: &Slot, packets: &mut u64, frames: &mut u64) -> Result<(), Refusal> {
+pub fn transmitter_counts(slot: &Slot, packets: &mut u64, frames: &mut u64) -> Result<(), Refusal>
+    ensures { GivesCounts (sender_in slot.now) packets.old packets.new frames.old frames.new result }
+{
     let Slot::Transmitter(sender) = slot else {
         return Err(Refusal::OtherKind);
     };
@@ -145,10 +149,19 @@ pub fn transmitter_counts(slot: &Slot, packets: &mut u64, frames: &mut u64) -> R
 }
 
 /// Begins a new stream.
-pub fn transmitter_reset(slot: &mut Slot) -> Result<(), Refusal> {
-    let Slot::Transmitter(sender) = slot else {
-        return Err(Refusal::OtherKind);
-    };
+fn restart(sender: &mut Sender<'static>) -> Result<(), Refusal>
+    ensures { Restarts sender.old sender.new result }
+{
     sender.restart();
     Ok(())
+}
+
+/// Begins a new stream of the transmitter of a slot.
+pub fn transmitter_reset(slot: &mut Slot) -> Result<(), Refusal>
+    ensures { RestartsOf slot.old slot.new result }
+{
+    match slot {
+        Slot::Transmitter(sender) => restart(sender),
+        _ => Err(Refusal::OtherKind),
+    }
 }

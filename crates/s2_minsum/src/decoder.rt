@@ -101,7 +101,6 @@ impl<'a> Decoder<'a> {
     {
         run_layer(
             self.matrix,
-            &self.soft,
             &self.layers,
             &mut self.messages,
             &mut self.posteriors,
@@ -157,12 +156,6 @@ impl<'a> Decoder<'a> {
         requires at { at < length (members (code_of self.now.rows) check) }
         ensures { result ≡ (decoded self.now).message check (get_or (members (code_of self.now.rows) check) at 0) }
     {
-        self.messages[message_place(
-            self.matrix,
-            &self.layers,
-            &self.messages,
-            check,
-            at,
-        )].cast_signed()
+        self.messages[message_place(self.matrix, &self.layers, check, at)].cast_signed()
     }
 }

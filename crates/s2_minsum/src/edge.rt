@@ -9,20 +9,13 @@ use crate::layout::{back_to, place_among};
 use s2_matrix::Matrix;
 
 /// The place of the message of a check to its member at a place.
-pub(crate) fn message_place(
-    matrix: &Matrix,
-    layers: &Layers<'_>,
-    messages: &[u16],
-    check: usize,
-    at: usize,
-) -> usize
+pub(crate) fn message_place(matrix: &Matrix, layers: &Layers<'_>, check: usize, at: usize) -> usize
     requires layers { layers.now ≡ matrix.now }
     requires fit { AreFit matrix.now }
-    requires long { length messages.now ≡ first_row matrix.now matrix.now.shape.q * matrix.now.shape.group }
     requires check { check < (code_of matrix.now).checks }
     requires at { at < length (members (code_of matrix.now) check) }
     ensures is { result ≡ (first_row matrix.now (check % matrix.now.shape.q) + place_at matrix.now check (get_or (members (code_of matrix.now) check) at 0)) * matrix.now.shape.group + check / matrix.now.shape.q }
-    ensures within { result < length messages.now }
+    ensures within { result < first_row matrix.now matrix.now.shape.q * matrix.now.shape.group }
 {
     let shape = matrix.shape();
     let r = check % shape.q();

@@ -1,8 +1,9 @@
 //! One layer over a decoder's lists.
-ghost use Rattle.std.specs.Prelude.{◌≡◌, ℕ, ◌≤◌, ◌<◌, ◌+◌, ◌*◌, length};
+ghost use Rattle.std.specs.Prelude.{◌≡◌, ℕ, ℤ, List, ◌≤◌, ◌<◌, ◌+◌, ◌*◌, length};
+ghost use Rattle.s2_mode.specs.Shape.{code_bits};
 ghost use Rattle.s2_matrix.specs.Code.{code_of};
 ghost use Rattle.s2_minsum.specs.Plain.{layer as after_layer};
-ghost use Rattle.s2_minsum.specs.Layout.{kept_of, state_of};
+ghost use Rattle.s2_minsum.specs.Layout.{first_row, kept_of, state_of};
 ghost use Rattle.s2_minsum.specs.Decoding.{AreNumbers, HasDecoderRoom};
 
 use crate::factor::Factor;
@@ -14,7 +15,6 @@ use s2_matrix::Matrix;
 /// Runs one layer over a decoder's lists.
 pub(crate) fn run_layer(
     matrix: &Matrix,
-    soft: &[i16],
     layers: &Layers<'_>,
     messages: &mut [u16],
     posteriors: &mut [u16],
@@ -23,11 +23,12 @@ pub(crate) fn run_layer(
     factor: Factor,
 )
     requires layers { layers.now ≡ matrix.now }
-    requires numbers { AreNumbers matrix.now soft.now messages.old posteriors.old }
+    requires messages { length messages.old ≡ first_row matrix.now matrix.now.shape.q * matrix.now.shape.group }
+    requires posteriors { length posteriors.old ≡ code_bits matrix.now.shape }
     requires room { HasDecoderRoom matrix.now (length scratch.old) }
     requires layer { r < matrix.now.shape.q }
-    ensures numbers { AreNumbers matrix.now soft.now messages.new posteriors.new }
-    ensures state { state_of matrix.now soft.now (kept_of matrix.now messages.new) ≡ after_layer (code_of matrix.now) matrix.now.shape.q factor r (state_of matrix.now soft.now (kept_of matrix.now messages.old)) }
+    ensures numbers { (soft : List ℤ) → AreNumbers matrix.now soft messages.old posteriors.old → AreNumbers matrix.now soft messages.new posteriors.new }
+    ensures state { (soft : List ℤ) → AreNumbers matrix.now soft messages.old posteriors.old → state_of matrix.now soft (kept_of matrix.now messages.new) ≡ after_layer (code_of matrix.now) matrix.now.shape.q factor r (state_of matrix.now soft (kept_of matrix.now messages.old)) }
 {
     let shape = matrix.shape();
     let n = shape.group();

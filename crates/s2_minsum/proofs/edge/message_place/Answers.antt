@@ -86,4 +86,4 @@ returns-clause-within c =
     let i = get_or (members (code_of rows) c.args.check) c.args.at 0 in
     let shaped = c.requires.fit.shaped in
     let low = place_low rows c.args.check c.args.at shaped c.requires.check c.requires.at in
-    omega (arith, returns-clause-is c, place_within rows c.args.check (place_at rows c.args.check i) shaped c.requires.check low, c.requires.long)
+    omega (arith, returns-clause-is c, place_within rows c.args.check (place_at rows c.args.check i) shaped c.requires.check low)

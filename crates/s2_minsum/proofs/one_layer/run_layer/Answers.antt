@@ -35,7 +35,7 @@ slice_bounds-run-end c =
     let count = ap (λ (es : List Circulant). length es) es_is ∙ length-entries rows c.args.r in
     let lanes = lanes_before rows c.args.r n c.start.result (length c.entries-entries.result.now) c.requires.layer start count in
     let product : all * n ≡ all * rows.shape.group = ap (λ x. all * x) g in
-    omega (arith, lanes, product, c.requires.numbers.messages_long)
+    omega (arith, lanes, product, c.requires.messages)
 
 pub run-requires-clause-room : goal.run-requires-clause-room
 run-requires-clause-room c =
@@ -52,10 +52,10 @@ run-requires-clause-entries c =
     let g = sym (c.group-n.ensures.is ∙ ap (λ (s : Shape). s.group) c.shape-shape.ensures.is) in
     let fit = subst AreFit c.requires.layers c.entries-entries.ensures.fit in
     let es_is = c.entries-entries.ensures.are ∙ ap (λ (x : Rows). entries_of x c.args.r) c.requires.layers in
-    are_in rows fit c.args.r c.requires.layer (length c.args.posteriors.now) c.requires.numbers.posteriors_long c.entries-entries.result.now c.group-n.result (sym es_is) g
+    are_in rows fit c.args.r c.requires.layer (length c.args.posteriors.now) c.requires.posteriors c.entries-entries.result.now c.group-n.result (sym es_is) g
 
 pub returns-clause-numbers : goal.returns-clause-numbers
-returns-clause-numbers c =
+returns-clause-numbers c soft numbers =
     let rows = c.args.matrix.now in
     let g = c.group-n.ensures.is ∙ ap (λ (s : Shape). s.group) c.shape-shape.ensures.is in
     let fit = subst AreFit c.requires.layers c.entries-entries.ensures.fit in
@@ -63,7 +63,7 @@ returns-clause-numbers c =
     let start = c.start.ensures.is ∙ ap (λ (x : Rows). first_row x c.args.r) c.requires.layers in
     let count = ap (λ (es : List Circulant). length es) es_is ∙ length-entries rows c.args.r in
     let last = c.last_row-last.ensures ∙ ap (λ (s : Shape). lacked_row s c.args.r) c.shape-shape.ensures.is in
-    (gives rows c.args.factor c.args.soft.now c.args.messages.now c.args.posteriors.now fit c.requires.numbers c.args.r c.requires.layer c.run.new.messages c.run.new.posteriors
+    (gives rows c.args.factor soft c.args.messages.now c.args.posteriors.now fit numbers c.args.r c.requires.layer c.run.new.messages c.run.new.posteriors
     c.entries-entries.result.now c.group-n.result c.start.result (length c.entries-entries.result.now) c.last_row-last.result (sym es_is) (sym g) (sym start) (sym count) (sym last)
     (record {
       long = c.run.auto.messages;
@@ -75,7 +75,7 @@ returns-clause-numbers c =
     })).numbers
 
 pub returns-clause-state : goal.returns-clause-state
-returns-clause-state c =
+returns-clause-state c soft numbers =
     let rows = c.args.matrix.now in
     let g = c.group-n.ensures.is ∙ ap (λ (s : Shape). s.group) c.shape-shape.ensures.is in
     let fit = subst AreFit c.requires.layers c.entries-entries.ensures.fit in
@@ -83,7 +83,7 @@ returns-clause-state c =
     let start = c.start.ensures.is ∙ ap (λ (x : Rows). first_row x c.args.r) c.requires.layers in
     let count = ap (λ (es : List Circulant). length es) es_is ∙ length-entries rows c.args.r in
     let last = c.last_row-last.ensures ∙ ap (λ (s : Shape). lacked_row s c.args.r) c.shape-shape.ensures.is in
-    (gives rows c.args.factor c.args.soft.now c.args.messages.now c.args.posteriors.now fit c.requires.numbers c.args.r c.requires.layer c.run.new.messages c.run.new.posteriors
+    (gives rows c.args.factor soft c.args.messages.now c.args.posteriors.now fit numbers c.args.r c.requires.layer c.run.new.messages c.run.new.posteriors
     c.entries-entries.result.now c.group-n.result c.start.result (length c.entries-entries.result.now) c.last_row-last.result (sym es_is) (sym g) (sym start) (sym count) (sym last)
     (record {
       long = c.run.auto.messages;

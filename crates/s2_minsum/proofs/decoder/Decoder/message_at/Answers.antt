@@ -29,7 +29,7 @@ returns c =
     let p = (first_row rows (check % rows.shape.q) + place_at rows check i) * rows.shape.group + check / rows.shape.q in
     let fits : SFits w16 c.cast_signed.result = search rules in
     let at : c.message_place.result ≡ p = c.message_place.ensures.is in
-    let room : p < length items = omega (arith, at, c.message_place.ensures.within, ap length c.deref.ensures.value) in
+    let room : p < length items = omega (arith, at, c.message_place.ensures.within, c.self.invariant.numbers.messages_long) in
     to_z-of_z w16 c.cast_signed.result fits ∙ c.cast_signed.ensures
     ∙ ap signed16 (c.index.ensures ∙ ap (λ k. get_or items k x) at ∙ get_or_default items p x 0 room)
     ∙ sym (ap (λ t. cond t (signed16 (get_or items p 0)) (pos 0)) edge)
