@@ -13,6 +13,12 @@ MOST = 8192
 DONE = -1
 
 
+def refuse(what, is_refused):
+    """Raises an error of this text if a parameter is refused."""
+    if is_refused:
+        raise ValueError(what)
+
+
 def told(frame):
     """A frame as a dictionary."""
     words = {"number": frame.number, "at": frame.at, "verdict": frame.verdict, "outcome": frame.outcome, "packets": len(frame.packets) // 188}
@@ -53,6 +59,7 @@ class receiver(Ending):
 
     def __init__(self, rows, mode, short=False, pilots=False, tuned=True, uncertified=False, figures=False, scrambling=0, amplitude=1.0, **tuning):
         gr.basic_block.__init__(self, name="DVB-S2 receiver", in_sig=[numpy.complex64], out_sig=[numpy.uint8])
+        refuse(f"an amplitude is above 0, not {amplitude}", not amplitude > 0)
         code = sembarohy.Code.from_file(rows, mode, short=short)
         options = {"pilots": pilots, "tuned": tuned, "uncertified": uncertified, "figures": figures, "scrambling": scrambling}
         self.modem, self.gain = sembarohy.Receiver(code, mode, **options, **tuning), 1 / amplitude
@@ -105,6 +112,8 @@ class transmitter(Ending):
 
     def __init__(self, rows, mode, short=False, pilots=False, roll_off=0, scrambling=0, dummy_every=0, packets=0, amplitude=1.0):
         gr.basic_block.__init__(self, name="DVB-S2 transmitter", in_sig=[numpy.uint8], out_sig=[numpy.complex64])
+        refuse(f"an amplitude is above 0, not {amplitude}", not amplitude > 0)
+        refuse(f"the number of packets is 0 or more, not {packets}", packets < 0)
         code = sembarohy.Code.from_file(rows, mode, short=short)
         self.modem = sembarohy.Transmitter(code, mode, pilots=pilots, roll_off=roll_off, scrambling=scrambling, dummy_every=dummy_every)
         self.gain, self.length, self.key = numpy.float32(amplitude), 188 * packets, pmt.intern("frame")

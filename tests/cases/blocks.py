@@ -104,6 +104,12 @@ class Blocks(gr_unittest.TestCase):
         self.assertEqual((str(block.fault), len(sink.data())), ("symbol 1 is not finite", 0))
         with self.assertRaisesRegex(Exception, "text of -12"):
             sembarohy.receiver(self.rows, 7, rounds=201)
+        for block in (sembarohy.receiver, sembarohy.transmitter):
+            for amplitude in (0, -1.0, float("nan")):
+                with self.assertRaisesRegex(ValueError, f"an amplitude is above 0, not {amplitude}"):
+                    block(self.rows, 7, amplitude=amplitude)
+        with self.assertRaisesRegex(ValueError, "the number of packets is 0 or more, not -1"):
+            sembarohy.transmitter(self.rows, 7, packets=-1)
 
     def test_twice(self):
         graph, block, sink = gr.top_block(), sembarohy.receiver(self.rows, 7), blocks.vector_sink_b()
