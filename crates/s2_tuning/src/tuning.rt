@@ -116,15 +116,8 @@ impl Tuning {
         ensures { result ≡ record self { divisor = divisor } }
     {
         Tuning {
-            rounds: self.rounds,
-            passes: self.passes,
             divisor,
-            factor: self.factor,
-            max_header_errors: self.max_header_errors,
-            uncertified: self.uncertified,
-            figures: self.figures,
-            turns: self.turns,
-            equalize: self.equalize,
+            ..self
         }
     }
 
@@ -133,15 +126,8 @@ impl Tuning {
         ensures { result ≡ record self { factor = factor } }
     {
         Tuning {
-            rounds: self.rounds,
-            passes: self.passes,
-            divisor: self.divisor,
             factor,
-            max_header_errors: self.max_header_errors,
-            uncertified: self.uncertified,
-            figures: self.figures,
-            turns: self.turns,
-            equalize: self.equalize,
+            ..self
         }
     }
 
@@ -150,15 +136,8 @@ impl Tuning {
         ensures { result ≡ record self { max_header_errors = max_header_errors } }
     {
         Tuning {
-            rounds: self.rounds,
-            passes: self.passes,
-            divisor: self.divisor,
-            factor: self.factor,
             max_header_errors,
-            uncertified: self.uncertified,
-            figures: self.figures,
-            turns: self.turns,
-            equalize: self.equalize,
+            ..self
         }
     }
 
@@ -167,15 +146,9 @@ impl Tuning {
         ensures { result ≡ record self { passes = 0; uncertified = true } }
     {
         Tuning {
-            rounds: self.rounds,
             passes: 0,
-            divisor: self.divisor,
-            factor: self.factor,
-            max_header_errors: self.max_header_errors,
             uncertified: true,
-            figures: self.figures,
-            turns: self.turns,
-            equalize: self.equalize,
+            ..self
         }
     }
 
@@ -184,15 +157,8 @@ impl Tuning {
         ensures { result ≡ record self { figures = true } }
     {
         Tuning {
-            rounds: self.rounds,
-            passes: self.passes,
-            divisor: self.divisor,
-            factor: self.factor,
-            max_header_errors: self.max_header_errors,
-            uncertified: self.uncertified,
             figures: true,
-            turns: self.turns,
-            equalize: self.equalize,
+            ..self
         }
     }
 
@@ -201,15 +167,8 @@ impl Tuning {
         ensures { result ≡ record self { turns = true } }
     {
         Tuning {
-            rounds: self.rounds,
-            passes: self.passes,
-            divisor: self.divisor,
-            factor: self.factor,
-            max_header_errors: self.max_header_errors,
-            uncertified: self.uncertified,
-            figures: self.figures,
             turns: true,
-            equalize: self.equalize,
+            ..self
         }
     }
 
@@ -218,15 +177,8 @@ impl Tuning {
         ensures { result ≡ record self { equalize = true } }
     {
         Tuning {
-            rounds: self.rounds,
-            passes: self.passes,
-            divisor: self.divisor,
-            factor: self.factor,
-            max_header_errors: self.max_header_errors,
-            uncertified: self.uncertified,
-            figures: self.figures,
-            turns: self.turns,
             equalize: true,
+            ..self
         }
     }
 
