@@ -18,8 +18,8 @@ pub record IsModerate (gain : ℕ) (s : Symbol) : Type 0 where
   pub i_fits : gain * unsigned_abs s.i ≤ 32767
   pub q_fits : gain * unsigned_abs s.q ≤ 32767
 
--- Of a frame that arrives without noise, with any gain that is a whole number and turned by quarters, the equalizer gives
--- back what was sent. The largest gain with which a header does not overflow is 46
+-- A frame arrives without noise, times a gain that is a whole number, and rotated by quarter turns: the equalizer returns the
+-- frame that was sent. The largest gain with which a header does not overflow is 46
 abbrev pub ExactLaw : Type 0
 ExactLaw =
     (m : Mode) (number gain quarters : ℕ) (payload : List Symbol) → IsMode m → 1 ≤ gain → gain ≤ 46 → ((k : ℕ) → IsModerate gain (symbol_at payload k))

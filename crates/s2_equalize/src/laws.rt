@@ -1,8 +1,8 @@
 //! The law of the equalizer, which follows from its definition. It is the clause of a call that does nothing.
 ghost use Rattle.s2_equalize.specs.Laws.{ExactLaw};
 
-/// Of a frame without noise, times any gain that is a whole number and rotated by quarters, the equalizer gives back what
-/// was sent, if nothing overflows.
+/// A frame arrives without noise, times a gain that is a whole number, and rotated by quarter turns. If nothing overflows, the
+/// equalizer returns the frame that was sent.
 pub fn exact()
     ensures { ExactLaw }
 {}
