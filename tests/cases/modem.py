@@ -3,6 +3,7 @@
 What it gives is compared with what the program writes, byte for byte. tests/python starts it, with S2_LIBRARY in the environment. `bare` hides
 numpy. It prints a line for each case that fails, and then exits with 1."""
 import array
+import multiprocessing
 import os
 import random
 import re
@@ -24,8 +25,9 @@ import sembarohy
 # Modes: MODCOD, short frames, pilots, and an Es/N0 at which some frames are certified.
 MODES = [(7, False, True, 5.6), (4, True, False, 3.0), (16, True, True, 12.5)]
 PACKETS = 100
-# The least number of times that four threads are as fast as one, and the load above which this is not tried.
-FASTER, MOST_LOAD = 3, 0.5
+# The least number of times that four threads are as fast as one, the same as a share of that of four processes, and the load above which
+# neither is tried.
+FASTER, NEARLY, MOST_LOAD = 3, 0.9, 0.5
 FAILED = []
 
 
@@ -210,9 +212,10 @@ def decoded(code, modcod, has_pilots, symbols, times):
         made.reset()
 
 
-def seconds_of(threads, *given):
+def seconds_of(kind, number, *given):
+    """The time in which this number of threads or processes decode."""
     begun = time.monotonic()
-    running = [threading.Thread(target=decoded, args=given) for _ in range(threads)]
+    running = [kind(target=decoded, args=given) for _ in range(number)]
     for it in running:
         it.start()
     for it in running:
@@ -221,15 +224,17 @@ def seconds_of(threads, *given):
 
 
 def try_threads(modcod, is_short, has_pilots):
-    """Four threads decode three times as fast as one, if four cores are free."""
+    """Four threads decode three times as fast as one, if four cores are free; or nearly as fast as four processes, if these are slower."""
     free = len(os.sched_getaffinity(0)) - os.getloadavg()[0]
     if free < 4 - MOST_LOAD:
         print(f"not tried: four threads against one: {max(free, 0):.1f} of 4 cores are free", flush=True)
         return
     given = sembarohy.Code.from_file(place("rows"), modcod, short=is_short), modcod, has_pilots, contents("received"), 4
-    once = min(seconds_of(1, *given) for _ in range(3))
-    ratio = max(4 * once / seconds_of(4, *given) for _ in range(3))
-    judge(f"four threads against one, {ratio:.2f} times", True, ratio >= FASTER)
+    once = min(seconds_of(threading.Thread, 1, *given) for _ in range(3))
+    process = multiprocessing.get_context("fork").Process
+    threads, processes = (max(4 * once / seconds_of(kind, 4, *given) for _ in range(3)) for kind in (threading.Thread, process))
+    told = f"four threads against one, {threads:.2f} times; four processes {processes:.2f} times"
+    judge(told, True, threads >= min(FASTER, NEARLY * processes))
 
 
 def main():
