@@ -1,5 +1,5 @@
 -- What the maker's lists hold while it works: for each bit its rest, for each check its move (own).
-use Rattle.std.specs.Prelude.{◌≡◌, ◌≢◌, ℕ, ◌+◌, ◌*◌, ◌<◌, ◌≤◌, ◌==◌, ◌↔◌, Bool, true, false, if◌then◌else◌, Option, None, Some, List, length, get_or, All, filter, fold, count_by, ℤ, pos, neg_ℤ, ◌*ℤ◌, ◌-ℤ◌, ◌≤ℤ◌, int_lt}
+use Rattle.std.specs.Prelude.{◌≡◌, ◌≢◌, ℕ, ◌+◌, ◌*◌, ◌<◌, ◌≤◌, ◌==◌, ◌↔◌, Bool, true, false, not, if◌then◌else◌, Option, None, Some, List, length, get_or, All, filter, fold, count_by, ℤ, pos, neg_ℤ, ◌*ℤ◌, ◌-ℤ◌, ◌≤ℤ◌, int_lt}
 use Rattle.std.specs.List.{list_any}
 use Rattle.s2_matrix.specs.Total.{upto}
 use Rattle.s2_matrix.specs.Code.{Code, members, checks_of}
@@ -75,6 +75,12 @@ pub record AreCounted (code : Code) (rests : List ℤ) (counts : List ℕ) : Typ
   pub long : length counts ≡ code.checks
   pub each : (j : ℕ) → j < code.checks → get_or counts j 0 ≡ negatives_in code rests j
 
+-- the counts of some rests, before a bit's rest gets this sign
+pub record TurnsSign (code : Code) (bit : ℕ) (becomes_negative : Bool) (counts : List ℕ) : Type 0 where
+  pub rests : List ℤ
+  pub counted : AreCounted code rests counts
+  pub changes : int_lt (get_or rests bit (pos 0)) (pos 0) ≡ not becomes_negative
+
 -- each bit is in few checks
 abbrev pub AreFew : Code → Type 0
 AreFew code = (i : ℕ) → i < code.bits → length (checks_of code i) ≤ max_addresses
@@ -101,13 +107,13 @@ pub record AreKept (code : Code) (soft : List ℤ) (word : List Bool) (scale : �
   pub left : AreRests code soft word scale m rests
   pub held : AreHeldMoves code m ms
 
--- of some soft values and some word
-pub record AreOfValues (code : Code) (rests : List ℤ) (ms : List Move) : Type 0 where
+-- of some soft values and some word, after some moves
+pub record AreOfValues (code : Code) (scale : ℕ) (rests : List ℤ) (ms : List Move) : Type 0 where
   pub soft : List ℤ
   pub word : List Bool
   pub m : Moved
   pub range : All IsSoft soft
-  pub kept : AreKept code soft word spread_scale m rests ms
+  pub kept : AreKept code soft word scale m rests ms
 
 -- the greedy amounts of the bits before a place
 abbrev pub served : Code → List ℤ → List Bool → ℕ → Moved

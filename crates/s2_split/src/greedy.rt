@@ -5,7 +5,7 @@ ghost use Rattle.std.specs.Prelude.{◌≡◌, ◌≢◌, ◌↔◌, IsTrue, ℕ
 ghost use Rattle.s2_matrix.specs.Code.{code_of, members};
 ghost use Rattle.s2_check.specs.Views.{IsSoft};
 ghost use Rattle.s2_split.specs.Greedy.{Moved, none_moved, move_to, serve, greedy};
-ghost use Rattle.s2_split.specs.Kept.{served, max_rest, AreWithin, AreLow, AreFew, AreKept, HaveOneSign, NoneIsNegative};
+ghost use Rattle.s2_split.specs.Kept.{served, max_rest, AreWithin, AreLow, AreFew, AreKept, AreOfValues, HaveOneSign, NoneIsNegative};
 
 use crate::rests::{free_amount, move_of, shift};
 use crate::start::{differs, none_negative_between};
@@ -47,26 +47,16 @@ fn take_from(
 }
 
 /// Each check of a bit, rising, moves to it.
-fn serve(
-    matrix: &Matrix,
-    soft: &[i16],
-    word: &[bool],
-    rests: &mut [i32],
-    moves: &mut [Move],
-    bit: usize,
-)
-    requires range { All IsSoft soft.now }
+fn serve(matrix: &Matrix, rests: &mut [i32], moves: &mut [Move], bit: usize)
     requires few { AreFew (code_of matrix.now) }
     requires bit { bit < (code_of matrix.now).bits }
     requires fits { bit < 2 ^ 32 }
     requires low { AreLow rests.old }
-    requires start { AreKept (code_of matrix.now) soft.now word.now 1 (served (code_of matrix.now) soft.now word.now bit) rests.old moves.old }
+    requires start { AreOfValues (code_of matrix.now) 1 rests.old moves.old }
     ensures low { AreLow rests.new }
-    ensures kept { AreKept (code_of matrix.now) soft.now word.now 1 (serve (code_of matrix.now) soft.now word.now (served (code_of matrix.now) soft.now word.now bit) bit) rests.new moves.new }
+    ensures kept { (soft : List ℤ) (word : List Bool) (m : Moved) → AreKept (code_of matrix.now) soft word 1 m rests.old moves.old → AreKept (code_of matrix.now) soft word 1 (serve (code_of matrix.now) soft word m bit) rests.new moves.new }
     ensures others { (k : ℕ) → k ≢ bit → HaveOneSign (get_or rests.old k (pos 0)) (get_or rests.new k (pos 0)) }
 {
-    let _soft = soft;
-    let _word = word;
     let checks = matrix.checks_at(bit);
     let edges = matrix.edges_at(bit);
     for at in 0..checks.len() {
@@ -107,7 +97,7 @@ fn serve_between(
     let mut none = true;
     for bit in from..to {
         if differs(soft, word, bit) {
-            serve(matrix, soft, word, rests, moves, bit);
+            serve(matrix, rests, moves, bit);
         }
         none = none & (rests[bit] >= 0);
     }

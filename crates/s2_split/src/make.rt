@@ -1,8 +1,9 @@
 //! The made split, on lists.
 ghost use Rattle.std.specs.Prelude.{◌≡◌, ◌≢◌, ℕ, ◌≤◌, All, length, get_or};
+ghost use Rattle.s2_rows.specs.Rows.{Rows};
 ghost use Rattle.s2_matrix.specs.Code.{code_of};
 ghost use Rattle.s2_check.specs.Views.{IsSoft};
-ghost use Rattle.s2_check.specs.Moves.{no_move, placed_of, ArePlaced};
+ghost use Rattle.s2_check.specs.Moves.{no_move, placed_of, AreMoves};
 ghost use Rattle.s2_split.specs.Greedy.{none_moved, greedy};
 ghost use Rattle.s2_split.specs.Spreading.{has_no_negative_rest, spread_scale};
 ghost use Rattle.s2_split.specs.Kept.{AreFew, AreLow, AreKept};
@@ -29,24 +30,14 @@ fn clear(moves: &mut [Move])
 }
 
 /// Rests at a scale of at most [`SPREAD_SCALE`], and no moves.
-fn begin(
-    matrix: &Matrix,
-    soft: &[i16],
-    word: &[bool],
-    scale: u16,
-    rests: &mut [i32],
-    moves: &mut [Move],
-)
-    requires soft { length soft.now ≡ (code_of matrix.now).bits }
+fn begin(soft: &[i16], word: &[bool], scale: u16, rests: &mut [i32], moves: &mut [Move])
     requires range { All IsSoft soft.now }
-    requires word { length word.now ≡ (code_of matrix.now).bits }
+    requires word { length word.now ≡ length soft.now }
     requires scale { scale ≤ spread_scale }
-    requires rests { length rests.old ≡ (code_of matrix.now).bits }
-    requires moves { length moves.old ≡ (code_of matrix.now).checks }
-    ensures kept { AreKept (code_of matrix.now) soft.now word.now scale none_moved rests.new moves.new }
+    requires rests { length rests.old ≡ length soft.now }
+    ensures kept { (r : Rows) → length soft.now ≡ (code_of r).bits → length moves.old ≡ (code_of r).checks → AreKept (code_of r) soft.now word.now scale none_moved rests.new moves.new }
     ensures low { scale ≡ 1 → AreLow rests.new }
 {
-    let _matrix = matrix;
     start_rests(soft, word, scale, rests);
     clear(moves);
 }
@@ -68,7 +59,7 @@ fn try_greedily(
     ensures test { has_no_negative_rest (code_of matrix.now) soft.now word.now 1 (greedy (code_of matrix.now) soft.now word.now) ≡ result }
     ensures kept { AreKept (code_of matrix.now) soft.now word.now 1 (greedy (code_of matrix.now) soft.now word.now) rests.new moves.new }
 {
-    begin(matrix, soft, word, 1, rests, moves);
+    begin(soft, word, 1, rests, moves);
     greedy(matrix, soft, word, rests, moves)
 }
 
@@ -99,7 +90,7 @@ pub(crate) fn make_moves(
     requires negatives { length negatives.old ≡ (code_of matrix.now).checks }
     requires moves { length moves.old ≡ (code_of matrix.now).checks }
     ensures made { made_of result moves.new ≡ shared (code_of matrix.now) word.now (split_in_ways ways (code_of matrix.now) soft.now word.now) }
-    ensures moves { ArePlaced (code_of matrix.now) word.now moves.new }
+    ensures moves { AreMoves (code_of matrix.now) moves.new }
     ensures rests { result ≢ 0 → AreLeft (code_of matrix.now) soft.now word.now (placed_of (code_of matrix.now) word.now result moves.new) rests.new }
     ensures scaled { result ≤ spread_scale }
     ensures long { length rests.new ≡ length rests.old }
@@ -111,8 +102,8 @@ pub(crate) fn make_moves(
     match ways {
         Ways::Greedy => 0,
         Ways::GreedyThenSpreading => {
-            begin(matrix, soft, word, SPREAD_SCALE, rests, moves);
-            if spread(matrix, soft, word, rests, negatives, moves) {
+            begin(soft, word, SPREAD_SCALE, rests, moves);
+            if spread(matrix, rests, negatives, moves) {
                 SPREAD_SCALE
             } else {
                 0

@@ -23,7 +23,6 @@ pub struct Maker<'a> {
     negatives: Vec<u32>,
     moves: Vec<Move>,
     odd: Vec<bool>,
-    word: Bits,
     scale: u16,
 }
 
@@ -35,7 +34,6 @@ impl<'a> Drop for Maker<'a> {
             negatives: _,
             moves: _,
             odd: _,
-            word: _,
             scale: _,
         } = self;
     }
@@ -47,10 +45,10 @@ impl<'a> Model for Maker<'a> {
     ghost Value = { Making };
 
     ghost view = { λ m.
-        record { rows = m.matrix.now; word = m.word; made = made_of m.scale m.moves.items; rests = m.rests.items } };
+        record { rows = m.matrix.now; made = made_of m.scale m.moves.items; rests = m.rests.items } };
 
     ghost invariant = { λ m.
-        IsMaker m.matrix.now m.word m.scale m.rests.items m.negatives.items m.moves.items m.odd.items };
+        IsMaker m.matrix.now m.scale m.rests.items m.negatives.items m.moves.items m.odd.items };
 }
 
 impl<'a> Maker<'a> {
@@ -70,14 +68,12 @@ impl<'a> Maker<'a> {
         };
         let moves = vec![in alloc; none; checks]?;
         let odd = vec![in alloc; false; checks]?;
-        let word = Bits::zeroed(alloc, bits)?;
         Ok(Maker {
             matrix,
             rests,
             negatives,
             moves,
             odd,
-            word,
             scale: 0,
         })
     }
@@ -121,7 +117,6 @@ impl<'a> Maker<'a> {
         requires range { All IsSoft soft.now }
         requires word { length word.now ≡ (code_of self.old.rows).bits }
         ensures rows { self.new.rows ≡ self.old.rows }
-        ensures word { self.new.word ≡ word.now }
         ensures found { IsTrue result ↔ (self.new.made ≢ None) }
         ensures codeword { IsTrue result → IsCodeword (code_of self.old.rows) word.now }
         ensures made { IsCodeword (code_of self.old.rows) word.now → self.new.made
@@ -130,7 +125,6 @@ impl<'a> Maker<'a> {
         ensures rests { HoldsRests self.new soft.now word.now }
     {
         if !self.matrix.satisfied(word) {
-            self.word.copy_prefix(word, word.len());
             self.scale = 0;
             return false;
         }
@@ -143,7 +137,6 @@ impl<'a> Maker<'a> {
         requires range { All IsSoft soft.now }
         requires codeword { IsCodeword (code_of self.old.rows) word.now }
         ensures rows { self.new.rows ≡ self.old.rows }
-        ensures word { self.new.word ≡ word.now }
         ensures found { IsTrue result ↔ (self.new.made ≢ None) }
         ensures made { self.new.made
             ≡ shared (code_of self.old.rows) word.now (made_split (code_of self.old.rows) soft.now word.now) }
@@ -158,7 +151,6 @@ impl<'a> Maker<'a> {
         requires range { All IsSoft soft.now }
         requires codeword { IsCodeword (code_of self.old.rows) word.now }
         ensures rows { self.new.rows ≡ self.old.rows }
-        ensures word { self.new.word ≡ word.now }
         ensures found { IsTrue result ↔ (self.new.made ≢ None) }
         ensures made { self.new.made
             ≡ shared (code_of self.old.rows) word.now (greedy_split (code_of self.old.rows) soft.now word.now) }
@@ -173,12 +165,10 @@ impl<'a> Maker<'a> {
         requires range { All IsSoft soft.now }
         requires codeword { IsCodeword (code_of self.old.rows) word.now }
         ensures rows { self.new.rows ≡ self.old.rows }
-        ensures word { self.new.word ≡ word.now }
         ensures found { IsTrue result ↔ (self.new.made ≢ None) }
         ensures made { self.new.made ≡ shared (code_of self.old.rows) word.now (split_in_ways ways (code_of self.old.rows) soft.now word.now) }
         ensures rests { HoldsRests self.new soft.now word.now }
     {
-        self.word.copy_prefix(word, word.len());
         self.scale = make_moves(
             self.matrix,
             soft,
@@ -203,7 +193,7 @@ impl<'a> Maker<'a> {
     pub fn held<'s>(&'s self, soft: &'s [i16], word: &'s Bits) -> CertView<'s>
         requires soft { length soft.now ≡ (code_of self.now.rows).bits }
         requires range { All IsSoft soft.now }
-        requires word { word.now ≡ self.now.word }
+        requires word { length word.now ≡ (code_of self.now.rows).bits }
         requires made { self.now.made ≢ None }
         ensures { IfSome self.now.made (λ s. result ≡ shared_view self.now.rows soft.now word.now s) }
     {

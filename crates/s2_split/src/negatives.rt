@@ -1,9 +1,9 @@
 //! How many members of each check have a negative rest, and moves that these counts follow.
-ghost use Rattle.std.specs.Prelude.{◌≡◌, ◌≢◌, ℕ, ◌<◌, ◌≤◌, ◌==◌, if◌then◌else◌, Bool, not, List, All, length, get_or, set, count_by, ℤ, pos, neg_ℤ, ◌-ℤ◌, int_lt};
+ghost use Rattle.std.specs.Prelude.{◌≡◌, ◌≢◌, ℕ, ◌<◌, ◌≤◌, ◌==◌, if◌then◌else◌, Bool, List, All, length, get_or, set, count_by, ℤ, pos, neg_ℤ, ◌-ℤ◌, int_lt};
 ghost use Rattle.std.specs.List.{AllPairs};
 ghost use Rattle.s2_mode.specs.Limits.{max_bits};
 ghost use Rattle.s2_matrix.specs.Code.{code_of};
-ghost use Rattle.s2_split.specs.Kept.{max_rest, taken_at, given_back, AreWithin, AreCounted};
+ghost use Rattle.s2_split.specs.Kept.{max_rest, taken_at, given_back, AreWithin, AreCounted, TurnsSign};
 ghost use Rattle.s2_check.specs.Moves.{max_moved};
 
 use s2_check::Move;
@@ -34,19 +34,11 @@ pub(crate) fn count_negatives(matrix: &Matrix, rests: &[i32], negatives: &mut [u
 }
 
 /// The sign of a bit's rest changes: each of its checks counts the bit, or no longer does.
-fn change_sign(
-    matrix: &Matrix,
-    rests: &[i32],
-    negatives: &mut [u32],
-    bit: usize,
-    becomes_negative: bool,
-)
+fn change_sign(matrix: &Matrix, negatives: &mut [u32], bit: usize, becomes_negative: bool)
     requires bit { bit < (code_of matrix.now).bits }
-    requires counted { AreCounted (code_of matrix.now) rests.now negatives.old }
-    requires changes { int_lt (get_or rests.now bit (pos 0)) (pos 0) ≡ not becomes_negative }
-    ensures counted { (later : List ℤ) → ((k : ℕ) → k ≢ bit → get_or later k (pos 0) ≡ get_or rests.now k (pos 0)) → int_lt (get_or later bit (pos 0)) (pos 0) ≡ becomes_negative → AreCounted (code_of matrix.now) later negatives.new }
+    requires turns { TurnsSign (code_of matrix.now) bit becomes_negative negatives.old }
+    ensures counted { (old : TurnsSign (code_of matrix.now) bit becomes_negative negatives.old) (later : List ℤ) → ((k : ℕ) → k ≢ bit → get_or later k (pos 0) ≡ get_or old.rests k (pos 0)) → int_lt (get_or later bit (pos 0)) (pos 0) ≡ becomes_negative → AreCounted (code_of matrix.now) later negatives.new }
 {
-    let _rests = rests;
     let _bits = matrix.bits();
     let checks = matrix.checks_at(bit);
     for check in checks {
@@ -75,7 +67,7 @@ pub(crate) fn set_rest(
 {
     let becomes_negative = rest < 0;
     if (rests[bit] < 0) != becomes_negative {
-        change_sign(matrix, rests, negatives, bit, becomes_negative);
+        change_sign(matrix, negatives, bit, becomes_negative);
     }
     rests[bit] = rest;
 }

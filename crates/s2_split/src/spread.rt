@@ -3,8 +3,7 @@
 ghost use Rattle.std.specs.List.{AllPairs};
 ghost use Rattle.std.specs.Prelude.{◌≡◌, ℕ, ◌<◌, ◌≤◌, IsTrue, Bool, List, All, length, get_or, ℤ, pos, ◌≤ℤ◌, ◌-ℤ◌};
 ghost use Rattle.s2_matrix.specs.Code.{code_of, members};
-ghost use Rattle.s2_check.specs.Moves.{no_move, ArePlaced, max_moved};
-ghost use Rattle.s2_check.specs.Views.{IsSoft};
+ghost use Rattle.s2_check.specs.Moves.{no_move, AreMoves, max_moved};
 ghost use Rattle.s2_split.specs.Greedy.{Moved, none_moved};
 ghost use Rattle.s2_split.specs.Spreading.{spread_check, spread_pass, spread, spread_scale, max_spread_passes};
 ghost use Rattle.s2_split.specs.Kept.{max_rest, taken_at, given_back, AreWithin, AreFew, AreKept, AreOfValues, AreCounted, Ends};
@@ -146,7 +145,7 @@ fn spread_pass<const BY_COUNTS: bool>(
     moves: &mut [Move],
 ) -> usize
     requires few { AreFew (code_of matrix.now) }
-    requires start { AreOfValues (code_of matrix.now) rests.old moves.old }
+    requires start { AreOfValues (code_of matrix.now) spread_scale rests.old moves.old }
     requires counted { IsTrue BY_COUNTS → AreCounted (code_of matrix.now) rests.old negatives.old }
     ensures kept { (soft : List ℤ) (word : List Bool) (m : Moved) → AreKept (code_of matrix.now) soft word spread_scale m rests.old moves.old → AreKept (code_of matrix.now) soft word spread_scale (spread_pass (code_of matrix.now) soft word m) rests.new moves.new }
     ensures same { result ≡ 0 → (rests.new ≡ rests.old) × (moves.new ≡ moves.old) }
@@ -172,7 +171,7 @@ fn next_pass(
     by_counts: bool,
 ) -> usize
     requires few { AreFew (code_of matrix.now) }
-    requires start { AreOfValues (code_of matrix.now) rests.old moves.old }
+    requires start { AreOfValues (code_of matrix.now) spread_scale rests.old moves.old }
     requires counted { IsTrue by_counts → AreCounted (code_of matrix.now) rests.old negatives.old }
     ensures kept { (soft : List ℤ) (word : List Bool) (m : Moved) → AreKept (code_of matrix.now) soft word spread_scale m rests.old moves.old → AreKept (code_of matrix.now) soft word spread_scale (spread_pass (code_of matrix.now) soft word m) rests.new moves.new }
     ensures same { result ≡ 0 → (rests.new ≡ rests.old) × (moves.new ≡ moves.old) }
@@ -216,23 +215,17 @@ const FEW: usize = 8;
 /// hold no amount. Once few do, it counts the members of each check that have a negative rest.
 pub(crate) fn spread(
     matrix: &Matrix,
-    soft: &[i16],
-    word: &[bool],
     rests: &mut [i32],
     negatives: &mut [u32],
     moves: &mut [Move],
 ) -> bool
-    requires range { All IsSoft soft.now }
-    requires word { length word.now ≡ (code_of matrix.now).bits }
     requires few { AreFew (code_of matrix.now) }
     requires negatives { length negatives.old ≡ (code_of matrix.now).checks }
-    requires start { AreKept (code_of matrix.now) soft.now word.now spread_scale none_moved rests.old moves.old }
+    requires start { AreOfValues (code_of matrix.now) spread_scale rests.old moves.old }
     ensures long { length negatives.new ≡ length negatives.old }
-    ensures moves { ArePlaced (code_of matrix.now) word.now moves.new }
-    ensures ends { Ends (code_of matrix.now) soft.now word.now (spread (code_of matrix.now) soft.now word.now max_spread_passes none_moved) result rests.new moves.new }
+    ensures moves { AreMoves (code_of matrix.now) moves.new }
+    ensures ends { (soft : List ℤ) (word : List Bool) → AreKept (code_of matrix.now) soft word spread_scale none_moved rests.old moves.old → Ends (code_of matrix.now) soft word (spread (code_of matrix.now) soft word max_spread_passes none_moved) result rests.new moves.new }
 {
-    let _soft = soft;
-    let _word = word;
     let few = matrix.check_count() / FEW;
     let mut by_counts = false;
     let mut changed = few;

@@ -10,6 +10,15 @@ use Rattle.s2_split.proofs.Signs.{none_more}
 use Rattle.s2_split.proofs.greedy.serve_between.Goals as goal
 use Rattle.s2_split.proofs.greedy.serve_between.Goals.{then-differs, else-differs}
 
+pub serve-requires-clause-start : goal.serve-requires-clause-start
+serve-requires-clause-start c = record {
+  soft = c.args.soft.now;
+  word = c.args.word.now;
+  m = served (code_of c.args.matrix.now) c.args.soft.now c.args.word.now c.loop-bit.bit;
+  range = c.requires.range;
+  kept = c.loop-bit.invariant.kept;
+}
+
 pub loop-bit-preserved : goal.loop-bit-preserved
 loop-bit-preserved c =
     let code = code_of c.args.matrix.now in
@@ -24,7 +33,7 @@ loop-bit-preserved c =
       | then-differs w ↦ (
           let passes : differs soft word e ≡ true = sym c.differs.ensures ∙ w.if-differs.true in
           let is = sym (fold_passed (serve code soft word) none_moved (differs soft word) e passes) in
-          let kept = subst (λ (n : Moved). AreKept code soft word 1 n w.serve.new.rests w.serve.new.moves) is w.serve.ensures.kept in
+          let kept = subst (λ (n : Moved). AreKept code soft word 1 n w.serve.new.rests w.serve.new.moves) is (w.serve.ensures.kept soft word (served code soft word e) c.loop-bit.invariant.kept) in
           lists_as P w.serve.new.rests left w.serve.new.moves c.if-differs.moves w.rests-is w.moves-is (w.serve.ensures.low, kept, w.serve.ensures.others)
           )
       | else-differs w ↦ (

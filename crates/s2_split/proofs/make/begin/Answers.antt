@@ -6,8 +6,8 @@ use Rattle.s2_split.proofs.MadeLists.{start_kept, start_low}
 use Rattle.s2_split.proofs.make.begin.Goals as goal
 
 pub returns-clause-kept : goal.returns-clause-kept
-returns-clause-kept c =
-    start_kept (code_of c.args.matrix.now) c.args.soft.now c.args.word.now c.args.scale c.start_rests.new.rests c.clear.new.moves (c.start_rests.ensures.long ∙ c.requires.soft) (c.clear.ensures.long ∙ c.requires.moves) (λ j low. some_member c.args.matrix.now j low) (λ i low. c.start_rests.ensures.are i (omega (arith, c.requires.soft))) c.clear.ensures.none
+returns-clause-kept c r soft moves =
+    start_kept (code_of r) c.args.soft.now c.args.word.now c.args.scale c.start_rests.new.rests c.clear.new.moves (c.start_rests.ensures.long ∙ soft) (c.clear.ensures.long ∙ moves) (λ j low. some_member r j low) (λ i low. c.start_rests.ensures.are i (omega (arith, soft))) c.clear.ensures.none
 
 pub returns-clause-low : goal.returns-clause-low
 returns-clause-low c one =

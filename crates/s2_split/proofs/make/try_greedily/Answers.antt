@@ -3,6 +3,9 @@ use Rattle.s2_split.specs.Greedy.{greedy}
 use Rattle.s2_split.proofs.Ends.{test_is}
 use Rattle.s2_split.proofs.make.try_greedily.Goals as goal
 
+pub greedy-requires-clause-start : goal.greedy-requires-clause-start
+greedy-requires-clause-start c = c.begin.ensures.kept c.args.matrix.now c.requires.soft c.requires.moves
+
 pub returns-clause-test : goal.returns-clause-test
 returns-clause-test c =
     let code = code_of c.args.matrix.now in

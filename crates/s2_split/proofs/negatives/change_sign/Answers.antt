@@ -24,13 +24,13 @@ overflow_add-negatives c =
     let are = c.checks_at-checks.ensures.are in
     let h : i < length js = omega arith in
     let was = not_written 0 (turned_at c.args.becomes_negative old) js i old c.loop-check.negatives (rising code c.args.bit js are) h c.loop-check.invariant.written in
-    let is = c.requires.counted.each (get_or js i 0) (at code c.args.bit i js are h).0 in
-    omega (arith, was, is, few_negative code c.args.rests.now (get_or js i 0), c.bits-bits.ensures.is, c.bits-bits.ensures.few)
+    let is = c.requires.turns.counted.each (get_or js i 0) (at code c.args.bit i js are h).0 in
+    omega (arith, was, is, few_negative code c.requires.turns.rests (get_or js i 0), c.bits-bits.ensures.is, c.bits-bits.ensures.few)
 
 pub overflow_sub-negatives : goal.overflow_sub-negatives
 overflow_sub-negatives c =
     let code = code_of c.args.matrix.now in
-    let rests = c.args.rests.now in
+    let turns = c.requires.turns in
     let bit = c.args.bit in
     let old = c.args.negatives.now in
     let js = c.checks_at-checks.result.now in
@@ -39,9 +39,9 @@ overflow_sub-negatives c =
     let h : i < length js = omega arith in
     let was = not_written 0 (turned_at c.args.becomes_negative old) js i old c.loop-check.negatives (rising code bit js are) h c.loop-check.invariant.written in
     let here = at code bit i js are h in
-    let is = c.requires.counted.each (get_or js i 0) here.0 in
-    let negative : int_lt (get_or rests bit (pos 0)) (pos 0) ≡ true = c.requires.changes ∙ ap not c.if-becomes_negative.false in
-    omega (arith, was, is, some_negative code rests (get_or js i 0) bit c.requires.bit here.1 negative)
+    let is = turns.counted.each (get_or js i 0) here.0 in
+    let negative : int_lt (get_or turns.rests bit (pos 0)) (pos 0) ≡ true = turns.changes ∙ ap not c.if-becomes_negative.false in
+    omega (arith, was, is, some_negative code turns.rests (get_or js i 0) bit c.requires.bit here.1 negative)
 
 pub loop-check-preserved : goal.loop-check-preserved
 loop-check-preserved c =
@@ -56,7 +56,7 @@ loop-check-preserved c =
     let f = turned_at c.args.becomes_negative old in
     let before = c.loop-check.invariant in
     let was = not_written 0 f js i old now (rising code c.args.bit js are) h before.written in
-    let low : x < length now = omega (arith, before.long, c.requires.counted.long, (at code c.args.bit i js are h).0) in
+    let low : x < length now = omega (arith, before.long, c.requires.turns.counted.long, (at code c.args.bit i js are h).0) in
     elim c.if-becomes_negative.branch [
       | then-becomes_negative w ↦ (
           let turned : f x ≡ get_or old x 0 + 1 = ap (λ b. cond b (get_or old x 0 + 1) (get_or old x 0 - 1)) w.if-becomes_negative.true in
@@ -76,7 +76,7 @@ loop-check-preserved c =
 
 pub returns : goal.returns
 returns c = record {
-  counted = λ later same will. (
+  counted = λ before later same will. (
       let code = code_of c.args.matrix.now in
       let bit = c.args.bit in
       let old = c.args.negatives.now in
@@ -85,6 +85,6 @@ returns c = record {
       let f = turned_at c.args.becomes_negative old in
       let all = all_written 0 f js c.loop-check.check-index old new (omega arith) c.loop-check.invariant.written in
       let written = subst (λ (l : List ℕ). IsWrittenAt 0 f l old new) c.checks_at-checks.ensures.are all in
-      counted_turned code c.args.rests.now later bit c.args.becomes_negative old new c.requires.bit same c.requires.changes will c.requires.counted c.loop-check.invariant.long written
+      counted_turned code before.rests later bit c.args.becomes_negative old new c.requires.bit same before.changes will before.counted c.loop-check.invariant.long written
       );
 }

@@ -14,6 +14,19 @@ same false false h = refl
 same true false h = absurd (both_ways true h refl)
 same false true h = absurd (both_ways true h refl)
 
+apart : (a b : Bool) → not (beq a b) ≡ true → a ≡ not b
+apart true false h = refl
+apart false true h = refl
+apart true true h = absurd (both_ways false refl h)
+apart false false h = absurd (both_ways false refl h)
+
+pub change_sign-requires-clause-turns : goal.change_sign-requires-clause-turns
+change_sign-requires-clause-turns c = record {
+  rests = c.args.rests.now;
+  counted = c.requires.counted;
+  changes = sym (ap (λ u. int_lt u (pos 0)) (to_z-of_z w32 (get_or c.args.rests.now c.args.bit (pos 0)) (search rules))) ∙ apart _ _ c.if-rests-bit.true;
+}
+
 pub returns-clause-counted : goal.returns-clause-counted
 returns-clause-counted c =
     let code = code_of c.args.matrix.now in
@@ -21,13 +34,13 @@ returns-clause-counted c =
     let bit = c.args.bit in
     let v = to_z w32 (of_z w32 c.args.rest) in
     let low : bit < length rests = omega (arith, c.requires.bit, c.requires.rests) in
+    let was = to_z-of_z w32 (get_or rests bit (pos 0)) (search rules) in
     elim c.if-rests-bit.branch [
       | then-rests-bit w ↦ (
-          let turned = w.change_sign.ensures.counted (set rests bit v) (set_turned rests bit v) (ap (λ u. int_lt u (pos 0)) (get_or-set_same rests bit v (pos 0) low)) in
+          let turned = w.change_sign.ensures.counted (record { rests = rests; counted = c.requires.counted; changes = sym (ap (λ u. int_lt u (pos 0)) was) ∙ apart _ _ w.if-rests-bit.true }) (set rests bit v) (set_turned rests bit v) (ap (λ u. int_lt u (pos 0)) (get_or-set_same rests bit v (pos 0) low)) in
           subst (AreCounted code (set rests bit v)) (sym w.negatives-is) turned
           )
       | else-rests-bit w ↦ (
-          let was = to_z-of_z w32 (get_or rests bit (pos 0)) (search rules) in
           let sign = same _ _ w.if-rests-bit.false ∙ ap (λ u. int_lt u (pos 0)) was in
           let still = counted_same code rests (set rests bit v) c.args.negatives.now c.requires.counted (set_same_sign rests bit v low sign) in
           subst (AreCounted code (set rests bit v)) (sym w.negatives-is) still

@@ -1,16 +1,11 @@
 use Rattle.std.proofs.Common.{length, List, Bool, sym, ap, ◌∙◌, arith, ℤ, ◌≢◌, IfSome, subst, take, drop, ◌++◌}
 use Rattle.s2_rows.specs.Rows.{Rows}
 use Rattle.s2_matrix.specs.Code.{code_of}
-use Rattle.s2_check.specs.Moves.{Move, placed_of, ArePlaced}
+use Rattle.s2_check.specs.Moves.{Move, placed_of, AreMoves}
 use Rattle.s2_check.proofs.Lists.{refilled}
 use Rattle.s2_split.specs.Making.{Making, made_of, shared, split_in_ways, AreLeft}
-use Rattle.s2_split.proofs.Held.{copied, held_left}
+use Rattle.s2_split.proofs.Held.{held_left}
 use Rattle.s2_split.proofs.maker.Maker.certify_in.Goals as goal
-
-pub returns-clause-word : goal.returns-clause-word
-returns-clause-word c =
-    let rows = ap (λ (v : Making). (code_of v.rows).bits) c.self.view_is in
-    copied c.args.word.now c.self.inside.word c.copy_prefix.new.self c.len.result c.len.ensures (omega (arith, c.self.invariant.moves.word_long, rows, c.requires.codeword.long)) c.copy_prefix.ensures
 
 pub returns-clause-made : goal.returns-clause-made
 returns-clause-made c =
@@ -41,27 +36,14 @@ pub invariant_of-self : goal.invariant_of-self
 invariant_of-self c =
     let inside = c.self.inside in
     let make = c.make_moves-self-inside in
-    let own = inside.matrix.now in
-    let soft = c.args.soft.now in
-    let new = c.copy_prefix.new.self in
-    let rows = ap (λ (v : Making). (code_of v.rows).bits) c.self.view_is in
-    let moves = take inside.moves.len (make.new.moves ++ drop (length make.new.moves) inside.moves.items) in
-    let rests = take inside.rests.len (make.new.rests ++ drop (length make.new.rests) inside.rests.items) in
     let same_moves = refilled inside.moves.len make.new.moves inside.moves.items (sym c.deref_mut-3.ensures.len ∙ ap length c.deref_mut-3.ensures.value) (omega (arith, ap length c.deref_mut-3.ensures.value)) in
     let same_rests = refilled inside.rests.len make.new.rests inside.rests.items (sym c.deref_mut.ensures.len ∙ ap length c.deref_mut.ensures.value) (omega (arith, ap length c.deref_mut.ensures.value, make.ensures.long)) in
     let same_negatives = refilled inside.negatives.len make.new.negatives inside.negatives.items (sym c.deref_mut-2.ensures.len ∙ ap length c.deref_mut-2.ensures.value) (omega (arith, ap length c.deref_mut-2.ensures.value, make.ensures.negatives)) in
-    let P : List Bool → Type 0 = λ u. IfSome (made_of make.result moves) (λ s. AreLeft (code_of own) soft u (placed_of (code_of own) u s.scale s.moves) rests) in
     record {
       few = c.self.invariant.few;
       scaled = make.ensures.scaled;
       rests_long = ap length same_rests ∙ omega (arith, make.ensures.long, ap length c.deref_mut.ensures.value, c.self.invariant.rests_long);
       negatives_long = ap length same_negatives ∙ omega (arith, make.ensures.negatives, ap length c.deref_mut-2.ensures.value, c.self.invariant.negatives_long);
       odd_long = c.self.invariant.odd_long;
-      moves = subst (ArePlaced (code_of own) new) (sym same_moves) (subst (λ (u : List Bool). ArePlaced (code_of own) u make.new.moves) (c.truths.ensures ∙ sym (returns-clause-word c)) make.ensures.moves);
-      left = λ some. record {
-        soft = soft;
-        long = c.requires.soft ∙ sym rows;
-        range = c.requires.range;
-        left = subst P (sym (returns-clause-word c)) (returns-clause-rests c);
-      };
+      moves = subst (AreMoves (code_of inside.matrix.now)) (sym same_moves) make.ensures.moves;
     }
