@@ -22,7 +22,7 @@ impl Model for Cell {
     ghost also_owns = { λ c. held slot_row c.at c.value };
 }
 
-/// The proof is in `proofs/cell/Cell/TheSendSync`: what is in a slot may go from one thread to another.
+/// The contents of a slot may go from one thread to another. The proof is in `proofs/cell/Cell/TheSendSync`.
 unsafe impl Send for Cell {}
 
 impl Cell {

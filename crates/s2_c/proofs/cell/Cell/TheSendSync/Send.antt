@@ -1,5 +1,4 @@
 -- A cell may go from one thread to another, as the box at its pointer may.
-use mathlib.Core.List.{[], ◌∷◌}
 use base.Shift.{Keyless}
 use mir.Raw.{raw}
 use denote.Exit.{Exit, unchanged, leaves, hidden, under}
