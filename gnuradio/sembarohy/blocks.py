@@ -23,7 +23,7 @@ def told(frame):
     """A frame as a dictionary."""
     words = {"number": frame.number, "at": frame.at, "verdict": frame.verdict, "outcome": frame.outcome, "packets": len(frame.packets) // 188}
     words |= {} if frame.fixed is None else {"fixed": frame.fixed}
-    return pmt.to_pmt(words | ({"figures": vars(frame.figures)} if frame.figures else {}))
+    return pmt.to_pmt(words | ({"figures": frame.figures._asdict()} if frame.figures else {}))
 
 
 class Ending(gr.basic_block):

@@ -171,6 +171,12 @@ CALLS: dict[str, list[Any]] = {
 }
 """The calls of the header that return a result, each with its parameters."""
 
+BRIEF = {
+    *("error_text", "mode_of", "code_facts", "receiver_room", "receiver_packets", "receiver_figures", "receiver_sums", "receiver_totals"),
+    *("transmitter_ready", "transmitter_counts", "scan_at"),
+}
+"""The calls that keep the interpreter's lock: they take less time than releasing it and waiting for it."""
+
 
 def places() -> list[str]:
     """The possible paths of the library: that of S2_LIBRARY in the environment, which is its path or its folder. Without it, those in `FOLDERS`,
@@ -192,8 +198,8 @@ def _opened() -> ctypes.CDLL:
 
 
 class Library:
-    """The loaded library. Each call of `CALLS` is a method: it raises `Error` for a negative result. The interpreter's lock is released
-    while the library works."""
+    """The loaded library. `call` makes a call of `CALLS`, and raises `Error` for a negative result. The interpreter's lock is released while
+    the library works, except in the calls of `BRIEF`."""
 
     def __init__(self) -> None:
         self._loaded = _opened()
@@ -201,9 +207,11 @@ class Library:
         if self.version < VERSION:
             raise ImportError(f"{self._loaded._name} has version {self.version}, and {VERSION} is needed")
         self._loaded.s2_end.argtypes, self._loaded.s2_end.restype = [_HANDLE], None
+        with_lock, self._calls = ctypes.PyDLL(self._loaded._name, handle=self._loaded._handle), {}
         for name, types in CALLS.items():
-            call = getattr(self._loaded, f"s2_{name}")
+            call = getattr(with_lock if name in BRIEF else self._loaded, f"s2_{name}")
             call.argtypes, call.restype = types, c_int32
+            self._calls[name] = call
 
     @property
     def path(self) -> str:
@@ -213,12 +221,12 @@ class Library:
     def text(self, result: int) -> str:
         """The library's text for a result."""
         out, count = ctypes.create_string_buffer(200), c_size_t()
-        self._loaded.s2_error_text(result, out, len(out), ctypes.byref(count))
+        self.result("error_text", result, out, len(out), ctypes.byref(count))
         return out.raw[: count.value].decode("ascii")
 
     def result(self, name: str, *given: Any) -> int:
         """The result of a call."""
-        return getattr(self._loaded, f"s2_{name}")(*given)
+        return self._calls[name](*given)
 
     def succeed(self, result: int) -> None:
         """Raises `Error` for a negative result."""

@@ -6,8 +6,7 @@ import functools
 import os
 import threading
 from ctypes import c_uint32
-from dataclasses import dataclass
-from typing import Any
+from typing import Any, NamedTuple
 
 from . import _library
 from ._library import Held, Options
@@ -55,8 +54,7 @@ def options_of(code: Any, mode: int | str, short: bool | None, **given: Any) -> 
     return Options(modcod=modcod_of(mode), is_short=bool(is_short), given=bits, **numbers)
 
 
-@dataclass(frozen=True)
-class Mode:
+class Mode(NamedTuple):
     """A mode and its numbers.
 
     `n` and `k` are the bits of a codeword and of a BCH word, `kbch` those of a BBFRAME, `bits` those of a symbol. `symbols` is the number

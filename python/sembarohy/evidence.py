@@ -3,8 +3,7 @@ from __future__ import annotations
 
 import ctypes
 from ctypes import c_uint32
-from dataclasses import dataclass
-from typing import Any
+from typing import Any, NamedTuple
 
 from . import _library, _symbols
 from ._library import Held
@@ -15,8 +14,7 @@ ANSWERS = ("accepted", "other shape", "no check", "no bound")
 """The answers of the checker, in the order of their numbers."""
 
 
-@dataclass(frozen=True)
-class Judgement:
+class Judgement(NamedTuple):
     """A decision: its verdict, one of `VERDICTS`, the decided bits, one per byte, and the certificate file of the word. That is None
     unless the verdict is `sole` or `most-likely`."""
 
@@ -70,8 +68,7 @@ def judge(code: Code, soft: Any, mode: int | str | None = None, **options: Any) 
         return made.decide(soft)
 
 
-@dataclass(frozen=True)
-class Checked:
+class Checked(NamedTuple):
     """The checker's result on a certificate.
 
     `answer` is one of `ANSWERS`. `sole` is whether every other codeword fits worse; if it is only accepted, no other one fits better.

@@ -3,8 +3,7 @@ from __future__ import annotations
 
 import ctypes
 from ctypes import c_size_t
-from dataclasses import dataclass, fields
-from typing import Any, Iterable, Iterator
+from typing import Any, Iterable, Iterator, NamedTuple
 
 from . import _library, _symbols
 from ._library import Held
@@ -23,8 +22,7 @@ RECORDS = ("soft", "word", "bbframe", "certificate")
 """The records of a frame that the receiver has until its next step."""
 
 
-@dataclass(frozen=True)
-class Figures:
+class Figures(NamedTuple):
     """The figures of a frame, or the sums of those of all frames (`docs/formats.md`, Figures of a frame).
 
     In sums `header`, `rounds` and the correlations (`.._along`, `.._across`) are 0."""
@@ -49,8 +47,7 @@ class Figures:
         return f" header {self.header} changed {self.changed} rounds {self.rounds} {' '.join(sums)}"
 
 
-@dataclass(frozen=True)
-class Cut:
+class Cut(NamedTuple):
     """A frame that the end of the stream cut off: its first symbol, counted from 0, and how many of its symbols are there."""
 
     at: int
@@ -60,8 +57,7 @@ class Cut:
         return f"cut at {self.at} symbols {self.symbols}"
 
 
-@dataclass(frozen=True)
-class Totals:
+class Totals(NamedTuple):
     """The totals of a receiver since its start.
 
     `bad` is the number of packets that were dropped for a wrong CRC-8, `incomplete` that of packets that a lost frame cut off. `skipped`
@@ -233,7 +229,7 @@ class Receiver(Held):
         """The totals since the start."""
         told = _library.Totals()
         self._call("receiver_totals", ctypes.byref(told))
-        return Totals(**{it.name: getattr(told, it.name) for it in fields(Totals) if it.name != "cut"}, cut=told.cut == 1)
+        return Totals(**{it: getattr(told, it) for it in Totals._fields if it != "cut"}, cut=told.cut == 1)
 
     @property
     def sums(self) -> Figures | None:
@@ -247,7 +243,7 @@ class Receiver(Held):
         if result == _library.NONE_THERE:
             return None
         self._library.succeed(result)
-        return Figures(**{it.name: getattr(told, it.name) for it in fields(Figures)})
+        return Figures(**{it: getattr(told, it) for it in Figures._fields})
 
     def _asked_room(self) -> int:
         """The bytes that the next step takes."""

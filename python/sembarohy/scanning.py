@@ -3,16 +3,14 @@ from __future__ import annotations
 
 import ctypes
 from ctypes import c_size_t
-from dataclasses import dataclass
-from typing import Any
+from typing import Any, NamedTuple
 
 from . import _library, _symbols
 from ._library import Held
 from .code import NAMES
 
 
-@dataclass(frozen=True)
-class Seen:
+class Seen(NamedTuple):
     """A kind of headers that was seen (`docs/formats.md`, Output of `scan`).
 
     `turn` and `conjugate` say what happened to the symbols: they were multiplied by the `turn`-th power of i, and then conjugated.

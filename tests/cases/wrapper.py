@@ -115,7 +115,7 @@ def try_codes():
             file.write("0 1 2 3")
         judge("a file", 7, sembarohy.Code.from_file(f"{room}/rows", 1).k)
         judge("no file", "FileNotFoundError", refusal(sembarohy.Code.from_file, f"{room}/none", 1).partition(":")[0])
-    judge("a mode", (7, True, False, 11, 20, 30, 40, 50, 60, 70, 80), tuple(getattr(sembarohy.Mode.of("qpsk3/4", short=True), it) for it in sembarohy.Mode.__dataclass_fields__))
+    judge("a mode", (7, True, False, 11, 20, 30, 40, 50, 60, 70, 80), tuple(getattr(sembarohy.Mode.of("qpsk3/4", short=True), it) for it in sembarohy.Mode._fields))
     judge("bad rows", "Error: text of -8", refusal(code_of, "bad"))
     judge("no memory", "Error: text of -1", refusal(code_of, "memory"))
     judge("no mode", "Error: text of -6", refusal(code_of, mode=18))

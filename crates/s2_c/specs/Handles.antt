@@ -4,8 +4,8 @@ use Rattle.s2_library.specs.declared.refusal.Refusal.{Refusal}
 use Rattle.s2_library.specs.declared.refusal.Refusal.TheVariants.{InUse}
 use Rattle.s2_library.specs.declared.slot.Slot.{Slot}
 
--- An empty handle is filled with contents of this kind. Or the call is refused, and the handle is unchanged. The refusal of a
--- handle that is in use is `InUse`
+-- An empty handle is filled with contents of this kind. Or the call is refused, and the handle is unchanged. If the handle was in
+-- use, the refusal says so
 abbrev pub Fills : (Slot → Type 0) → (old new : Option Slot) → Result (Unit {0}) Refusal → Type 0
 Fills kind (Some s) new result = (result ≡ Err InUse) × (new ≡ Some s)
 Fills kind None (Some t) result = (result ≡ Ok tt) × kind t

@@ -5,7 +5,7 @@ ghost use Rattle.s2_library.specs.declared.slot.Slot.{Slot as SlotValue};
 use crate::loose::Loose;
 use s2_library::Slot;
 use std::alloc::Global;
-use std::marker::Model;
+use std::marker::{Model, Send};
 
 /// The pointer of a handle, to a block with a slot. It owns the block unless it is empty.
 #[repr(C)]
@@ -21,6 +21,9 @@ impl Model for Cell {
 
     ghost also_owns = { λ c. held slot_row c.at c.value };
 }
+
+/// The contents of a slot may go from one thread to another. The proof is in `proofs/cell/Cell/TheSendSync`.
+unsafe impl Send for Cell {}
 
 impl Cell {
     /// Takes the block out, and leaves the cell empty.

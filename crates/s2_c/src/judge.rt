@@ -1,9 +1,9 @@
 //! The exports of judges, and of the checker.
-ghost use Rattle.std.specs.Prelude.{◌≡◌, ◌↔◌, None, Some, Err, IfSome};
+ghost use Rattle.std.specs.Prelude.{◌≡◌, ◌↔◌, None, Some, Err};
 ghost use Rattle.s2_library.specs.declared.slot.Slot.{Slot};
 ghost use Rattle.s2_library.specs.Asked.{IsJudgeOf};
 ghost use Rattle.s2_library.specs.Checked.{ChecksFile};
-ghost use Rattle.s2_library.specs.Codes.{code_in};
+ghost use Rattle.s2_library.specs.Codes.{OnCode, code_in};
 ghost use Rattle.s2_library.specs.Results.{answer_of};
 ghost use Rattle.s2_library.specs.Copying.{digits_of};
 ghost use Rattle.s2_library.specs.Slots.{CopiesMadeOf, CopiesOf, DecidesOnOf, decided_file, judge_in, listed};
@@ -25,7 +25,7 @@ pub extern "C" fn s2_judge_new(
     judge: &mut Handle,
 ) -> i32
     ensures empty { code.old.cell.value ≡ None → judge.old.cell.value ≡ None → (answer_of result ≡ Err Refusal.Empty) × (judge.new.cell.value ≡ None) }
-    ensures made { (s : Slot) → code.old.cell.value ≡ Some s → Fills (λ slot. IfSome (code_in s) (λ c. IsJudgeOf options.now c.matrix.now slot)) judge.old.cell.value judge.new.cell.value (answer_of result) }
+    ensures made { (s : Slot) → code.old.cell.value ≡ Some s → Fills (λ slot. OnCode (code_in s) (λ rows. IsJudgeOf options.now rows slot)) judge.old.cell.value judge.new.cell.value (answer_of result) }
     ensures kept { code.new.cell.value ≡ code.old.cell.value }
 {
     if judge.live != 0 {

@@ -8,6 +8,7 @@ mod cell;
 mod code;
 mod handle;
 mod judge;
+pub mod laws;
 mod loose;
 mod receiver;
 mod scanner;

@@ -1,8 +1,8 @@
 //! The exports of receivers.
-ghost use Rattle.std.specs.Prelude.{◌≡◌, ◌↔◌, None, Some, Err, IfSome, nat_eq};
+ghost use Rattle.std.specs.Prelude.{◌≡◌, ◌↔◌, None, Some, Err, nat_eq};
 ghost use Rattle.s2_library.specs.declared.slot.Slot.{Slot};
 ghost use Rattle.s2_library.specs.Asked.{IsReceiverOf};
-ghost use Rattle.s2_library.specs.Codes.{code_in};
+ghost use Rattle.s2_library.specs.Codes.{OnCode, code_in};
 ghost use Rattle.s2_library.specs.Results.{answer_of};
 ghost use Rattle.s2_library.specs.Copying.{digits_of};
 ghost use Rattle.s2_library.specs.Fields as fields;
@@ -26,7 +26,7 @@ pub extern "C" fn s2_receiver_new(
     receiver: &mut Handle,
 ) -> i32
     ensures empty { code.old.cell.value ≡ None → receiver.old.cell.value ≡ None → (answer_of result ≡ Err Refusal.Empty) × (receiver.new.cell.value ≡ None) }
-    ensures made { (s : Slot) → code.old.cell.value ≡ Some s → Fills (λ slot. IfSome (code_in s) (λ c. IsReceiverOf options.now c.matrix.now slot)) receiver.old.cell.value receiver.new.cell.value (answer_of result) }
+    ensures made { (s : Slot) → code.old.cell.value ≡ Some s → Fills (λ slot. OnCode (code_in s) (λ rows. IsReceiverOf options.now rows slot)) receiver.old.cell.value receiver.new.cell.value (answer_of result) }
     ensures kept { code.new.cell.value ≡ code.old.cell.value }
 {
     if receiver.live != 0 {

@@ -1,5 +1,5 @@
 -- The link and the tuning of the options of C (own).
-use Rattle.std.specs.Prelude.{◌≡◌, ℕ, ◌%◌, ◌/◌, nat_eq, Bool, if◌then◌else◌, min, Option, None}
+use Rattle.std.specs.Prelude.{◌≡◌, ℕ, ◌%◌, ◌/◌, nat_eq, Bool, if◌then◌else◌, min, None}
 use Rattle.s2_mode.specs.Mode.{Mode, mode_of}
 use Rattle.s2_rows.specs.Rows.{Rows}
 use Rattle.s2_link.specs.Link.{Link, link_of}
@@ -13,7 +13,6 @@ use Rattle.s2_send.specs.Limits.{max_packets}
 use Rattle.s2_send.specs.Sender.{at_first}
 use Rattle.s2_library.specs.declared.options.Flags.{Flags}
 use Rattle.s2_library.specs.declared.options.Options.{Options}
-use Rattle.s2_library.specs.declared.receiver.Reception.{Reception}
 use Rattle.s2_library.specs.declared.slot.Slot.{Slot}
 use Rattle.s2_library.specs.declared.slot.Slot.TheVariants as slots
 

@@ -1,5 +1,5 @@
 -- The structs that C shares (own).
-use Rattle.std.specs.Prelude.{◌≡◌, ℕ, ◌-◌, ◌/◌, ◌%◌, min, nat_le, Bool, pos, replicate, Option, Some, None, if◌then◌else◌, is_some}
+use Rattle.std.specs.Prelude.{ℕ, ◌-◌, ◌/◌, ◌%◌, min, nat_le, Bool, pos, replicate, Option, Some, None, if◌then◌else◌, is_some}
 use Rattle.s2_mode.specs.Mode.{Mode, n_of, k_of, kbch_of, q_of, width_of, symbols_in}
 use Rattle.s2_check.specs.declared.verdict.Verdict.{Verdict}
 use Rattle.s2_check.specs.declared.verdict.Verdict.TheVariants as verdicts

@@ -22,7 +22,7 @@ use Rattle.s2_judge.specs.Judging.{Judging}
 use Rattle.s2_judge.specs.Deciding.{decided}
 use Rattle.s2_scan.specs.Scanning.{AreHeadersOf}
 use Rattle.s2_scan.specs.declared.candidate.Candidate.{Candidate}
-use Rattle.s2_library.specs.Copying.{Copies, digits_of}
+use Rattle.s2_library.specs.Copying.{Copies}
 use Rattle.s2_library.specs.declared.scanner.Scanner.{Scanner}
 use Rattle.s2_library.specs.Fields.{mode_fields, step_fields, verdict_number}
 use Rattle.s2_library.specs.declared.mode.ModeFields.{ModeFields}

@@ -1,8 +1,8 @@
 //! Judges.
-ghost use Rattle.std.specs.Prelude.{◌≡◌, All, IfOk, IfSome, IsTrue};
+ghost use Rattle.std.specs.Prelude.{◌≡◌, All, IfOk, IsTrue};
 ghost use Rattle.s2_tuning.specs.Wanted.{judging_by};
 ghost use Rattle.s2_library.specs.Asked.{IsJudgeOf, flags_of, judging_in, tuning_in, wanted_by as wanted_of};
-ghost use Rattle.s2_library.specs.Codes.{code_in as code_in_slot};
+ghost use Rattle.s2_library.specs.Codes.{OnCode, code_in as code_in_slot};
 ghost use Rattle.s2_library.specs.Copying.{digits_of};
 ghost use Rattle.s2_library.specs.Slots.{CopiesMadeOf, CopiesOf, DecidesOn, DecidesOnOf, decided_file, judge_in, listed};
 ghost use Rattle.s2_check.specs.Views.{IsSoft};
@@ -58,7 +58,7 @@ fn tuning_of(code: Code, options: &Options) -> Result<Tuning, Refusal>
 
 /// A judge on a code, by options. The first refusal is returned.
 pub fn new_judge(alloc: Global, code: &Slot, options: &Options) -> Result<Slot, Refusal>
-    ensures { IfOk result (λ slot. IfSome (code_in_slot code.now) (λ c. IsJudgeOf options.now c.matrix.now slot)) }
+    ensures { IfOk result (λ slot. OnCode (code_in_slot code.now) (λ rows. IsJudgeOf options.now rows slot)) }
 {
     let code = code_in(code)?;
     let tuning = tuning_of(code, options)?;

@@ -18,6 +18,7 @@ mod code;
 mod copying;
 mod decision;
 mod figures;
+pub mod laws;
 mod mode;
 mod options;
 mod receiver;

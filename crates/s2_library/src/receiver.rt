@@ -1,9 +1,9 @@
 //! Receivers.
-ghost use Rattle.std.specs.Prelude.{◌≡◌, ◌≤◌, length, IfOk, IfSome, IsOkUnless, Some, nat_eq};
+ghost use Rattle.std.specs.Prelude.{◌≡◌, ◌≤◌, length, IfOk, IsOkUnless, Some, nat_eq};
 ghost use Rattle.s2_check.specs.CertificateBytes.{bytes_of};
 ghost use Rattle.s2_modem.specs.Reception.{IsNew};
 ghost use Rattle.s2_library.specs.Asked.{IsReceiverOf, flags_of, link_in};
-ghost use Rattle.s2_library.specs.Codes.{code_in as code_in_slot};
+ghost use Rattle.s2_library.specs.Codes.{OnCode, code_in as code_in_slot};
 ghost use Rattle.s2_library.specs.Copying.{digits_of};
 ghost use Rattle.s2_library.specs.Fields as fields;
 ghost use Rattle.s2_library.specs.Slots.{AdvancesReception, AdvancesSlot, CopiesMadeOf, CopiesOf, Gives, GivesFields, GivesFieldsIf, ResetsReception, ResetsSlot, bbframe_in, figures_in, is_delivered, last_figures, listed, message_bytes, received_file, reception_in, receiver_in, room_in, sums_in, totals_in};
@@ -85,7 +85,7 @@ fn receiver_on(
 
 /// A receiver on a code, by options. The first refusal is returned.
 pub fn new_receiver(alloc: Global, code: &Slot, options: &Options) -> Result<Slot, Refusal>
-    ensures { IfOk result (λ slot. IfSome (code_in_slot code.now) (λ c. IsReceiverOf options.now c.matrix.now slot)) }
+    ensures { IfOk result (λ slot. OnCode (code_in_slot code.now) (λ rows. IsReceiverOf options.now rows slot)) }
 {
     let code = code_in(code)?;
     let flags = read_flags(options)?;

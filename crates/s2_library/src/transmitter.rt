@@ -1,7 +1,7 @@
 //! Transmitters.
-ghost use Rattle.std.specs.Prelude.{IfOk, IfSome};
+ghost use Rattle.std.specs.Prelude.{IfOk};
 ghost use Rattle.s2_library.specs.Asked.{IsSenderOf};
-ghost use Rattle.s2_library.specs.Codes.{code_in as code_in_slot};
+ghost use Rattle.s2_library.specs.Codes.{OnCode, code_in as code_in_slot};
 ghost use Rattle.s2_library.specs.Copying.{digits_of};
 ghost use Rattle.s2_library.specs.Slots.{ClosesStream, ClosesStreamOf, CopiesOf, GivesCounts, GivesReady, PutsPackets, PutsPacketsOf, Restarts, RestartsOf, TakesFrame, TakesFrameOf, listed, sender_in};
 
@@ -16,7 +16,7 @@ use std::alloc::Global;
 
 /// A transmitter on a code, by options. The first refusal is returned.
 pub fn new_transmitter(alloc: Global, code: &Slot, options: &Options) -> Result<Slot, Refusal>
-    ensures { IfOk result (λ slot. IfSome (code_in_slot code.now) (λ c. IsSenderOf options.now c.matrix.now slot)) }
+    ensures { IfOk result (λ slot. OnCode (code_in_slot code.now) (λ rows. IsSenderOf options.now rows slot)) }
 {
     let code = code_in(code)?;
     let flags = read_flags(options)?;

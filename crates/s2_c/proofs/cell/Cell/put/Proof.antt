@@ -1,6 +1,6 @@
 -- `put` writes the pointer into an empty cell.
-use Rattle.std.proofs.Common.{◌≡◌, List, [], ◌∷◌, ◌++◌, refl, sym, ap, ◌∙◌, subst}
-use Rattle.std.specs.Prelude.{Option, None, Some}
+use Rattle.std.proofs.Common.{◌≡◌, List, [], ◌∷◌, ◌++◌, refl, sym, subst}
+use Rattle.std.specs.Prelude.{None, Some}
 use base.Fraction.{full_share}
 use base.Logic.{SProp, ent, id⊢}
 use base.Fml.{ftrue, flft}
@@ -16,7 +16,7 @@ use types.ByLocal.{alloc_all, pass_all, free_all, look_at, get, get_in, through,
 use denote.Exit.{Kept, rest}
 use denote.Laws.{shows}
 use denote.Memory.{cell_at}
-use denote.RawPtr.{Ptr, block_ptr}
+use denote.RawPtr.{block_ptr}
 use denote.RattleType.{Valss}
 use denote.Builtin.{RawPtr}
 use denote.Struct.Struct.{within}
@@ -30,8 +30,6 @@ use Rattle.std.proofs.raw_atomic.Walks.{proved_at}
 use Rattle.std.specs.contracts.alloc.Global as heap
 use Rattle.std.proofs.alloc.Global.TheLaws as heap_laws
 use Rattle.std.specs.contracts.impls.GlobalAllocator.TheImpl.{ghosts}
-use Rattle.std_alloc.specs.Box.Ownership.{box_owns}
-use Rattle.s2_c.specs.Cells.{held}
 use Rattle.s2_c.specs.contracts.cell.Cell.{the_row as R, the_type}
 use Rattle.s2_library.specs.contracts.slot.Slot.{the_row as S}
 use Rattle.s2_c.proofs.cell.Cell.TheLaws.{lowers}

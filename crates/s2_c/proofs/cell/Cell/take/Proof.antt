@@ -1,8 +1,8 @@
 -- `take` reads the pointer, and leaves the cell empty.
-use Rattle.std.proofs.Common.{◌≡◌, List, [], ◌∷◌, ◌++◌, refl, sym, ap, ◌∙◌, subst}
-use Rattle.std.specs.Prelude.{Option, None, Some, IsSome}
+use Rattle.std.proofs.Common.{◌≡◌, List, [], ◌∷◌, refl, sym, ap, ◌∙◌, subst}
+use Rattle.std.specs.Prelude.{Option, None, IsSome}
 use base.Fraction.{full_share}
-use base.Logic.{ent, id⊢, never, fst∗}
+use base.Logic.{ent, never, fst∗}
 use base.Fml.{ftrue, flft}
 use mir.Syntax.{named}
 use mir.Raw.{raw as bare}

@@ -1,4 +1,4 @@
-use Rattle.std.proofs.Common.{◌≡◌, ◌<◌, IsTrue, length, get_or, map, sym, ap, subst, ◌∙◌, arith}
+use Rattle.std.proofs.Common.{◌≡◌, IsTrue, get_or, map, arith}
 use Rattle.std.proofs.lemmas.Grind.{common_steps}
 use Rattle.s2_library.specs.Shelves.{HaveSameRows}
 use Rattle.s2_library.proofs.Shelves.{none_more, item_is}
