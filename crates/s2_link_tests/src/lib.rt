@@ -1,16 +1,16 @@
-//! Tests of both ends of a link together, over public calls alone, with the numbers of the standard.
+//! Tests of a link's two ends, over public calls alone: calls that no command makes, states after a fault, and memory
+//! that is refused. What a command or the library shows is tested by scripts (`docs/working.md`).
 //!
-//! Shared helpers are in `reception` (that of a stream), `samples` (the symbols of packets), and `streams` of
-//! `s2_stream_tests` (small links, readers and writers).
+//! Shared helpers are in `ends` (small links, writers) and `samples` (the symbols of packets).
 #![tactic(auto)]
 
 #[cfg(test)]
-mod fault_tests;
+mod demodulation_tests;
 #[cfg(test)]
-mod modem_memory_tests;
+mod ends;
 #[cfg(test)]
 mod receiver_tests;
 #[cfg(test)]
-mod reception;
-#[cfg(test)]
 mod samples;
+#[cfg(test)]
+mod send_tests;

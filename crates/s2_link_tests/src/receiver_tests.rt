@@ -1,16 +1,38 @@
-//! What a receiver shows of its frames, and calls that no command makes.
-use super::reception::{Shown, assert_received, received, show_by_rooms};
-use super::samples::{Sample, one_frame, two_frames, two_packets};
-use s2_check::{Answer, Verdict};
-use s2_modem::{DemodFault, SetupFault};
-use s2_receive::{Outcome, Report, Step};
-use s2_stream_tests::streams::{Event, Sides, link_of, packet_of_zeros};
+//! A receiver that gets its first symbols room by room, and the others by calls that read and write: its steps, and its
+//! state after a fault.
+use super::ends::{
+    ALL, Reader, Sides, Writer, feed, reader_of, receiver_of, step, taken, writer_of,
+};
+use super::samples::{Sample, two_frames};
+use s2_check::Verdict;
+use s2_modem::Receiver;
+use s2_receive::{Fault, Outcome, Report, Step};
 use std::alloc::Global;
-use std::process::Abort;
 use std::test::Fail;
 
+/// A case of the two frames. First the rooms that are filled, and then the reads, writes of packets and writes of lines that
+/// succeed. Then the number of steps that come, and the fault after them. Last the numbers of bytes: that were given by
+/// rooms, of packets, and of lines.
+type Case = (u32, [u64; 3], usize, Fault, [usize; 3]);
+
+/// A frame's bytes.
+const SIZE: usize = 32760;
+
+/// A frame's packet comes before its line. A call reads once, and the third one finds the end.
+const CASES: [Case; 9] = [
+    (0, [ALL, ALL, ALL], 9, Fault::Failed, [0, 376, 96]),
+    (0, [0, ALL, ALL], 0, Fault::Read, [0, 0, 0]),
+    (0, [1, ALL, ALL], 1, Fault::Read, [0, 188, 26]),
+    (0, [ALL, 0, ALL], 0, Fault::Write, [0, 0, 0]),
+    (0, [ALL, ALL, 1], 1, Fault::Write, [0, 376, 26]),
+    (0, [ALL, ALL, 2], 2, Fault::Write, [0, 376, 55]),
+    (1, [0, ALL, ALL], 1, Fault::Read, [SIZE, 188, 0]),
+    (1, [ALL, ALL, 0], 1, Fault::Write, [SIZE, 376, 0]),
+    (3, [ALL, ALL, ALL], 9, Fault::Failed, [2 * SIZE, 376, 0]),
+];
+
 /// A delivered frame in which nothing was wrong.
-pub(crate) fn frame(number: u64, at: u64) -> Step {
+fn frame(number: u64, at: u64) -> Step {
     Step::Frame(Report {
         number,
         at,
@@ -21,126 +43,125 @@ pub(crate) fn frame(number: u64, at: u64) -> Step {
     })
 }
 
-/// The report of the frames of two packets.
-const TWO: &str =
-    "frame 1 at 0 sole fixed 0\nframe 2 at 8190 sole fixed 0\nend frames 2 delivered 2 packets 2 bad 0\n";
-
-#[test]
-fn two_packets_arrive(rt: HostRuntime) -> Result<(), Fail> {
-    let sample = two_frames(rt.alloc())?;
-    let received = received(rt.alloc(), &sample.link, &sample.symbols);
-    assert_received(&rt, &received, TWO, two_packets().as_flattened());
-    Ok(())
-}
-
-/// QPSK points of 700 without noise are 478 away from zero.
-fn assert_clean<A: Abort>(rt: &A, soft: &[i16]) {
-    assert_eq!(rt; soft.len(), 64800);
-    for value in soft {
-        assert_eq!(rt; value.abs_diff(0), 478);
+/// The step or the fault of a number, counted from 0. After the fault each call fails.
+fn answer_at(case: &Case, number: usize) -> Result<Step, Fault> {
+    if number > case.2 {
+        return Err(Fault::Failed);
+    }
+    match number {
+        _ if number == case.2 => Err(case.3),
+        0 => Ok(frame(1, 0)),
+        1 => Ok(frame(2, 8190)),
+        _ => Ok(Step::End),
     }
 }
 
-/// Asserts the decision on the frame of a packet of zeros, and the checker's result for its certificate.
-fn assert_shown<A: Abort>(rt: &A, shown: &Shown, answer: Option<Answer>) {
-    assert_clean(rt, &shown.soft);
-    assert_eq!(rt; shown.answer, answer);
-    assert_eq!(rt; shown.word, [0xf3, 0xf6, 0x0d, 0xd4]);
-    assert_eq!(rt; shown.message.len(), 16008);
-    let begins = [true, true, true, true, false, false, true, true];
-    assert!(rt; shown.message.starts_with(&begins));
+/// The numbers of bytes that were given by rooms, of the steps that came, and of the bytes of their packets.
+#[derive(Clone, Copy)]
+struct Came {
+    given: usize,
+    steps: usize,
+    packets: usize,
 }
 
-/// Asserts the values of a receiver that got a sample's frame and these bytes more, room by room.
-fn assert_shown_by_rooms<A: Abort>(
-    rt: &A,
-    alloc: Global,
-    sample: &Sample,
-    symbols: &[u8],
-    rooms: u32,
-) -> Result<(), Fail> {
-    let (fed, shown) = show_by_rooms(alloc, &sample.link, symbols, rooms)?;
-    let answer = if rooms == 1 { Some(Answer::Yes) } else { None };
-    assert_shown(rt, &shown, answer);
-    assert_eq!(rt; fed.packets.as_slice(), packet_of_zeros().as_slice());
-    Ok(())
-}
-
-/// The first room takes the frame, before its packet is written. An empty one ends the stream: there is no certificate
-/// then, and all other values are unchanged.
-#[test]
-fn shows_a_frame_until_the_next_one(rt: HostRuntime) -> Result<(), Fail> {
-    let sample = one_frame(rt.alloc())?;
-    for rooms in 1..4u32 {
-        assert_shown_by_rooms(&rt, rt.alloc(), &sample, &sample.symbols, rooms)?;
-    }
-    Ok(())
-}
-
-/// The same if the stream ends with the header of a cut frame.
-#[test]
-fn shows_a_frame_behind_a_cut_one(rt: HostRuntime) -> Result<(), Fail> {
-    let sample = one_frame(rt.alloc())?;
-    let mut symbols = Vec::new(rt.alloc());
-    symbols.extend_from_slice(&sample.symbols)?;
-    symbols.extend_from_slice(&sample.symbols[..sample.symbols.len().min(4 * 90)])?;
-    assert_shown_by_rooms(&rt, rt.alloc(), &sample, &symbols, 3)
-}
-
-/// Asserts that the values of a new receiver are zeros, without a certificate.
-fn assert_nothing_shown<A: Abort>(rt: &A, alloc: Global, link: &Sides) -> Result<(), Fail> {
-    let (_fed, shown) = show_by_rooms(alloc, link, &[], 0)?;
-    assert_eq!(rt; shown.soft.len(), 16200);
-    for value in &shown.soft {
-        assert_eq!(rt; *value, 0);
-    }
-    assert_eq!(rt; shown.word, [0; 4]);
-    assert_eq!(rt; shown.answer, None);
-    assert!(rt; shown.message.len() == 3072 && !shown.message.contains(&true));
-    Ok(())
-}
-
-#[test]
-fn shows_nothing_before_the_first_frame(rt: HostRuntime) -> Result<(), Fail> {
-    let link = link_of(rt.alloc(), 1, true)?;
-    assert_nothing_shown(&rt, rt.alloc(), &link)
-}
-
-/// Asserts that the two packets' frames come by rooms as in memory at once: each with its last symbol, with its packet.
-fn assert_rooms<A: Abort>(rt: &A, alloc: Global, sample: &Sample) -> Result<(), Fail> {
-    let size = sample.symbols.len();
-    let (fed, _shown) = show_by_rooms(alloc, &sample.link, &sample.symbols, 3)?;
-    let want = [
-        (frame(1, 0), 4 * 8190, 188),
-        (frame(2, 8190), size, 188),
-        (Step::End, size, 0),
-    ];
-    assert_eq!(rt; fed.events.len(), want.len());
-    for (event, (step, given, packets)) in fed.events.iter().zip(want) {
-        assert_eq!(rt;
-            *event,
-            Event {
-                step,
-                given,
-                packets
+/// Gives a receiver bytes room by room. `None` if a step is another one.
+fn feed_rooms(receiver: &mut Receiver<'_>, bytes: &[u8], case: &Case) -> Option<Came> {
+    let mut came = Came {
+        given: 0,
+        steps: 0,
+        packets: 0,
+    };
+    let mut rest = bytes;
+    for _ in 0..case.0 {
+        let (count, step) = feed(receiver, rest);
+        rest = &rest[count..];
+        came.given = came.given.saturating_add(count);
+        if let Some(step) = step {
+            if Ok(step) != answer_at(case, came.steps) {
+                return None;
             }
-        );
+            came.steps = came.steps.saturating_add(1);
+            came.packets = came.packets.saturating_add(receiver.packets().len());
+        }
     }
-    assert_eq!(rt; fed.packets.as_slice(), two_packets().as_flattened());
-    Ok(())
+    Some(came)
+}
+
+/// Whether five calls after a number of steps have these results.
+fn are_next(
+    receiver: &mut Receiver<'_>,
+    symbols: &mut Reader<'_>,
+    packets: &mut Writer,
+    report: &mut Writer,
+    case: &Case,
+    steps: usize,
+) -> bool {
+    for more in 0..5usize {
+        let number = steps.saturating_add(more);
+        if step(receiver, symbols, packets, report) != answer_at(case, number) {
+            return false;
+        }
+    }
+    true
+}
+
+/// Whether a receiver that got these symbols by rooms goes on so with the others.
+fn goes_on(
+    alloc: Global,
+    receiver: &mut Receiver<'_>,
+    bytes: &[u8],
+    case: &Case,
+    came: Came,
+) -> bool {
+    let mut symbols = reader_of(&bytes[came.given.min(bytes.len())..], case.1[0]);
+    let mut packets = writer_of(alloc, case.1[1]);
+    let mut report = writer_of(alloc, case.1[2]);
+    let are = are_next(
+        receiver,
+        &mut symbols,
+        &mut packets,
+        &mut report,
+        case,
+        came.steps,
+    );
+    let packets = came.packets.saturating_add(taken(packets).len());
+    [came.given, packets, taken(report).len()] == case.4 && are
+}
+
+/// Whether a receiver does so. After a fault and after the end it needs no bytes, and after a fault no step comes.
+fn does_so(alloc: Global, receiver: &mut Receiver<'_>, bytes: &[u8], case: &Case) -> bool {
+    match feed_rooms(receiver, bytes, case) {
+        Some(came) => {
+            let last = if case.2 > 5 { Some(Step::End) } else { None };
+            goes_on(alloc, receiver, bytes, case, came)
+                && receiver.room() == 0
+                && feed(receiver, &[]).1 == last
+        }
+        None => false,
+    }
+}
+
+/// The same of a new receiver.
+fn new_does_so(alloc: Global, link: &Sides, bytes: &[u8], case: &Case) -> Result<bool, Fail> {
+    match receiver_of(alloc, link) {
+        Ok(mut receiver) => Ok(does_so(alloc, &mut receiver, bytes, case)),
+        Err(fault) => Err(Fail::from(fault)),
+    }
+}
+
+/// Whether a new receiver does so in each case.
+fn do_so(alloc: Global, sample: &Sample) -> Result<bool, Fail> {
+    for case in &CASES {
+        if !new_does_so(alloc, &sample.link, &sample.symbols, case)? {
+            return Ok(false);
+        }
+    }
+    Ok(true)
 }
 
 #[test]
-fn two_packets_arrive_by_rooms(rt: HostRuntime) -> Result<(), Fail> {
+fn each_call_fails_after_a_fault(rt: HostRuntime) -> Result<(), Fail> {
     let sample = two_frames(rt.alloc())?;
-    assert_rooms(&rt, rt.alloc(), &sample)
-}
-
-#[test]
-fn prints_demod_faults(rt: HostRuntime) -> Result<(), Fail> {
-    let setup = format!(in rt.alloc(); "{}", DemodFault::Setup(SetupFault::BadRounds))?;
-    assert_eq!(rt; setup.as_str(), "no such number of rounds");
-    let write = format!(in rt.alloc(); "{}", DemodFault::Write)?;
-    assert_eq!(rt; write.as_str(), "cannot write");
+    assert!(rt; do_so(rt.alloc(), &sample)?);
     Ok(())
 }

@@ -112,15 +112,8 @@ const ENDLESS: Pace = Pace::Looping { runs: u64::MAX };
 
 const MOST: Option<u64> = Some(u64::MAX / 1000);
 
-#[test]
-fn ends_of_the_numbers(rt: HostRuntime) {
-    assert!(rt; ends_of(LOOP, u64::MAX, u64::MAX) == (Some(100), Some(0)));
-    assert!(rt; ends_of(ENDLESS, 188, 0) == (Some(0), MOST));
-    assert!(rt; ends_of(Pace::AddingNoise, 1, 0) == (Some(0), MOST));
-}
-
-#[test]
-fn nothing_is_divided_by_nothing(rt: HostRuntime) {
+/// Whether nothing is divided by nothing.
+fn is_undivided() -> bool {
     let now = Passed {
         taken: 0,
         given: 0,
@@ -135,7 +128,15 @@ fn nothing_is_divided_by_nothing(rt: HostRuntime) {
         share: None,
         left: None,
     };
-    assert!(rt; numbers_at(Pace::Sending { frame: 0 }, now) == want);
+    numbers_at(Pace::Sending { frame: 0 }, now) == want
+}
+
+#[test]
+fn ends_of_the_numbers(rt: HostRuntime) {
+    assert!(rt; ends_of(LOOP, u64::MAX, u64::MAX) == (Some(100), Some(0)));
+    assert!(rt; ends_of(ENDLESS, 188, 0) == (Some(0), MOST));
+    assert!(rt; ends_of(Pace::AddingNoise, 1, 0) == (Some(0), MOST));
+    assert!(rt; is_undivided());
 }
 
 /// Counts the bytes that are reported to it.

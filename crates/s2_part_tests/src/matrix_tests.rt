@@ -1,5 +1,5 @@
-//! A small code, check by check.
-use super::codes::{TOY, matrix_of};
+//! A small code, check by check. If memory is refused once, building its matrix reports that, and the same call succeeds.
+use super::again::{TOY, matrix_of};
 use s2_matrix::Matrix;
 use std::test::Fail;
 
@@ -36,7 +36,7 @@ fn is_check(matrix: &Matrix, j: usize, check: &[u32], edge: usize) -> bool {
 }
 
 /// Whether a matrix has these checks.
-pub(crate) fn is_built(matrix: &Matrix) -> bool {
+fn is_built(matrix: &Matrix) -> bool {
     let mut edge = 0usize;
     for j in 0..CHECKS.len() {
         if !is_check(matrix, j, CHECKS[j], edge) {
@@ -50,8 +50,8 @@ pub(crate) fn is_built(matrix: &Matrix) -> bool {
 }
 
 #[test]
-fn builds_the_checks_of_a_small_code(rt: HostRuntime) -> Result<(), Fail> {
-    let matrix = matrix_of(rt.alloc(), TOY)?;
+fn asks_again_where_memory_is_refused(rt: HostRuntime) -> Result<(), Fail> {
+    let matrix = matrix_of(rt.alloc(), TOY).ok_or("no matrix")?;
     assert!(rt; is_built(&matrix));
     Ok(())
 }

@@ -37,7 +37,7 @@ fn decoded(alloc: Global, mode: Mode, changes: usize) -> Result<(Option<u32>, us
 #[test]
 fn asks_again_where_memory_is_refused(rt: HostRuntime) -> Result<(), Fail> {
     let half = Mode::of(4, true, false).ok_or("no mode")?;
-    assert_eq!(rt; decoded(rt.alloc(), half, 0)?, (Some(0), 0));
-    assert_eq!(rt; decoded(rt.alloc(), half, 12)?, (Some(12), 0));
+    assert!(rt; decoded(rt.alloc(), half, 0)? == (Some(0), 0));
+    assert!(rt; decoded(rt.alloc(), half, 12)? == (Some(12), 0));
     Ok(())
 }

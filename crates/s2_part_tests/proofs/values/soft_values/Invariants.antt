@@ -1,7 +1,7 @@
 use Rattle.std.proofs.Common.{◌≡◌, length}
 use Rattle.s2_mode.specs.Limits.{max_soft}
 use Rattle.s2_minsum.specs.Decoding.{AreWithin}
-use Rattle.s2_code_tests.proofs.values.soft_values.Given as goal
+use Rattle.s2_part_tests.proofs.values.soft_values.Given as goal
 
 abbrev pub invariant-loop-value : goal.invariant-loop-value
 invariant-loop-value l = record {

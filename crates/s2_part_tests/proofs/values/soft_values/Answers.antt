@@ -3,7 +3,7 @@ use Rattle.std.proofs.lemmas.Int.{ints, clamps, to_z-of_z}
 use Rattle.std.proofs.lemmas.List.Elements.{All-push}
 use Rattle.s2_mode.specs.Limits.{max_soft}
 use Rattle.s2_minsum.specs.Decoding.{AreWithin}
-use Rattle.s2_code_tests.proofs.values.soft_values.Goals as goal
+use Rattle.s2_part_tests.proofs.values.soft_values.Goals as goal
 
 pub loop-value-preserved : goal.loop-value-preserved
 loop-value-preserved c =

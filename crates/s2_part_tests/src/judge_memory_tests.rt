@@ -3,15 +3,13 @@ ghost use Rattle.std.specs.Prelude.{◌≡◌, All, IfOk, IsTrue, length};
 ghost use Rattle.s2_matrix.specs.Code.{code_of};
 ghost use Rattle.s2_check.specs.Views.{IsSoft};
 
-use super::again::matrix_of;
-use super::codes::TOY;
+use super::again::{TOY, matrix_of};
 use super::values::are_soft;
 use s2_check::Verdict;
 use s2_judge::Judge;
 use s2_matrix::Matrix;
 use s2_tuning::Tuning;
 use std::alloc::{AllocError, Global};
-use std::process::Abort;
 use std::test::Fail;
 
 /// Whether a judge of these checks takes these values.
@@ -39,32 +37,21 @@ fn judged_by(judge: &mut Judge<'_>, soft: &[i16]) -> (Verdict, usize)
     (judge.judge(soft), judge.word().count_ones())
 }
 
-/// The same by a new judge.
-fn judged(alloc: Global, matrix: &Matrix, soft: &[i16]) -> Result<(Verdict, usize), Fail> {
-    if !fits(matrix, soft) {
-        return Err(Fail::from("other values"));
+/// Whether a new judge decides these values as zeros, with this verdict.
+fn is_judged(alloc: Global, matrix: &Matrix, soft: &[i16], want: Verdict) -> bool {
+    let Ok(tuning) = Tuning::new(50, 0) else {
+        return false;
+    };
+    match judge_of(alloc, matrix, tuning) {
+        Ok(mut judge) => fits(matrix, soft) && judged_by(&mut judge, soft) == (want, 0),
+        Err(_) => false,
     }
-    let tuning = Tuning::new(50, 0)?;
-    let mut judge = judge_of(alloc, matrix, tuning)?;
-    Ok(judged_by(&mut judge, soft))
-}
-
-/// Asserts that these values are decided as zeros, with this verdict.
-fn assert_judged<A: Abort>(
-    rt: &A,
-    alloc: Global,
-    matrix: &Matrix,
-    soft: &[i16],
-    want: Verdict,
-) -> Result<(), Fail> {
-    let found = judged(alloc, matrix, soft)?;
-    assert_eq!(rt; found, (want, 0));
-    Ok(())
 }
 
 #[test]
 fn asks_again_where_memory_is_refused(rt: HostRuntime) -> Result<(), Fail> {
-    let toy = matrix_of(rt.alloc(), TOY)?;
-    assert_judged(&rt, rt.alloc(), &toy, &[10; 20], Verdict::Sole)?;
-    assert_judged(&rt, rt.alloc(), &toy, &[0; 20], Verdict::MostLikely)
+    let toy = matrix_of(rt.alloc(), TOY).ok_or("no matrix")?;
+    assert!(rt; is_judged(rt.alloc(), &toy, &[10; 20], Verdict::Sole));
+    assert!(rt; is_judged(rt.alloc(), &toy, &[0; 20], Verdict::MostLikely));
+    Ok(())
 }

@@ -26,7 +26,7 @@ fn is_made_by(alloc: Global, matrix: &Matrix, soft: &[i16; 2]) -> Result<bool, F
 
 /// Whether a split is made for these values of a repeated bit and a word of zeros.
 fn is_made(alloc: Global, soft: &[i16; 2]) -> Result<bool, Fail> {
-    let matrix = matrix_of(alloc, ([1, 1, 1], b"0\n"))?;
+    let matrix = matrix_of(alloc, ([1, 1, 1], b"0\n")).ok_or("no matrix")?;
     is_made_by(alloc, &matrix, soft)
 }
 
