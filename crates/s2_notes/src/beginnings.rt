@@ -1,12 +1,11 @@
 //! The note on a packet file that does not begin with packets. This is plain code.
 ghost use Rattle.std.specs.Prelude.{◌≤◌, IfOk, length};
-ghost use Rattle.s2_mode.specs.Counts.{CanCount};
 
-use crate::errors::errors_of;
+use crate::errors::write_note;
 use crate::names::has_control;
 use s2_bbframe::{PACKET_BYTES, SYNC};
-use s2_files::{Disk, Opener, Role, is_standard};
-use s2_mode::{CountedWrite, read_full, write_full};
+use s2_files::{Disk, Role, is_standard};
+use s2_mode::{Counting, read_full};
 use s2_progress::Terminal;
 use s2_resync::{Syncs, first_syncs};
 use s2_scan::push_name;
@@ -16,18 +15,19 @@ use std::fs;
 /// The first bytes of a file, which are searched.
 const SEARCHED: usize = 65_536;
 
-/// Writes a note on standard error. If it cannot be written, it is lost.
-fn write_note<W: CountedWrite>(errors: &mut W, note: &[u8])
-    requires { CanCount (W.count errors.old) }
-{
-    let _ = write_full(errors, note);
-}
-
 /// Whether a file can be read again by its name: a regular file can.
 fn is_again<R: Disk>(rt: &R, name: &str) -> bool {
     match fs::metadata(rt, name) {
         Ok(metadata) => metadata.is_file() && !is_standard(Role::Input, name),
         Err(_) => false,
+    }
+}
+
+/// Fills a buffer from the beginning of a file, and returns the number of bytes read. It is 0 if the file cannot be read.
+fn read_start<R: Disk>(rt: &R, name: &str, bytes: &mut [u8]) -> usize {
+    match fs::open(rt, name) {
+        Ok(file) => read_full(&mut Counting::new(file), bytes).unwrap_or(0),
+        Err(_) => 0,
     }
 }
 
@@ -40,10 +40,7 @@ fn first_bytes<R: Disk + AllocGlobal>(
     ensures { IfOk result (λ bytes. length bytes.items ≤ most) }
 {
     let mut bytes = vec![in rt.alloc(); 0u8; most]?;
-    let count = match Opener::new(rt).read(name) {
-        Ok(mut file) => read_full(&mut file, &mut bytes).unwrap_or(0),
-        Err(_) => 0,
-    };
+    let count = read_start(rt, name, &mut bytes);
     bytes.truncate(count);
     Ok(bytes)
 }
@@ -66,42 +63,61 @@ fn push_word(text: &mut Vec<u8>, name: &str) -> Result<(), AllocError> {
     push_name(text, if has_control(name) { "FILE" } else { name })
 }
 
-/// The command that makes packets of a file with these sync bytes, without the file's name.
-fn remedy(alloc: Global, syncs: Syncs) -> Result<String, AllocError> {
+/// Appends the command that makes packets of a file with these sync bytes, without the file's name.
+fn push_remedy(text: &mut String, syncs: Syncs) -> Result<(), AllocError> {
     if syncs.distance != PACKET_BYTES {
-        return format!(in alloc; "tools/strip");
+        return text.push_str("tools/strip ");
     }
     let first = syncs.place.saturating_add(1);
-    format!(in alloc; "tail -c +{first}")
+    write!(text, "tail -c +{first} ")
+}
+
+/// Appends the place of sync bytes, and a command.
+fn push_found(text: &mut String, syncs: Syncs) -> Result<(), AllocError> {
+    let (place, distance) = (syncs.place, syncs.distance);
+    write!(
+        text,
+        "s2: note: five sync bytes at distance {distance} begin at byte {place}: try "
+    )?;
+    push_remedy(text, syncs)
+}
+
+/// The note on the first sync bytes of a file, without the file's name.
+fn found_text(alloc: Global, syncs: Syncs) -> Result<String, AllocError> {
+    let mut text = String::new(alloc);
+    push_found(&mut text, syncs)?;
+    Ok(text)
+}
+
+/// Appends a name as the last word of a line.
+fn push_last(line: &mut Vec<u8>, name: &str) -> Result<(), AllocError> {
+    push_word(line, name)?;
+    line.push(b'\n')?;
+    Ok(())
 }
 
 /// The note on the first sync bytes of a file of this name.
 fn note_of(alloc: Global, syncs: Syncs, name: &str) -> Result<Vec<u8>, AllocError> {
-    let (place, distance) = (syncs.place, syncs.distance);
-    let remedy = remedy(alloc, syncs)?;
-    let found = format!(in alloc;
-        "s2: note: five sync bytes at distance {distance} begin at byte {place}: try {remedy} "
-    )?;
-    let mut note = Vec::new(alloc);
-    note.extend_from_slice(found.as_bytes())?;
-    push_word(&mut note, name)?;
-    note.push(b'\n')?;
+    let mut note = found_text(alloc, syncs)?.into_bytes();
+    push_last(&mut note, name)?;
     Ok(note)
 }
 
-/// The note on a packet file whose first or second packet is refused: the position at which packets begin in it.
-fn beginning_note<R: Disk + AllocGlobal>(
-    rt: &R,
-    name: &str,
-) -> Result<Option<Vec<u8>>, AllocError> {
+/// The first sync bytes of packets whose first or second one is refused.
+fn syncs_of(bytes: &[u8]) -> Option<Syncs>
+    requires { length bytes.now ≤ 65536 }
+{
+    if is_refused(bytes) {
+        first_syncs(bytes)
+    } else {
+        None
+    }
+}
+
+/// The first sync bytes of a packet file whose first or second packet is refused.
+fn syncs_in<R: Disk + AllocGlobal>(rt: &R, name: &str) -> Result<Option<Syncs>, AllocError> {
     let bytes = first_bytes(rt, name, SEARCHED)?;
-    if !is_refused(&bytes) {
-        return Ok(None);
-    }
-    match first_syncs(&bytes) {
-        Some(syncs) => Ok(Some(note_of(rt.alloc(), syncs, name)?)),
-        None => Ok(None),
-    }
+    Ok(syncs_of(&bytes))
 }
 
 /// Notes the position at which packets begin in a packet file whose first or second packet is refused. The file is read
@@ -111,7 +127,10 @@ pub fn note_beginning<R: Disk + AllocGlobal>(terminal: &Terminal<'_, R>, name: &
     if !is_again(rt, name) {
         return;
     }
-    if let Ok(Some(note)) = beginning_note(rt, name) {
-        write_note(&mut errors_of(terminal), &note);
+    let Ok(Some(syncs)) = syncs_in(rt, name) else {
+        return;
+    };
+    if let Ok(note) = note_of(rt.alloc(), syncs, name) {
+        write_note(terminal, &note);
     }
 }

@@ -1,10 +1,9 @@
 //! The files that a request names, and the system's errors for those that cannot be used. A command reports only that
 //! it cannot open, read or write one. So the cause is noted before that: of a failed call at once, and of a file that
 //! cannot be opened by opening it again.
-use crate::errors::errors_of;
+use crate::errors::write_note;
 use crate::names::shown;
 use s2_files::{Disk, Role, is_standard};
-use s2_mode::write_full;
 use s2_progress::Terminal;
 use s2_words::{RecordArguments, Request};
 use std::alloc::{AllocError, Global};
@@ -138,7 +137,7 @@ fn note_line(alloc: Global, name: &str, words: &str) -> Result<String, AllocErro
 /// Notes this of a file, if there is memory.
 fn note<R: Disk + AllocGlobal>(terminal: &Terminal<'_, R>, name: &str, words: &str) {
     if let Ok(line) = note_line(terminal.host().alloc(), name, words) {
-        let _ = write_full(&mut errors_of(terminal), line.as_bytes());
+        write_note(terminal, line.as_bytes());
     }
 }
 

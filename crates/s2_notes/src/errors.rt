@@ -2,7 +2,7 @@
 ghost use Rattle.std.specs.Prelude.{◌≡◌};
 
 use s2_files::{Disk, StandardStreams};
-use s2_mode::Counting;
+use s2_mode::{Counting, write_full};
 use s2_progress::{Clearing, Terminal};
 
 /// Standard error. The progress line is cleared before anything is written to it.
@@ -13,4 +13,9 @@ pub fn errors_of<'t, 'r, R: Disk>(terminal: &'t Terminal<'r, R>) -> Errors<'t, '
     ensures { result.inner.failed ≡ 0 }
 {
     Clearing::new(Counting::new(terminal.host().errors()), terminal)
+}
+
+/// Writes a note. If it cannot be written, it is lost.
+pub(crate) fn write_note<R: Disk>(terminal: &Terminal<'_, R>, note: &[u8]) {
+    let _ = write_full(&mut errors_of(terminal), note);
 }

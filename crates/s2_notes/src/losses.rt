@@ -3,10 +3,9 @@
 ghost use Rattle.std.specs.Prelude.{◌≢◌, ◌+◌, ◌≤◌, length};
 ghost use Rattle.s2_console.specs.Lines.{line_room};
 
-use crate::errors::errors_of;
+use crate::errors::write_note;
 use s2_console::{Exit, Line};
 use s2_files::Disk;
-use s2_mode::write_full;
 use s2_progress::Terminal;
 use s2_resync::LeftOut;
 
@@ -34,7 +33,7 @@ fn left_out_note(left_out: LeftOut) -> Line {
 /// Notes the bytes that were left out, if there are any.
 pub fn note_left_out<R: Disk>(terminal: &Terminal<'_, R>, left_out: LeftOut) {
     if left_out.bytes > 0 {
-        let _ = write_full(&mut errors_of(terminal), left_out_note(left_out).as_bytes());
+        write_note(terminal, left_out_note(left_out).as_bytes());
     }
 }
 
@@ -54,6 +53,6 @@ pub fn note_audit<R: Disk>(terminal: &Terminal<'_, R>, exit: Exit) {
     if exit == Exit::No {
         let note =
             "s2: note: likely causes: another divisor (try --tuned), another mode, or a recording that was cut or shifted\n";
-        let _ = write_full(&mut errors_of(terminal), note.as_bytes());
+        write_note(terminal, note.as_bytes());
     }
 }
