@@ -118,7 +118,7 @@ by_nobody r passes soft word made some made_is none is =
 settled_same : (r : Rows) (soft : List ℤ) (word : List Bool) (ascent : Settling) → ascent.rows ≡ r → view_settled ascent soft word ≡ shared_view r soft word (settled_shares ascent)
 settled_same r soft word ascent rows = ap (λ (q : Rows). shared_view q soft word (settled_shares ascent)) rows
 
--- what a ascent holds is strict
+-- what an ascent holds is strict
 pub strict_settled : (r : Rows) (soft : List ℤ) (word : List Bool) (ascent : Settling) → ascent.rows ≡ r → IsStrict r (view_settled ascent soft word) → is_strict r (shared_view r soft word (settled_shares ascent)) ≡ true
 strict_settled r soft word ascent rows strict =
     ap (is_strict r) (sym (settled_same r soft word ascent rows)) ∙ strict_test r (view_settled ascent soft word) strict.strict

@@ -4,8 +4,10 @@ use Rattle.std.specs.List.{find, range_with_len}
 use Rattle.std.specs.Option.{unwrap_or}
 use Rattle.std.proofs.lemmas.Bool.{cases_Bool, both_ways, false_from_ne_true}
 use Rattle.std.proofs.lemmas.Int.{ints}
+use Rattle.std.proofs.lemmas.List.{ext_get_or}
 use Rattle.std.proofs.lemmas.List.FromFn.{length-range_with_len, get_or-range_with_len, length-map-range_with_len}
 use Rattle.std.proofs.lemmas.List.Sums.{AllPass-from_list_all, list_all-from_AllPass}
+use Rattle.s2_bits.specs.Bits.{bit_at, Rewritten}
 use Rattle.s2_rows.specs.Rows.{Rows}
 use Rattle.s2_matrix.specs.Total.{upto}
 use Rattle.s2_matrix.specs.Code.{Code, code_of, ones_in, IsCodeword}
@@ -19,6 +21,12 @@ use Rattle.s2_check.specs.Verdicts.{is_certified}
 use Rattle.s2_split.specs.Scattered.{repaired}
 use Rattle.s2_judge.specs.Deciding.{Decided, is_strict, verdict_by, certified, satisfies, decoded_bits, first_codeword, without_certificate, with_made, min_sum_view, by_min_sum, repair_view, by_repair, decided, view_for, rounds_by, rounds_run}
 use Rattle.s2_tuning.specs.Tuning.{Tuning}
+
+-- ---- a word that is copied
+
+pub copied : (word old new : List Bool) (n : ℕ) → n ≡ length word → length old ≡ length word → Rewritten false n (bit_at word) old new → new ≡ word
+copied word old new n all long r =
+    ext_get_or false new word (r.long ∙ long) (λ i low. r.done i (omega (arith, r.long)))
 
 -- ---- the test of every check
 

@@ -1,5 +1,5 @@
 -- A certifier's value, and the invariants of its parts (own).
-use Rattle.std.specs.Prelude.{◌≡◌, ◌≢◌, ℕ, Bool, List, Option, None, Some}
+use Rattle.std.specs.Prelude.{◌≡◌, ◌≢◌, ℕ, Bool, Option, None, Some}
 use Rattle.s2_rows.specs.Rows.{Rows}
 use Rattle.s2_split.specs.Making.{Making, Shared}
 use Rattle.s2_settle.specs.Plain.{settling_scale}
@@ -7,16 +7,14 @@ use Rattle.s2_settle.specs.Holding.{Settling}
 use Rattle.s2_judge.specs.declared.certifier.CertificateSource.{CertificateSource}
 use Rattle.s2_judge.specs.declared.certifier.CertificateSource.TheVariants.{NotFound, Maker, DualAscent}
 
--- the rows of its matrix, its number of passes of settling, the word that is stored with the shares it found, if it is,
--- these shares, and whether they are strict
+-- the rows of its matrix, its number of passes of settling, the shares that it found last, and whether they are strict
 pub record Certifying : Type 0 where
   pub rows : Rows
   pub passes : ℕ
-  pub word : Option (List Bool)
   pub found : Option Shared
   pub strict : Bool
 
--- a ascent's moves
+-- an ascent's moves
 abbrev pub settled_shares : Settling → Shared
 settled_shares s = record { scale = settling_scale; moves = s.moves }
 
@@ -25,12 +23,6 @@ abbrev pub found_by : Making → Settling → CertificateSource → Option Share
 found_by maker ascent NotFound = None
 found_by maker ascent Maker = maker.made
 found_by maker ascent DualAscent = Some (settled_shares ascent)
-
--- the word to which the found shares belong: a maker keeps its own
-abbrev pub word_by : Making → CertificateSource → Option (List Bool)
-word_by maker NotFound = None
-word_by maker Maker = Some maker.word
-word_by maker DualAscent = None
 
 -- a maker that is said to hold something does
 abbrev pub IsCertificateSource : Making → CertificateSource → Type 0

@@ -1,5 +1,5 @@
 -- A judge's value, and the invariants of its parts (own).
-use Rattle.std.specs.Prelude.{◌≡◌, ◌≤◌, ℕ, Bool, List, All, length, ℤ, Option, None, Some, IfSome}
+use Rattle.std.specs.Prelude.{◌≡◌, ◌≤◌, ℕ, Bool, List, All, length, ℤ, Option, None, Some}
 use Rattle.s2_rows.specs.Rows.{Rows}
 use Rattle.s2_matrix.specs.Code.{code_of}
 use Rattle.s2_check.specs.Views.{View, IsSoft, unsplit_view}
@@ -42,12 +42,12 @@ abbrev pub shown_by : Rows → List ℤ → List Bool → Option Shared → Evid
 shown_by r soft bits found evidence =
     record { verdict = verdict_of evidence; bits = bits; certificate = view_by r soft bits found evidence }
 
--- if the evidence is a certificate, the values are soft values, and the certificate is for these bits
-abbrev pub IsEvidence : List ℤ → List Bool → Certifying → Evidence → Type 0
-IsEvidence soft bits certifier (HardDecision strict) = All IsSoft soft
-IsEvidence soft bits certifier (Found strict) = All IsSoft soft × IfSome certifier.word (λ w. w ≡ bits)
-IsEvidence soft bits certifier Checks = Unit
-IsEvidence soft bits certifier Nothing = Unit
+-- if the evidence is a certificate, the values are soft values
+abbrev pub IsEvidence : List ℤ → Evidence → Type 0
+IsEvidence soft (HardDecision strict) = All IsSoft soft
+IsEvidence soft (Found strict) = All IsSoft soft
+IsEvidence soft Checks = Unit
+IsEvidence soft Nothing = Unit
 
 -- the invariant of a judge
 pub record IsJudge (tuning : Tuning) (certifier : Certifying) (decoder : Decoding) (soft : List ℤ) (repair bits : List Bool) (evidence : Evidence) : Type 0 where
@@ -57,4 +57,4 @@ pub record IsJudge (tuning : Tuning) (certifier : Certifying) (decoder : Decodin
   pub soft_long : length soft ≡ (code_of certifier.rows).bits
   pub repair_long : length repair ≡ (code_of certifier.rows).bits
   pub bits_long : length bits ≡ (code_of certifier.rows).bits
-  pub by : IsEvidence soft bits certifier evidence
+  pub by : IsEvidence soft evidence

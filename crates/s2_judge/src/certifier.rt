@@ -5,7 +5,7 @@ ghost use Rattle.s2_check.specs.Views.{IsSoft};
 ghost use Rattle.s2_split.specs.Making.{shared_view, shared_views};
 ghost use Rattle.s2_split.specs.Scattered.{repaired};
 ghost use Rattle.s2_judge.specs.Deciding.{is_strict, view_for, decoded_view};
-ghost use Rattle.s2_judge.specs.Certifying.{found_by, word_by, IsCertificateSource};
+ghost use Rattle.s2_judge.specs.Certifying.{found_by, IsCertificateSource};
 
 use s2_bits::Bits;
 use s2_check::CertView;
@@ -50,7 +50,6 @@ fn find_for_repair(
     requires codeword { IsCodeword (code_of maker.old.rows) codeword.now }
     ensures maker { maker.new.rows ≡ maker.old.rows }
     ensures ascent { ascent.new.rows ≡ ascent.old.rows }
-    ensures word { IfSome (word_by maker.new result.0) (λ w. w ≡ codeword.now) }
     ensures source { IsCertificateSource maker.new result.0 }
     ensures view { view_for maker.old.rows passes soft.now codeword.now ≡ shared_views maker.old.rows soft.now codeword.now (found_by maker.new ascent.new result.0) }
     ensures strict { IfSome (found_by maker.new ascent.new result.0) (λ s. is_strict maker.old.rows (shared_view maker.old.rows soft.now codeword.now s) ≡ result.1) }
@@ -86,7 +85,6 @@ fn find_for_decoded(
     requires codeword { IsCodeword (code_of maker.old.rows) codeword.now }
     ensures maker { maker.new.rows ≡ maker.old.rows }
     ensures ascent { ascent.new.rows ≡ ascent.old.rows }
-    ensures word { IfSome (word_by maker.new result.0) (λ w. w ≡ codeword.now) }
     ensures source { IsCertificateSource maker.new result.0 }
     ensures view { decoded_view maker.old.rows passes soft.now codeword.now ≡ shared_views maker.old.rows soft.now codeword.now (found_by maker.new ascent.new result.0) }
     ensures strict { IfSome (found_by maker.new ascent.new result.0) (λ s. is_strict maker.old.rows (shared_view maker.old.rows soft.now codeword.now s) ≡ result.1) }
@@ -106,8 +104,8 @@ fn find_for_decoded(
 /// Finds certificates of codewords. Without passes it tries the maker's greedy amounts, then its spreading. With
 /// passes it runs at most that many of the ascent; for a repair it tries greedy amounts first.
 ///
-/// In contracts it has five parts: the rows of its matrix, its number of passes, the shares found last, their word if
-/// it is stored with them, and whether they are strict.
+/// In contracts it has four parts: the rows of its matrix, its number of passes, the shares found last, and whether
+/// they are strict.
 pub(crate) struct Certifier<'a> {
     matrix: &'a Matrix,
     passes: u32,
@@ -131,11 +129,11 @@ impl<'a> Drop for Certifier<'a> {
 }
 
 impl<'a> Model for Certifier<'a> {
-    ghost use Rattle.s2_judge.specs.Certifying.{Certifying, IsCertifier, found_by, word_by};
+    ghost use Rattle.s2_judge.specs.Certifying.{Certifying, IsCertifier, found_by};
 
     ghost Value = { Certifying };
 
-    ghost view = { λ c. record { rows = c.matrix.now; passes = c.passes; word = word_by c.maker c.source; found = found_by c.maker c.ascent c.source; strict = c.strict } };
+    ghost view = { λ c. record { rows = c.matrix.now; passes = c.passes; found = found_by c.maker c.ascent c.source; strict = c.strict } };
 
     ghost invariant = { λ c. IsCertifier c.matrix.now c.maker c.ascent c.source };
 }
@@ -188,7 +186,6 @@ impl<'a> Certifier<'a> {
         requires codeword { IsCodeword (code_of self.old.rows) codeword.now }
         ensures rows { self.new.rows ≡ self.old.rows }
         ensures passes { self.new.passes ≡ self.old.passes }
-        ensures word { IfSome self.new.word (λ w. w ≡ codeword.now) }
         ensures found { IsTrue result ↔ (self.new.found ≢ None) }
         ensures view { view_for self.old.rows self.old.passes soft.now codeword.now ≡ shared_views self.old.rows soft.now codeword.now self.new.found }
         ensures strict { IfSome self.new.found (λ s. is_strict self.old.rows (shared_view self.old.rows soft.now codeword.now s) ≡ self.new.strict) }
@@ -212,7 +209,6 @@ impl<'a> Certifier<'a> {
         requires codeword { IsCodeword (code_of self.old.rows) codeword.now }
         ensures rows { self.new.rows ≡ self.old.rows }
         ensures passes { self.new.passes ≡ self.old.passes }
-        ensures word { IfSome self.new.word (λ w. w ≡ codeword.now) }
         ensures found { IsTrue result ↔ (self.new.found ≢ None) }
         ensures view { decoded_view self.old.rows self.old.passes soft.now codeword.now ≡ shared_views self.old.rows soft.now codeword.now self.new.found }
         ensures strict { IfSome self.new.found (λ s. is_strict self.old.rows (shared_view self.old.rows soft.now codeword.now s) ≡ self.new.strict) }
@@ -241,7 +237,6 @@ impl<'a> Certifier<'a> {
         requires soft { length soft.now ≡ (code_of self.now.rows).bits }
         requires range { All IsSoft soft.now }
         requires long { length word.now ≡ (code_of self.now.rows).bits }
-        requires word { IfSome self.now.word (λ w. w ≡ word.now) }
         ensures { result ≡ shared_views self.now.rows soft.now word.now self.now.found }
     {
         match self.source {

@@ -38,7 +38,6 @@ fn try_repair(
     ensures repair { IsTrue result.1 → repair.new ≡ repaired (code_of certifier.old.rows) soft.now }
     ensures long { length repair.new ≡ (code_of certifier.old.rows).bits }
     ensures both { IsTrue result.0 → IsTrue result.1 }
-    ensures word { IsTrue result.0 → IfSome certifier.new.word (λ w. w ≡ repair.new) }
     ensures found { IsTrue result.0 → certifier.new.found ≢ None }
     ensures strict { IsTrue result.0 → IfSome certifier.new.found (λ s. is_strict certifier.old.rows (shared_view certifier.old.rows soft.now repair.new s) ≡ certifier.new.strict) }
     ensures view { repair_view certifier.old.rows certifier.old.passes soft.now ≡ (if result.0 then shared_views certifier.old.rows soft.now repair.new certifier.new.found else None) }
@@ -124,7 +123,7 @@ fn decide_by_min_sum(
     ensures passes { certifier.new.passes ≡ certifier.old.passes }
     ensures decoder { decoder.new.rows ≡ certifier.old.rows }
     ensures long { length bits.new ≡ (code_of certifier.old.rows).bits }
-    ensures evidence { IsEvidence soft.now bits.new certifier.new result.0 }
+    ensures evidence { IsEvidence soft.now result.0 }
     ensures decided { by_min_sum certifier.old.rows tuning soft.now (first_codeword certifier.old.rows tuning.factor tuning.rounds soft.now) ≡ shown_by certifier.old.rows soft.now bits.new certifier.new.found result.0 }
     ensures rounds { rounds_until certifier.old.rows tuning.factor tuning.rounds soft.now ≡ result.1 }
 {
@@ -166,7 +165,7 @@ pub(crate) fn decide_by_steps(
     ensures decoder { decoder.new.rows ≡ certifier.old.rows }
     ensures repair { length repair.new ≡ (code_of certifier.old.rows).bits }
     ensures long { length bits.new ≡ (code_of certifier.old.rows).bits }
-    ensures evidence { IsEvidence soft.now bits.new certifier.new result.0 }
+    ensures evidence { IsEvidence soft.now result.0 }
     ensures decided { decided certifier.old.rows tuning soft.now ≡ shown_by certifier.old.rows soft.now bits.new certifier.new.found result.0 }
     ensures rounds { rounds_run certifier.old.rows tuning soft.now ≡ result.1 }
 {

@@ -1,39 +1,25 @@
 -- The moves that are made, check by check.
-use Rattle.std.proofs.Common.{◌≡◌, ℕ, ◌/◌, ◌%◌, ◌<◌, ◌≤◌, nat_lt, min, cond, List, length, get_or, replicate, ap, sym, ◌∙◌, inl, inr, arith, eq-eqb, ne_eqb, lt-ltb, le-ltb}
+use Rattle.std.proofs.Common.{◌≡◌, ℕ, ◌/◌, ◌%◌, ◌<◌, ◌≤◌, nat_lt, min, cond, List, length, get_or, ap, sym, ◌∙◌, inl, inr, arith, eq-eqb, ne_eqb, lt-ltb, le-ltb}
 use Rattle.std.proofs.lemmas.Bool.{cases_lt, cases_eq}
-use Rattle.std.proofs.lemmas.List.{get_or_past, get_or-replicate, length-replicate}
 use Rattle.s2_rows.specs.Rows.{Rows}
 use Rattle.s2_matrix.specs.Code.{code_of, members}
-use Rattle.s2_check.specs.Moves.{Move, no_move}
+use Rattle.s2_check.specs.Moves.{Move, no_move, AreMoves}
 use Rattle.s2_check.proofs.Places.{some_member}
+use Rattle.s2_check.proofs.MoveLists.{IsMade, none_made, are_moves}
 use Rattle.s2_settle.specs.Settled.{place_in, move_to}
 use Rattle.s2_settle.specs.Placing.{shown, place_of_check, move_of, moves_of}
-use Rattle.s2_settle.specs.Holding.{AreMoves}
 use Rattle.s2_settle.proofs.Layers.{upto_at, length-upto_map}
 
--- a move that is made, or none
-record IsMove (members amount : ℕ) (own : Move) : Type 0 where
-  place : own.place < members
-  most : own.amount ≤ amount
-  unmoved : own.amount ≡ 0 → own.place ≡ 0
-
-none_is : (members amount : ℕ) → 1 ≤ members → (own : Move) → own ≡ no_move → IsMove members amount own
-none_is members amount some own is = record {
-  place = omega (arith, ap (λ (m : Move). m.place) is);
-  most = omega (arith, ap (λ (m : Move). m.amount) is);
-  unmoved = λ _. ap (λ (m : Move). m.place) is;
-}
-
-move_is : (xs : List ℕ) (bit amount : ℕ) → 1 ≤ length xs → IsMove (length xs) amount (move_to xs bit amount)
+move_is : (xs : List ℕ) (bit amount : ℕ) → 1 ≤ length xs → IsMade (length xs) amount (move_to xs bit amount)
 move_is xs bit amount some =
     let place = place_in xs bit in
     let made : Move = record { place = place; amount = amount } in
     elim (cases_eq amount 0) [
-      | inl none ↦ none_is (length xs) amount some (move_to xs bit amount) (ap (λ b. cond b no_move (cond (nat_lt place (length xs)) made no_move)) (eq-eqb amount 0 none))
+      | inl none ↦ none_made (length xs) amount some (move_to xs bit amount) (ap (λ b. cond b no_move (cond (nat_lt place (length xs)) made no_move)) (eq-eqb amount 0 none))
       | inr moved ↦ (
           let first : move_to xs bit amount ≡ cond (nat_lt place (length xs)) made no_move = ap (λ b. cond b no_move (cond (nat_lt place (length xs)) made no_move)) (ne_eqb amount 0 moved) in
           elim (cases_lt place (length xs)) [
-            | inr out ↦ none_is (length xs) amount some (move_to xs bit amount) (first ∙ ap (λ b. cond b made no_move) (le-ltb place (length xs) out))
+            | inr out ↦ none_made (length xs) amount some (move_to xs bit amount) (first ∙ ap (λ b. cond b made no_move) (le-ltb place (length xs) out))
             | inl inside ↦ (
                 let is : move_to xs bit amount ≡ made = first ∙ ap (λ b. cond b made no_move) (lt-ltb place (length xs) inside) in
                 record {
@@ -46,26 +32,11 @@ move_is xs bit amount some =
           )
     ]
 
--- a list of moves, each made or none
-are_moves : (rows : Rows) (ms : List Move) → length ms ≡ (code_of rows).checks → ((j : ℕ) → j < (code_of rows).checks → IsMove (length (members (code_of rows) j)) 1048576 (get_or ms j no_move)) → AreMoves (code_of rows) ms
-are_moves rows ms long each = record {
-  long = long;
-  targets = λ j low. (each j low).place;
-  fit = λ j. elim (cases_lt j (length ms)) [
-    | inl low ↦ (let most = (each j (omega (arith, long))).most in omega (arith, most))
-    | inr past ↦ omega (arith, ap (λ (m : Move). m.amount) (get_or_past ms j no_move past))
-  ];
-  unmoved = λ j none. elim (cases_lt j (length ms)) [
-    | inl low ↦ (each j (omega (arith, long))).unmoved none
-    | inr past ↦ ap (λ (m : Move). m.place) (get_or_past ms j no_move past)
-  ];
-}
-
 pub moves_are : (rows : Rows) (targets amounts : List ℕ) (ms : List Move) → ms ≡ moves_of rows targets amounts → AreMoves (code_of rows) ms
 moves_are rows targets amounts ms is =
     let checks = (code_of rows).checks in
     let f = move_of rows targets amounts in
-    are_moves rows ms (ap length is ∙ length-upto_map f checks) (λ j low. (
+    are_moves (code_of rows) ms (ap length is ∙ length-upto_map f checks) (λ j low. (
     let at : get_or ms j no_move ≡ f j = ap (λ xs. get_or xs j no_move) is ∙ upto_at no_move f checks j low in
     let bit = shown rows (j % rows.shape.q) (j / rows.shape.q) (get_or targets (place_of_check rows.shape j) 0) in
     let amount = min (get_or amounts (place_of_check rows.shape j) 0) 1048576 in
@@ -76,9 +47,3 @@ moves_are rows targets amounts ms is =
       unmoved = λ none. ap (λ (m : Move). m.place) at ∙ one.unmoved (sym (ap (λ (m : Move). m.amount) at) ∙ none);
     }
     ))
-
--- lists that move nothing
-pub none_are : (rows : Rows) (n : ℕ) (ms : List Move) → n ≡ (code_of rows).checks → ms ≡ replicate n no_move → AreMoves (code_of rows) ms
-none_are rows n ms long is =
-    let all = ap length is ∙ length-replicate n no_move in
-    are_moves rows ms (all ∙ long) (λ j low. none_is (length (members (code_of rows) j)) 1048576 (some_member rows j low) (get_or ms j no_move) (ap (λ xs. get_or xs j no_move) is ∙ get_or-replicate n j no_move no_move (omega (arith, long))))

@@ -1,15 +1,15 @@
--- What a ascent holds (own).
-use Rattle.std.specs.Prelude.{◌≡◌, ℕ, ◌<◌, Bool, List, length, get_or, ℤ}
+-- What an ascent holds (own).
+use Rattle.std.specs.Prelude.{◌≡◌, ℕ, Bool, List, ℤ}
 use Rattle.s2_rows.specs.Rows.{Rows}
-use Rattle.s2_matrix.specs.Code.{Code, code_of}
-use Rattle.s2_check.specs.Moves.{Move, no_move, AreTargets}
+use Rattle.s2_matrix.specs.Code.{code_of}
+use Rattle.s2_check.specs.Moves.{Move, AreMoves}
 use Rattle.s2_check.specs.Views.{View}
 use Rattle.s2_minsum.specs.Decoding.{AreFit, HasRoom}
 use Rattle.s2_settle.specs.Layer.{Held, AreLong}
 use Rattle.s2_settle.specs.WorkList.{WorkList}
 use Rattle.s2_settle.specs.Settled.{moved_view}
 
--- the rows of a ascent's matrix, and the moves that it made last, check by check
+-- the rows of an ascent's matrix, and the moves that it made last, check by check
 pub record Settling : Type 0 where
   pub rows : Rows
   pub moves : List Move
@@ -18,14 +18,7 @@ pub record Settling : Type 0 where
 abbrev pub view_by : Settling → List ℤ → List Bool → View
 view_by s soft word = moved_view s.rows soft word s.moves
 
--- a move for each check, to one of its members, of less than 2^31, to place 0 if the amount is 0
-pub record AreMoves (code : Code) (ms : List Move) : Type 0 where
-  pub long : length ms ≡ code.checks
-  pub targets : AreTargets code ms
-  pub fit : (j : ℕ) → (get_or ms j no_move).amount < 2147483648
-  pub unmoved : (j : ℕ) → (get_or ms j no_move).amount ≡ 0 → (get_or ms j no_move).place ≡ 0
-
--- the invariant of a ascent's lists
+-- the invariant of an ascent's lists
 pub record IsDualAscent (rows layered : Rows) (h : Held) (w : WorkList) (ms : List Move) (scratch : ℕ) : Type 0 where
   pub layers : layered ≡ rows
   pub fit : AreFit rows

@@ -53,7 +53,7 @@ impl<'a> Model for DualAscent<'a> {
 }
 
 impl<'a> DualAscent<'a> {
-    /// A ascent for the words of this matrix. It takes all its memory here. Returns `AllocError` only if memory is
+    /// An ascent for the words of this matrix. It takes all its memory here. Returns `AllocError` only if memory is
     /// refused.
     pub fn new(alloc: Global, matrix: &'a Matrix) -> Result<DualAscent<'a>, AllocError>
         ensures { IfOk result (λ s. s.rows ≡ matrix.now) }

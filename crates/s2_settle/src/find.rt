@@ -7,7 +7,7 @@ ghost use Rattle.s2_minsum.specs.Decoding.{AreFit, HasRoom};
 ghost use Rattle.s2_settle.specs.Layer.{AreLong};
 ghost use Rattle.s2_settle.specs.Settled.{ended};
 ghost use Rattle.s2_settle.specs.Placing.{Finds};
-ghost use Rattle.s2_settle.specs.Holding.{AreMoves};
+ghost use Rattle.s2_check.specs.Moves.{AreMoves};
 
 use crate::held::Held;
 use crate::passes::run_passes;

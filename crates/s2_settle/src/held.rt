@@ -1,4 +1,4 @@
-//! What a ascent holds while it settles.
+//! What an ascent holds while it settles.
 ghost use Rattle.std.specs.Prelude.{◌≡◌, ◌*◌, ◌<◌, ◌≤◌, nat_lt, filter, All, IfOk, length};
 ghost use Rattle.s2_mode.specs.Shape.{code_bits};
 ghost use Rattle.s2_matrix.specs.Code.{code_of};
@@ -12,7 +12,7 @@ ghost use Rattle.s2_settle.specs.Serving.{rest_at, IsServed};
 ghost use Rattle.s2_settle.specs.WorkList.{work_list as work_list_of};
 ghost use Rattle.s2_settle.specs.Start.{start as started};
 ghost use Rattle.s2_settle.specs.Placing.{moves_of};
-ghost use Rattle.s2_settle.specs.Holding.{AreMoves};
+ghost use Rattle.s2_check.specs.Moves.{AreMoves};
 
 use crate::calling::call_lacking;
 use crate::lacking::count_lacking;

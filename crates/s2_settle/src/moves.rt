@@ -7,7 +7,7 @@ ghost use Rattle.s2_minsum.specs.Rows.{rotated};
 ghost use Rattle.s2_minsum.specs.Layout.{bit_of};
 ghost use Rattle.s2_settle.specs.Settled.{move_to};
 ghost use Rattle.s2_settle.specs.Placing.{shown, moves_of};
-ghost use Rattle.s2_settle.specs.Holding.{AreMoves};
+ghost use Rattle.s2_check.specs.Moves.{AreMoves};
 
 use s2_check::{MAX_MOVED, Move};
 use s2_matrix::Matrix;

@@ -1,4 +1,4 @@
-//! One layer over a ascent's lists.
+//! One layer over an ascent's lists.
 ghost use Rattle.std.specs.Prelude.{◌≡◌, ℕ, ◌≤◌, ◌<◌, ◌+◌, ◌*◌, length};
 ghost use Rattle.s2_minsum.specs.Decoding.{HasRoom};
 ghost use Rattle.s2_settle.specs.Layer.{held, AreLong, layer as after_layer};

@@ -2,11 +2,10 @@ use Rattle.std.proofs.Common.{◌≡◌, Bool, Some, None, IfSome, cond, length,
 use Rattle.s2_rows.specs.Rows.{Rows}
 use Rattle.s2_matrix.specs.Code.{code_of}
 use Rattle.s2_split.specs.Making.{shared_view}
-use Rattle.s2_split.proofs.Held.{copied}
 use Rattle.s2_split.proofs.Repairs.{length-repaired}
 use Rattle.s2_judge.specs.Deciding.{is_strict, decoded_bits, first_codeword, with_made, decoded_view, rounds_until}
 use Rattle.s2_judge.proofs.Certificates.{found_nothing}
-use Rattle.s2_judge.proofs.Decisions.{found_codeword}
+use Rattle.s2_judge.proofs.Decisions.{copied, found_codeword}
 use Rattle.s2_judge.proofs.EvidenceLemmas.{with_found, with_none, step_three, step_four, step_none}
 use Rattle.s2_judge.proofs.steps.decide_by_min_sum.Goals as goal
 

@@ -1,10 +1,9 @@
-use Rattle.std.proofs.Common.{◌≡◌, Bool, List, None, IfSome, cond, length, sym, ap, subst, ◌∙◌, arith}
+use Rattle.std.proofs.Common.{◌≡◌, Bool, None, IfSome, cond, length, sym, ap, subst, ◌∙◌, arith}
 use Rattle.std.proofs.lemmas.List.{length-map}
 use Rattle.s2_check.specs.Hard.{hard_decision}
 use Rattle.s2_split.specs.Making.{shared_view, shared_views}
-use Rattle.s2_split.proofs.Held.{copied}
 use Rattle.s2_judge.specs.Deciding.{is_strict, repair_view}
-use Rattle.s2_judge.proofs.Decisions.{test_in, rounds_hard}
+use Rattle.s2_judge.proofs.Decisions.{copied, test_in, rounds_hard}
 use Rattle.s2_judge.proofs.EvidenceLemmas.{step_one, step_two, past_two, by_same, rounds_two, rounds_past}
 use Rattle.s2_judge.proofs.steps.decide_by_steps.Goals as goal
 
@@ -19,15 +18,6 @@ pub copy_prefix-requires-clause-mine : goal.copy_prefix-requires-clause-mine
 copy_prefix-requires-clause-mine c =
     let long = ap length c.judge_unsplit.ensures.word ∙ length-map c.args.soft.now _ ∙ c.requires.soft in
     omega (arith, c.len.ensures, long, c.try_repair-is_certified.ensures.long)
-
-pub returns-then-is_certified-clause-evidence : goal.returns-then-is_certified-clause-evidence
-returns-then-is_certified-clause-evidence c =
-    let r = c.args.certifier.now.rows in
-    let soft = c.args.soft.now in
-    let word = c.try_repair-is_certified.new.repair in
-    let long = ap length c.judge_unsplit.ensures.word ∙ length-map soft _ ∙ c.requires.soft in
-    let same = copied word c.judge_unsplit.new.word c.copy_prefix.new.self c.len.result c.len.ensures (long ∙ sym c.try_repair-is_certified.ensures.long) c.copy_prefix.ensures in
-    (c.requires.range, subst (λ (bits : List Bool). IfSome c.try_repair-is_certified.new.certifier.word (λ w. w ≡ bits)) (sym same) (c.try_repair-is_certified.ensures.word c.if-is_certified.true))
 
 pub returns-then-is_certified-clause-decided : goal.returns-then-is_certified-clause-decided
 returns-then-is_certified-clause-decided c =

@@ -1,7 +1,7 @@
 use Rattle.std.proofs.Common.{subst, ap, ◌∙◌, arith}
 use Rattle.s2_minsum.specs.Decoding.{AreFit}
 use Rattle.s2_settle.specs.WorkList.{WorkList}
-use Rattle.s2_settle.proofs.MadeMoves.{none_are}
+use Rattle.s2_check.proofs.MoveLists.{none_are}
 use Rattle.s2_settle.proofs.dual_ascent.DualAscent.new.Goals as goal
 
 pub invariant_of-result : goal.invariant_of-result
