@@ -108,7 +108,7 @@ class Frame:
 
     @property
     def word(self) -> Any:
-        """Its decided bits, 0 or 1, one per byte: an array of `uint8`; without numpy, bytes."""
+        """Its decided bits, 0 or 1, one per byte: an array of `uint8`; without numpy, an `array` of "B"."""
         return self._record("word")
 
     @property

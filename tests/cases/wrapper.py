@@ -298,6 +298,8 @@ def try_evidence():
         told = sembarohy.check(toy, bytes(given))
         judge(f"the checker's {line}", (wanted, line, wanted[0] == "accepted"), ((told.answer, told.sole, told.check, told.cost), str(told), told.accepted))
     judge("no certificate file", "Error: text of -21", refusal(sembarohy.check, toy, b""))
+    for given, kind in ((None, "NoneType"), (5, "int")):
+        judge(f"a certificate of {kind}", f"TypeError: a certificate is the bytes of its file, not {kind}", refusal(sembarohy.check, toy, given))
 
 
 def try_scan():
