@@ -46,7 +46,7 @@ module _ (rules : Rules) (old new : State) (bytes : List ℕ) where
       known (Some xs) (Some ys) read end =
           let (n, is) = asked_four rules old.phase old.window in
           subst (λ l. Meets (left_known rules phases.Searching old.window (Some xs)) l met) (sym (left_of rules new.phase new.window ys))
-          (ap (met_within rules.finds rules.size old.window) (yields (Some xs) (Some ys) bytes n read (λ other. end (λ e. other (e ∙ is))))
+          (ap (met_within rules.finds (searched_again rules) rules.size old.window) (yields (Some xs) (Some ys) bytes n read (λ other. end (λ e. other (e ∙ is))))
           ∙ sym (ap (λ p. left_by rules p old.window (symbols_of bytes ++ symbols_of ys)) searching) ∙ spell (symbols_of ys) (may ys end (cases_eq (length bytes) (asked rules old))))
 
   -- after a cut frame the end is known
