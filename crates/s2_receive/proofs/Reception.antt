@@ -1,11 +1,16 @@
 -- Frames that are received as they were sent.
-use Rattle.s2_receive.proofs.Names.{◌≡◌, Bool, true, false, ℕ, suc, ◌+◌, ◌≤◌, cond, List, [], ◌∷◌, ◌++◌, All, Option, Some, None, length, take, refl, sym, ap, ◌∙◌, subst, append_assoc, append-nil, length-append, arith, take_at, flat_map-append, Symbol, IsPacket, stream_of, fields_of, header_at, nat_eq, field, joining, incomplete, events_from, Placed, round_trip, Met, frame, no_gap, met_from, Rules, Standing, at_start, begun, left_in, after_all, all_packets, delivery, count_of, Piece, coded, dummy, joined, stream_symbols, events_of, AreReceived, frames_at, SkippedNone, Gives, FrontLaw, closed_in, Meets, Appends, ◌<◌}
+use Rattle.s2_receive.proofs.Names.{and_right, is_none, is_lost, searched_again, ◌≡◌, Bool, true, false, ℕ, suc, ◌+◌, ◌≤◌, cond, List, [], ◌∷◌, ◌++◌, All, Option, Some, None, length, take, refl, sym, ap, ◌∙◌, subst, append_assoc, append-nil, length-append, arith, take_at, flat_map-append, Symbol, IsPacket, stream_of, fields_of, header_at, nat_eq, field, joining, incomplete, events_from, Placed, round_trip, Met, frame, no_gap, met_from, Rules, Standing, at_start, begun, left_in, after_all, all_packets, delivery, count_of, Piece, coded, dummy, joined, stream_symbols, events_of, AreReceived, frames_at, SkippedNone, Gives, FrontLaw, closed_in, Meets, Appends, ◌<◌}
+use Rattle.s2_bbframe.specs.declared.header.Header.{Header}
 use Rattle.s2_receive.proofs.MetLemmas.{behind_of, behind_some, behind_or, whole_frame, whole_dummy}
 use Rattle.s2_receive.proofs.SameSymbols.{spelled}
 use Rattle.s2_receive.proofs.JoinLemmas.{all_joined}
 use Rattle.s2_receive.proofs.FieldPlaces.{placed_fields, placed_front, joined_fields, all_closed}
 
 module _ (rules : Rules) (roll_off : ℕ) (large : 90 ≤ rules.size) where
+  -- a frame that is delivered is not searched again
+  kept : (symbols : List Symbol) {header : Header} {bytes : List ℕ} → (rules.decide symbols).delivered ≡ Some (header, bytes) → searched_again rules symbols ≡ false
+  kept symbols is = and_right rules.resync (is_lost (rules.decide symbols)) (ap is_none is)
+
   -- what comes behind the symbols of a frame
   further : (at n : ℕ) (behind : Bool) (s xs rest : List Symbol) → length s ≡ n → 0 < n → met_from rules.finds (searched_again rules) rules.size (at + n + length xs) 0 (behind_of (length xs) true) no_gap rest
       ≡ met_from rules.finds (searched_again rules) rules.size (at + length (s ++ xs)) 0 (behind_of (length (s ++ xs)) behind) no_gap rest
@@ -23,12 +28,12 @@ module _ (rules : Rules) (roll_off : ℕ) (large : 90 ≤ rules.size) where
   met_frames at k behind (coded s ∷ ps) [] rest h = absurd h
   met_frames at k behind (coded s ∷ ps) (f ∷ fs) rest h =
       ap (met_from rules.finds (searched_again rules) rules.size at 0 behind no_gap) (append_assoc s (stream_symbols ps) rest)
-      ∙ whole_frame rules.finds rules.size s (stream_symbols ps ++ rest) at behind no_gap h.0.0 large h.0.1
+      ∙ whole_frame rules.finds (searched_again rules) rules.size s (stream_symbols ps ++ rest) at behind no_gap h.0.0 large h.0.1 (kept s h.0.2)
       ∙ ap (λ l. frame at no_gap s ∷ l) (met_frames (at + rules.size) (k + length f) true ps fs rest h.1)
       ∙ ap (λ l. frame at no_gap s ∷ (frames_at rules.size (at + rules.size) ps ++ l)) (further at rules.size behind s (stream_symbols ps) rest h.0.0 (omega arith))
   met_frames at k behind (dummy s ∷ ps) fs rest h =
       ap (met_from rules.finds (searched_again rules) rules.size at 0 behind no_gap) (append_assoc s (stream_symbols ps) rest)
-      ∙ whole_dummy rules.finds rules.size s (stream_symbols ps ++ rest) at behind no_gap h.0.0 h.0.1
+      ∙ whole_dummy rules.finds (searched_again rules) rules.size s (stream_symbols ps ++ rest) at behind no_gap h.0.0 h.0.1
       ∙ met_frames (at + 3330) k true ps fs rest h.1
       ∙ ap (λ l. frames_at rules.size (at + 3330) ps ++ l) (further at 3330 behind s (stream_symbols ps) rest h.0.0 (omega arith))
 

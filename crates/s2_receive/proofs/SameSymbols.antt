@@ -1,5 +1,5 @@
 -- What known bytes spell determines what is met.
-use Rattle.s2_receive.proofs.Names.{◌≡◌, ℕ, false, List, [], ◌∷◌, ◌++◌, Option, Some, None, refl, sym, ap, ◌∙◌, subst, append-nil, Streams, Symbol, Met, no_gap, met_from, begun, Window, met_within, Meets, Rules, State, Processed, left_by, left_in, left_known, met_left, after, step_of, phase_after, HasGiven, SameRunLaw, SameStepLaw, SpellSymbols, Phase}
+use Rattle.s2_receive.proofs.Names.{◌≡◌, ℕ, false, List, [], ◌∷◌, ◌++◌, Option, Some, None, refl, sym, ap, ◌∙◌, subst, append-nil, Streams, Symbol, Met, no_gap, met_from, begun, Window, met_within, Meets, Rules, searched_again, State, Processed, left_by, left_in, left_known, met_left, after, step_of, phase_after, HasGiven, SameRunLaw, SameStepLaw, SpellSymbols, Phase}
 use Rattle.s2_receive.proofs.Names.phases
 
 module _ (rules : Rules) where

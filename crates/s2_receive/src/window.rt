@@ -117,7 +117,7 @@ fn resume(
     requires count { held.old.count ≤ length buffer.old }
     requires place { held.old.at + held.old.count ≤ max_symbols }
     requires rest { held.old.again ≡ true → RestOfLost size (length buffer.old) held.old }
-    ensures met { (lost : List SymbolValue → Bool) (coming : List SymbolValue) → MayFollow size (take held.old.count buffer.old) coming →
+    ensures met { (lost : List SymbolValue → Bool) (coming : List SymbolValue) → (held.old.again ≡ true → MayFollow size (take held.old.count buffer.old) coming) →
         met_within (found_as search.old.sought max_header_errors) lost size (window_of held.old buffer.old) coming ≡ met_within (found_as search.old.sought max_header_errors) lost size (window_of held.new buffer.new) coming }
     ensures stays { result ≡ false → (held.new.again ≡ false) × (held.new.at ≡ held.old.at) × (held.new.count ≡ held.old.count) }
     ensures moved { result ≡ true → (held.old.at < held.new.at) × (held.new.at + held.new.count ≡ held.old.at + held.old.count) × (held.old.count ≡ length buffer.old) }
