@@ -5,14 +5,19 @@ use Rattle.s2_receive.proofs.Names.founds
 module _ (finds : Bool → List Symbol → Found) (size : ℕ) where
   -- none before this place
   pub resumed-past : (n place : ℕ) (symbols : List Symbol) → place ≤ n → ((i : ℕ) → i < place → resumes finds size (drop i symbols) ≡ false) → resumed finds size n symbols ≡ place + resumed finds size (n - place) (drop place symbols)
-  resumed-past n zero symbols h none = ap (λ k. resumed finds size k symbols) (omega arith) ∙ omega arith
+  resumed-past n zero symbols h none =
+      let left : n ≡ n - 0 = omega arith in
+      let same : resumed finds size n symbols ≡ resumed finds size (n - 0) (drop 0 symbols) = ap (λ k. resumed finds size k symbols) left in
+      omega (arith, same)
   resumed-past zero (suc place) symbols h none = absurd (omega arith)
   resumed-past (suc n) (suc place) symbols h none =
       let left : n - place ≡ suc n - suc place = omega arith in
-      cond-false _ _ _ (none 0 (omega arith))
-      ∙ ap suc (resumed-past n place (drop 1 symbols) (omega arith) (λ i k. ap (resumes finds size) (drop-drop i 1 symbols) ∙ none (1 + i) (omega arith)))
-      ∙ ap (λ l. suc (place + resumed finds size (n - place) l)) (drop-drop place 1 symbols)
-      ∙ ap (λ k. suc (place + resumed finds size k (drop (1 + place) symbols))) left
+      let one : 1 + place ≡ suc place = omega arith in
+      let later = resumed-past n place (drop 1 symbols) (omega arith) (λ i k. ap (resumes finds size) (drop-drop i 1 symbols) ∙ none (1 + i) (omega arith)) in
+      let there : resumed finds size (n - place) (drop place (drop 1 symbols)) ≡ resumed finds size (suc n - suc place) (drop (suc place) symbols) =
+      ap (resumed finds size (n - place)) (drop-drop place 1 symbols ∙ ap (λ k. drop k symbols) one) ∙ ap (λ k. resumed finds size k (drop (suc place) symbols)) left in
+      let here : resumed finds size (suc n) symbols ≡ suc (resumed finds size n (drop 1 symbols)) = cond-false _ _ _ (none 0 (omega arith)) in
+      omega (arith, here, later, there)
 
   -- the first one is there
   pub resumed-here : (n : ℕ) (symbols : List Symbol) → resumes finds size symbols ≡ true → resumed finds size n symbols ≡ 0
@@ -42,7 +47,7 @@ module _ (finds : Bool → List Symbol → Found) (size : ℕ) where
     where
       before : (i : ℕ) → ((j : ℕ) → i ≡ 1 + j → resumes finds size (drop i symbols) ≡ false) → resumes finds size (drop i symbols) ≡ false
       before zero h = is
-      before (suc i) h = h i refl
+      before (suc i) h = h i (omega arith)
 
   pub resume_law : (n : ℕ) (symbols : List Symbol) → IsResumed finds size n symbols (resumed finds size n symbols)
   resume_law zero symbols = record { within = omega arith; first = λ i k. absurd (omega arith); there = λ k. absurd (omega arith) }
@@ -68,7 +73,7 @@ module _ (finds : Bool → List Symbol → Found) (size : ℕ) where
 
   goes_by : (symbols : List Symbol) (f : Found) → size + 90 ≤ length symbols → begins (finds false) (drop size symbols) ≡ f → is_followed finds size symbols ≡ by_found f true true false
   goes_by symbols f many is =
-      ap (λ b. b || by_found (begins (finds false) (drop size symbols)) true true false) (le-ltb (size + 90) (length symbols) many) ∙ ap (λ x. by_found x true true false) is
+      ap (λ b. b || by_found (begins (finds false) (drop size symbols)) true true false) (le-ltb (length symbols) (size + 90) many) ∙ ap (λ x. by_found x true true false) is
 
   -- what begins where 90 symbols are held
   pub begins_held : (symbols coming : List Symbol) (i : ℕ) → i + 90 ≤ length symbols → begins (finds false) (drop i (symbols ++ coming)) ≡ finds false (take 90 (drop i symbols))
@@ -97,17 +102,17 @@ module _ (finds : Bool → List Symbol → Found) (size : ℕ) where
       there = λ coming may k where_is. ends so coming may k where_is;
     }
       where
-        ends : (0 < place) ⊎ (length symbols < size + 90) → (coming : List Symbol) → MayFollow size symbols coming → place < before → (place ≡ 0) ⊎ (length symbols < size + 90)
-            → resumes finds size (drop place (symbols ++ coming)) ≡ true
-        ends (inl some) coming may k (inl none) = absurd (omega arith)
-        ends (inl some) coming may k (inr few) = at_end coming may k few
-        ends (inr few) coming may k where_is = at_end coming may k few
-
         at_end : (coming : List Symbol) → MayFollow size symbols coming → place < before → length symbols < size + 90 → resumes finds size (drop place (symbols ++ coming)) ≡ true
         at_end coming may k few =
             let all : symbols ++ coming ≡ symbols = ap (λ l. symbols ++ l) (may few) ∙ append-nil symbols in
             ap (λ l. resumes finds size (drop place l)) all
             ∙ coded_so (drop place symbols) true (next.coded k) (ends_there (drop place symbols) (omega (arith, length-drop place symbols)))
+
+        ends : (0 < place) ⊎ (length symbols < size + 90) → (coming : List Symbol) → MayFollow size symbols coming → place < before → (place ≡ 0) ⊎ (length symbols < size + 90)
+            → resumes finds size (drop place (symbols ++ coming)) ≡ true
+        ends (inl some) coming may k (inl none) = absurd (omega arith)
+        ends (inl some) coming may k (inr few) = at_end coming may k few
+        ends (inr few) coming may k where_is = at_end coming may k few
 
     module _ (many : size + 90 ≤ length symbols) (first : NextCoded finds symbols 0 before 0) (some : 1 ≤ before) where
       here_so : (coming : List Symbol) (f : Found) → finds false (take 90 (drop size symbols)) ≡ f → resumes finds size (symbols ++ coming) ≡ by_found f true true false

@@ -118,9 +118,11 @@ fn header_of(
     ensures same { search.new.sought ≡ search.old.sought }
 {
     let mut found = Found::Nothing;
+    let mut at = 0;
     search.restart();
-    for symbol in symbols {
-        found = found_with(search, max_header_errors, *symbol, false);
+    'look: while at < symbols.len() {
+        found = found_with(search, max_header_errors, symbols[at], false);
+        at += 1;
     }
     found
 }

@@ -1,0 +1,19 @@
+use Rattle.s2_receive.proofs.Names.{◌≡◌, ◌≢◌, ◌∙◌, ◌+◌, ◌-◌, ◌<◌, ◌≤◌, min, length, take, drop, false, ap, refl, sym, subst, arith, eqb-true, Found, Saw, found_as, found_last}
+use Rattle.s2_receive.proofs.Names.founds
+use Rattle.s2_receive.proofs.Headers.{restarted, seen_none, seen_on, none_coded_more, coded_next, never_coded}
+use Rattle.s2_receive.proofs.header_search.next_coded.Goals as goal
+
+pub look-init : goal.look-init
+look-init c =
+    let again = restarted c.restart.new.self c.args.search.now.sought c.restart.ensures in
+    (subst (Saw c.restart.new.self) (seen_none c.args.symbols.now c.args.start) again.0, λ i le at. absurd (omega (arith, le, at)), again.1, omega arith)
+
+pub look-preserved : goal.look-preserved
+look-preserved c =
+    let symbols = c.args.symbols.now in
+    let finds = found_as c.args.search.now.sought c.args.max_header_errors in
+    let so = c.look.invariant in
+    let more = omega (arith, c.look-test.true, c.min-end.ensures) in
+    let told = seen_on finds (found_as c.look.search.sought c.args.max_header_errors) symbols c.args.start c.look.at false false (Saw c.found_with-found.new.search) c.found_with-found.result
+    (ap (λ m. found_as m c.args.max_header_errors) so.2) refl so.3 more (c.found_with-found.ensures.header (drop c.args.start (take c.look.at symbols)) so.0) in
+    (told.0, none_coded_more finds symbols c.args.start c.look.at c.found_with-found.result so.3 more so.1 told.1 ?, c.found_with-found.ensures.same ∙ so.2, omega (arith, so.3))
