@@ -174,8 +174,9 @@ pub(crate) fn first_candidate(
     if first > 0 || symbols.len() < size + HEADER_SYMBOLS {
         return first;
     }
-    match header_of(search, max_header_errors, &symbols[size..]) {
-        Found::Nothing => next_coded(search, max_header_errors, symbols, 1, before),
-        Found::Coded | Found::Dummy => first,
+    let found = header_of(search, max_header_errors, &symbols[size..]);
+    if found == Found::Nothing {
+        return next_coded(search, max_header_errors, symbols, 1, before);
     }
+    first
 }

@@ -13,7 +13,7 @@ look-preserved c =
     let symbols = c.args.symbols.now in
     let finds = found_as c.args.search.now.sought c.args.max_header_errors in
     let so = c.look.invariant in
-    let more = omega (arith, c.look-test.true, c.min-end.ensures) in
+    let more : c.look.at < length symbols = omega (arith, c.look-test.true, c.min-end.ensures) in
     let told = seen_on finds (found_as c.look.search.sought c.args.max_header_errors) symbols c.args.start c.look.at false false (Saw c.found_with-found.new.search) c.found_with-found.result
     (ap (λ m. found_as m c.args.max_header_errors) so.2) refl so.3 more (c.found_with-found.ensures.header (drop c.args.start (take c.look.at symbols)) so.0) in
     (told.0, none_coded_more finds symbols c.args.start c.look.at c.found_with-found.result so.3 more so.1 told.1 ?, c.found_with-found.ensures.same ∙ so.2, omega (arith, so.3))
