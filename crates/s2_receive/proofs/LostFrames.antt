@@ -42,7 +42,10 @@ module _ (finds : Bool → List Symbol → Found) (size : ℕ) where
       subst (IsResumed finds size (suc n) symbols) (sym more) (record {
         within = omega (arith, later.within);
         first = λ i k. before i (λ j e. ap (λ x. resumes finds size (drop x symbols)) e ∙ sym (ap (resumes finds size) (drop-drop j 1 symbols)) ∙ later.first j (omega (arith, e, k)));
-        there = λ k. sym (ap (resumes finds size) (drop-drop (resumed finds size n (drop 1 symbols)) 1 symbols)) ∙ later.there (omega arith);
+        there = λ k.
+            (let m = resumed finds size n (drop 1 symbols) in
+            let one : suc m ≡ 1 + m = omega arith in
+            ap (λ x. resumes finds size (drop x symbols)) one ∙ sym (ap (resumes finds size) (drop-drop m 1 symbols)) ∙ later.there (omega arith));
       })
     where
       before : (i : ℕ) → ((j : ℕ) → i ≡ 1 + j → resumes finds size (drop i symbols) ≡ false) → resumes finds size (drop i symbols) ≡ false
@@ -115,26 +118,17 @@ module _ (finds : Bool → List Symbol → Found) (size : ℕ) where
         ends (inr few) coming may k where_is = at_end coming may k few
 
     module _ (many : size + 90 ≤ length symbols) (first : NextCoded finds symbols 0 before 0) (some : 1 ≤ before) where
-      here_so : (coming : List Symbol) (f : Found) → finds false (take 90 (drop size symbols)) ≡ f → resumes finds size (symbols ++ coming) ≡ by_found f true true false
-      here_so coming f is =
-          coded_so (symbols ++ coming) (by_found f true true false) (begins_same symbols coming 0 (omega arith) ∙ first.coded (omega arith))
-          (goes_by (symbols ++ coming) f (omega (arith, length-append symbols coming)) (begins_held symbols coming size many ∙ is))
+      here_so : (coming : List Symbol) → resumes finds size (symbols ++ coming) ≡ by_found (finds false (take 90 (drop size symbols))) true true false
+      here_so coming =
+          coded_so (symbols ++ coming) (by_found (finds false (take 90 (drop size symbols))) true true false) (begins_same symbols coming 0 (omega arith) ∙ first.coded (omega arith))
+          (goes_by (symbols ++ coming) (finds false (take 90 (drop size symbols))) (omega (arith, length-append symbols coming)) (begins_held symbols coming size many))
 
       -- the first place is one, and is followed
-      pub first_followed : (f : Found) → f ≢ founds.Nothing → finds false (take 90 (drop size symbols)) ≡ f → Candidate finds size before symbols 0
-      first_followed f header is = record {
-        within = omega arith;
-        none = λ coming may i k. absurd (omega arith);
-        there = λ coming may k where_is. here_so coming f is ∙ yes_header f header;
-      }
-        where
-          yes_header : (f : Found) → f ≢ founds.Nothing → by_found f true true false ≡ true
-          yes_header founds.Coded header = refl
-          yes_header founds.Dummy header = refl
-          yes_header founds.Nothing header = absurd (header refl)
+      pub first_followed : by_found (finds false (take 90 (drop size symbols))) true true false ≡ true → Candidate finds size before symbols 0
+      first_followed is = record { within = omega arith; none = λ coming may i k. absurd (omega arith); there = λ coming may k where_is. here_so coming ∙ is }
 
       -- it is not followed
-      pub first_refused : (place : ℕ) → finds false (take 90 (drop size symbols)) ≡ founds.Nothing → NextCoded finds symbols 1 before place → Candidate finds size before symbols place
+      pub first_refused : (place : ℕ) → by_found (finds false (take 90 (drop size symbols))) true true false ≡ false → NextCoded finds symbols 1 before place → Candidate finds size before symbols place
       first_refused place is next = record {
         within = next.within;
         none = λ coming may i k. by coming may i k;
@@ -145,5 +139,16 @@ module _ (finds : Bool → List Symbol → Found) (size : ℕ) where
       }
         where
           by : (coming : List Symbol) → MayFollow size symbols coming → (i : ℕ) → i < place → resumes finds size (drop i (symbols ++ coming)) ≡ false
-          by coming may zero k = here_so coming founds.Nothing is
+          by coming may zero k = here_so coming ∙ is
           by coming may (suc i) k = passed_over coming may (suc i) (omega (arith, k, next.within)) (next.none (suc i) (omega arith) k)
+
+-- by what a place was found
+pub coded_by : (f : Found) → by_found f true false false ≡ true → f ≡ founds.Coded
+coded_by founds.Coded is = refl
+coded_by founds.Dummy is = cc
+coded_by founds.Nothing is = cc
+
+pub other_by : (f : Found) → by_found f true false false ≡ false → f ≢ founds.Coded
+other_by founds.Coded is = cc
+other_by founds.Dummy is = λ coded. cc
+other_by founds.Nothing is = λ coded. cc

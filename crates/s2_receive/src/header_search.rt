@@ -3,6 +3,7 @@ ghost use Rattle.std.specs.Prelude.{◌≡◌, ◌+◌, ◌^◌, ◌<◌, ◌≤
 ghost use Rattle.s2_mode.specs.declared.symbols.Symbol.{Symbol as SymbolValue};
 ghost use Rattle.s2_mode.specs.Limits.{header_symbols};
 ghost use Rattle.s2_receive.specs.Limits.{max_symbols};
+ghost use Rattle.s2_receive.specs.Meeting.{by_found};
 ghost use Rattle.s2_receive.specs.Synchronization.{Candidate, NextCoded, Scans, found_last};
 ghost use Rattle.s2_receive.specs.Windows.{Saw, found_as};
 
@@ -107,6 +108,28 @@ pub(crate) fn look_through(
     }
 }
 
+/// Whether a header is that of a coded frame.
+fn is_coded(found: Found) -> bool
+    ensures { result ≡ by_found found true false false }
+{
+    match found {
+        Found::Coded => true,
+        Found::Dummy => false,
+        Found::Nothing => false,
+    }
+}
+
+/// Whether there is a header.
+fn is_header(found: Found) -> bool
+    ensures { result ≡ by_found found true true false }
+{
+    match found {
+        Found::Coded => true,
+        Found::Dummy => true,
+        Found::Nothing => false,
+    }
+}
+
 /// Which header these 90 symbols are, by the usual test.
 fn header_of(
     search: &mut Search,
@@ -147,7 +170,7 @@ fn next_coded(
     'look: while at < end {
         let found = found_with(search, max_header_errors, symbols[at], false);
         at += 1;
-        if found == Found::Coded {
+        if is_coded(found) {
             return at - HEADER_SYMBOLS;
         }
     }
@@ -175,7 +198,7 @@ pub(crate) fn first_candidate(
         return first;
     }
     let found = header_of(search, max_header_errors, &symbols[size..]);
-    if found == Found::Nothing {
+    if !is_header(found) {
         return next_coded(search, max_header_errors, symbols, 1, before);
     }
     first
