@@ -198,8 +198,8 @@ pub(crate) fn first_candidate(
         return first;
     }
     let found = header_of(search, max_header_errors, &symbols[size..]);
-    if !is_header(found) {
-        return next_coded(search, max_header_errors, symbols, 1, before);
+    if is_header(found) {
+        return first;
     }
-    first
+    next_coded(search, max_header_errors, symbols, 1, before)
 }

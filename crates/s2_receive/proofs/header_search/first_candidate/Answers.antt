@@ -12,8 +12,8 @@ returns-then-first-gt0-clause-candidate c =
       | then-first-gt0-via-else-first-gt0+then-symbols-size w ↦ inr (omega (arith, w.if-symbols-size.true))
     ])
 
-pub returns-then-is_header-clause-candidate : goal.returns-then-is_header-clause-candidate
-returns-then-is_header-clause-candidate c =
+pub returns-clause-candidate : goal.returns-clause-candidate
+returns-clause-candidate c =
     let sought = c.args.search.now.sought in
     let errors = c.args.max_header_errors in
     let symbols = c.args.symbols.now in
@@ -27,8 +27,8 @@ returns-then-is_header-clause-candidate c =
     let next = subst (λ (s : Sought). NextCoded (found_as s errors) symbols 1 c.args.before c.next_coded.result) (c.header_of-found.ensures.same ∙ c.next_coded-first.ensures.same) c.next_coded.ensures.next in
     first_refused (found_as sought errors) size symbols c.args.before c.requires.places.1 many first c.requires.places.0 c.next_coded.result (ap (λ f. by_found f true true false) is ∙ sym c.is_header.ensures ∙ c.if-is_header.false) next
 
-pub returns-clause-candidate : goal.returns-clause-candidate
-returns-clause-candidate c =
+pub returns-then-is_header-clause-candidate : goal.returns-then-is_header-clause-candidate
+returns-then-is_header-clause-candidate c =
     let sought = c.args.search.now.sought in
     let errors = c.args.max_header_errors in
     let symbols = c.args.symbols.now in
