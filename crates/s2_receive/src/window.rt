@@ -121,6 +121,7 @@ fn resume(
         met_within (found_as search.old.sought max_header_errors) lost size (window_of held.old buffer.old) coming ≡ met_within (found_as search.old.sought max_header_errors) lost size (window_of held.new buffer.new) coming }
     ensures stays { result ≡ false → (held.new.again ≡ false) × (held.new.at ≡ held.old.at) × (held.new.count ≡ held.old.count) }
     ensures moved { result ≡ true → (held.old.at < held.new.at) × (held.new.at + held.new.count ≡ held.old.at + held.old.count) × (held.old.count ≡ length buffer.old) }
+    ensures ended { held.old.count < length buffer.old → result ≡ false }
     ensures rest { held.new.again ≡ true → RestOfLost size (length buffer.old) held.new }
     ensures skipped { held.new.skipped ≡ held.old.skipped }
     ensures long { length buffer.new ≡ length buffer.old }
@@ -189,24 +190,27 @@ fn meet_last(
         held.skipped,
     );
     let end = held.at + held.count as u64;
-    if !scan.coded {
-        let skipped = scan.skipped.extended(held.at, scan.place, held.count);
-        *held = Held::nothing(end, true);
-        return Next::End { at: end, skipped };
+    if scan.coded {
+        let at = held.at + scan.place as u64;
+        let skipped = scan.skipped;
+        let count = held.count - scan.place;
+        if count < size {
+            *held = Held::nothing(end, true);
+            return Next::Cut {
+                at,
+                skipped,
+                count: count as u64,
+            };
+        }
+        stand_before(buffer, held, scan, scan.place);
+        return Next::Frame { at, skipped };
     }
-    let at = held.at + scan.place as u64;
-    let skipped = scan.skipped;
-    let count = held.count - scan.place;
-    if count < size {
-        *held = Held::nothing(end, true);
-        return Next::Cut {
-            at,
-            skipped,
-            count: count as u64,
-        };
+    let last = scan.skipped.extended(held.at, scan.place, held.count);
+    *held = Held::nothing(end, true);
+    Next::End {
+        at: end,
+        skipped: last,
     }
-    stand_before(buffer, held, scan, scan.place);
-    Next::Frame { at, skipped }
 }
 
 /// Moves the symbols that may begin a frame to the front of a full buffer: those from the first coded frame's
@@ -248,41 +252,36 @@ fn skip_to_header(
     scan.place > 0
 }
 
-/// Looks for a frame in the symbols that are held. All wanted symbols came (`whole`), or the stream ended. Returns
-/// the next frame or the end, or nothing if more symbols are needed. If it is a frame, the symbols held begin with it.
+/// Looks for a frame in the symbols that are held, after all wanted symbols came. Returns the next frame, or nothing if
+/// more symbols are needed. If it is a frame, the symbols held begin with it.
 ///
 /// No frame begins before the buffer's first symbol. Only a full buffer is searched. Then the symbols from the header
 /// on, or the last 89, move to the front. If a dummy frame reaches past them, none are kept.
-fn look(
+fn look_on(
     search: &mut Search,
     max_header_errors: HeaderTolerance,
     buffer: &mut [Symbol],
     size: usize,
     held: &mut Held,
-    whole: bool,
 ) -> Option<Next>
     requires size { (header_symbols ≤ size) × (size ≤ 2 ^ 31) × (size ≤ length buffer.old) × (length buffer.old ≤ size + header_symbols) }
     requires count { held.old.count ≤ length buffer.old }
-    requires last { whole ≡ false → held.old.count < length buffer.old }
     requires place { held.old.at + held.old.count ≤ max_symbols }
     requires skipped { held.old.skipped.symbols ≤ held.old.at }
     requires rest { held.old.again ≡ true → RestOfLost size (length buffer.old) held.old }
     ensures takes { (lost : List SymbolValue → Bool) → Takes (found_as search.old.sought max_header_errors) lost size (length buffer.old) (window_of held.old buffer.old)
-        (window_after lost size result (window_of held.new buffer.new)) [] whole (take size buffer.new) result }
+        (window_after lost size result (window_of held.new buffer.new)) [] true (take size buffer.new) result }
     ensures holds { HoldsFor size result held.new.count (length buffer.old) }
     ensures reached { held.new.at + held.new.count ≡ held.old.at + held.old.count }
     ensures rest { held.new.again ≡ true → RestOfLost size (length buffer.old) held.new }
     ensures long { length buffer.new ≡ length buffer.old }
     ensures same { search.new.sought ≡ search.old.sought }
 {
-    if whole && held.count < buffer.len() {
+    if held.count < buffer.len() {
         return None;
     }
     if resume(search, max_header_errors, buffer, size, held) {
         return None;
-    }
-    if !whole {
-        return Some(meet_last(search, max_header_errors, buffer, size, held));
     }
     if skip_to_header(search, max_header_errors, buffer, size, held) {
         return None;
@@ -291,6 +290,32 @@ fn look(
         at: held.at,
         skipped: held.skipped,
     })
+}
+
+/// Looks for the next frame, the cut frame or the end in the symbols that are held, after the stream ended. If it is a
+/// frame, the symbols held begin with it.
+fn look_last(
+    search: &mut Search,
+    max_header_errors: HeaderTolerance,
+    buffer: &mut [Symbol],
+    size: usize,
+    held: &mut Held,
+) -> Next
+    requires size { (header_symbols ≤ size) × (size ≤ 2 ^ 31) × (size ≤ length buffer.old) × (length buffer.old ≤ size + header_symbols) }
+    requires count { held.old.count < length buffer.old }
+    requires place { held.old.at + held.old.count ≤ max_symbols }
+    requires skipped { held.old.skipped.symbols ≤ held.old.at }
+    requires rest { held.old.again ≡ true → RestOfLost size (length buffer.old) held.old }
+    ensures takes { (lost : List SymbolValue → Bool) → Takes (found_as search.old.sought max_header_errors) lost size (length buffer.old) (window_of held.old buffer.old)
+        (window_after lost size (Some result) (window_of held.new buffer.new)) [] false (take size buffer.new) (Some result) }
+    ensures holds { HoldsFor size (Some result) held.new.count (length buffer.old) }
+    ensures reached { held.new.at + held.new.count ≡ held.old.at + held.old.count }
+    ensures rest { held.new.again ≡ true → RestOfLost size (length buffer.old) held.new }
+    ensures long { length buffer.new ≡ length buffer.old }
+    ensures same { search.new.sought ≡ search.old.sought }
+{
+    resume(search, max_header_errors, buffer, size, held);
+    meet_last(search, max_header_errors, buffer, size, held)
 }
 
 /// Takes the symbols of these bytes: all that are wanted (`whole`), or the last ones of the stream. Returns the next
@@ -319,5 +344,8 @@ pub(crate) fn take_symbols(
     ensures same { search.new.sought ≡ search.old.sought }
 {
     fill(bytes, buffer, held);
-    look(search, max_header_errors, buffer, size, held, whole)
+    if whole {
+        return look_on(search, max_header_errors, buffer, size, held);
+    }
+    Some(look_last(search, max_header_errors, buffer, size, held))
 }
