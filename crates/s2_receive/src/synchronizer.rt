@@ -1,5 +1,5 @@
 //! The finder of one mode's frames.
-ghost use Rattle.std.specs.Prelude.{◌≡◌, ◌+◌, ◌*◌, ◌^◌, ◌<◌, ◌≤◌, ◌&&◌, nat_eq, Bool, List, IfOk, length, false};
+ghost use Rattle.std.specs.Prelude.{◌≡◌, ◌+◌, ◌*◌, ◌^◌, ◌<◌, ◌≤◌, ◌&&◌, nat_eq, Bool, List, IfOk, length, take, false};
 ghost use Rattle.s2_mode.specs.Limits.{header_symbols};
 ghost use Rattle.s2_receive.specs.Limits.{max_symbols};
 ghost use Rattle.s2_mode.specs.Mode.{symbols_in};
@@ -152,6 +152,7 @@ impl Synchronizer {
     pub(crate) fn frame(&self) -> &[Symbol]
         ensures is { result.now ≡ self.now.frame }
         ensures size { length self.now.frame ≡ symbols_in self.now.sought.mode }
+        ensures front { symbols_in self.now.sought.mode ≤ length self.now.window.symbols → self.now.frame ≡ take (symbols_in self.now.sought.mode) self.now.window.symbols }
         ensures least { header_symbols ≤ symbols_in self.now.sought.mode }
     {
         &self.buffer[..self.size]

@@ -10,7 +10,7 @@ returns-clause-takes c = λ lost.
     let long = length-take-le held.count buffer (omega (arith, c.requires.count)) in
     end_takes (found_as c.args.search.now.sought c.args.max_header_errors) lost c.args.size (window_of held buffer) scan c.requires.again c.look_through-scan.ensures.scans (length buffer) (held.at + held.count) c.extended-last.result
     (take c.args.size buffer) c.if-scan.false (omega (arith, long)) (c.extended-last.ensures ∙ ap (λ n. extended scan.skipped (held.at + scan.place) (n - scan.place)) (sym long))
-    (window_of c.nothing.result buffer) (c.nothing.ensures.window buffer ∙ ap (λ n. window_at (held.at + n) true) (sym long))
+    (window_of c.nothing-2.result buffer) (c.nothing-2.ensures.window buffer ∙ ap (λ n. window_at (held.at + n) true) (sym long))
 
 pub returns-then-count-size-clause-takes : goal.returns-then-count-size-clause-takes
 returns-then-count-size-clause-takes c = λ lost.
@@ -22,11 +22,11 @@ returns-then-count-size-clause-takes c = λ lost.
     let header = scans.header c.if-scan.true in
     cut_takes (found_as c.args.search.now.sought c.args.max_header_errors) lost c.args.size (window_of held buffer) scan c.requires.again scans (length buffer) (held.at + scan.place) (held.count - scan.place) scan.skipped
     (take c.args.size buffer) c.if-scan.true (omega (arith, long, header.0, c.if-count-size.true)) refl refl (omega (arith, long))
-    (window_of c.nothing-then-count-size.result buffer) (c.nothing-then-count-size.ensures.window buffer ∙ ap (λ n. window_at (held.at + n) true) (sym long))
+    (window_of c.nothing.result buffer) (c.nothing.ensures.window buffer ∙ ap (λ n. window_at (held.at + n) true) (sym long))
 
 pub returns-then-count-size-clause-reached : goal.returns-then-count-size-clause-reached
 returns-then-count-size-clause-reached c =
-    omega (arith, ap (λ w. w.at) (c.nothing-then-count-size.ensures.window c.args.buffer.now), c.nothing-then-count-size.ensures.count)
+    omega (arith, ap (λ w. w.at) (c.nothing.ensures.window c.args.buffer.now), c.nothing.ensures.count)
 
 pub returns-then-scan-clause-takes : goal.returns-then-scan-clause-takes
 returns-then-scan-clause-takes c = λ lost.
