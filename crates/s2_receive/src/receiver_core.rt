@@ -99,9 +99,13 @@ fn find_next<D: Decide>(
         × (D.decide decider.new ≡ D.decide decider.old) × (D.size decider.new ≡ D.size decider.old) }
 {
     let next = synchronizer.take(bytes, limit)?;
-    if let Next::Frame { .. } = next {
-        decider.decide(synchronizer.frame());
-        synchronizer.pass(is_lost(decider));
+    match next {
+        Next::Frame { .. } => {
+            decider.decide(synchronizer.frame());
+            synchronizer.pass(is_lost(decider));
+        }
+        Next::Cut { .. } => {}
+        Next::End { .. } => {}
     }
     Some(next)
 }

@@ -18,7 +18,8 @@ use std::marker::Model;
 /// The number of symbols that a search for a mode's frames holds before it tells of a frame: those of the frame, and
 /// those of the next header if lost frames are searched again.
 pub(crate) fn room_for(mode: Mode, resync: bool) -> usize
-    ensures { result ≡ room_for resync (symbols_in mode) }
+    ensures is { result ≡ room_for resync (symbols_in mode) }
+    ensures small { result ≤ 2 ^ 31 }
 {
     if resync {
         mode.symbols() + HEADER_SYMBOLS
