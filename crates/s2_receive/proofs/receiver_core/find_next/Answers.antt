@@ -30,7 +30,8 @@ returns-in-Frame-clause-takes g c =
     let window : c.pass.new.self.window ≡ passed_by (lost (take size mid.window.symbols)) size mid.window =
     c.pass.ensures.window ∙ ap (λ n. passed_by (mid.resync && c.is_lost.result) n mid.window) mode
     ∙ ap (λ b. passed_by (b && c.is_lost.result) size mid.window) same.2 ∙ ap (λ b. passed_by (old.resync && b) size mid.window) is in
-    let takes = rw c.in-Frame.is at (c.in_ok-next.ensures.takes lost) in (
+    let takes = rw c.in-Frame.is at (c.in_ok-next.ensures.takes lost) in
+    rw c.in-Frame.is (
       mid.frame,
       subst (λ (w : Window). Takes (found_as old.sought old.max_header_errors) lost size room old.window w (symbols_of c.args.bytes.now) (nat_eq (length c.args.bytes.now) (4 * wanted c.args.limit room old.window)) mid.frame
       (Some (next.Frame c.in-Frame.at c.in-Frame.skipped))) (sym window) takes,
@@ -39,8 +40,8 @@ returns-in-Frame-clause-takes g c =
 
 pub returns-in-Cut-clause-takes : goal.returns-in-Cut-clause-takes
 returns-in-Cut-clause-takes g c =
-    (c.take.new.self.frame, rw c.in-Cut.is at (c.in_ok-next.ensures.takes (λ frame. c.args.synchronizer.now.resync && is_lost (g.D.Decide.decide c.args.decider.now frame))), tt)
+    rw c.in-Cut.is (c.take.new.self.frame, rw c.in-Cut.is at (c.in_ok-next.ensures.takes (λ frame. c.args.synchronizer.now.resync && is_lost (g.D.Decide.decide c.args.decider.now frame))), tt)
 
 pub returns-in-End-clause-takes : goal.returns-in-End-clause-takes
 returns-in-End-clause-takes g c =
-    (c.take.new.self.frame, rw c.in-End.is at (c.in_ok-next.ensures.takes (λ frame. c.args.synchronizer.now.resync && is_lost (g.D.Decide.decide c.args.decider.now frame))), tt)
+    rw c.in-End.is (c.take.new.self.frame, rw c.in-End.is at (c.in_ok-next.ensures.takes (λ frame. c.args.synchronizer.now.resync && is_lost (g.D.Decide.decide c.args.decider.now frame))), tt)
