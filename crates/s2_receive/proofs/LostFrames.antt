@@ -1,5 +1,5 @@
 -- Lost frames, searched again.
-use Rattle.s2_receive.proofs.Names.{◌≡◌, ◌≢◌, ℕ, zero, suc, ◌+◌, ◌-◌, ◌<◌, ◌≤◌, ◌⊎◌, inl, inr, Bool, true, false, List, [], ◌∷◌, ◌++◌, length, take, drop, refl, sym, ap, ◌∙◌, subst, length-append, length-drop, append-nil, arith, ◌||◌, nat_lt, cases_lt, cases_eq, cond-true, cond-false, le-leb, lt-leb, lt-ltb, le-ltb, drop-drop, drop_all, drop-append-le, take-append-le, Symbol, Found, begins, by_found, is_followed, resumes, resumed, IsResumed, ResumeLaw, NextCoded, Candidate, MayFollow}
+use Rattle.s2_receive.proofs.Names.{◌≡◌, ◌≢◌, ℕ, zero, suc, ◌+◌, ◌-◌, ◌<◌, ◌≤◌, ◌⊎◌, inl, inr, Bool, true, false, List, [], ◌++◌, length, take, drop, refl, sym, ap, ◌∙◌, subst, length-append, length-drop, append-nil, arith, ◌||◌, cases_lt, cond-true, cond-false, le-leb, lt-ltb, le-ltb, drop-drop, drop-append-le, take-append-le, Symbol, Found, begins, by_found, is_followed, resumes, resumed, IsResumed, NextCoded, Candidate, MayFollow}
 use Rattle.s2_receive.proofs.Names.founds
 
 module _ (finds : Bool → List Symbol → Found) (size : ℕ) where

@@ -1,5 +1,5 @@
 -- The packets and counts of a thing met, and the receiver's state after it (own).
-use Rattle.std.specs.Prelude.{◌≡◌, ℕ, ◌+◌, ◌*◌, ◌≤◌, ◌&&◌, IfSome, Bool, true, List, ◌∷◌, ◌++◌, length, Option, Some, None, ⊤}
+use Rattle.std.specs.Prelude.{◌≡◌, ℕ, ◌+◌, ◌*◌, ◌≤◌, ◌&&◌, IfSome, Bool, List, ◌∷◌, ◌++◌, length, Option, Some, None, ⊤}
 use Rattle.std.specs.List.{flat_map}
 use Rattle.s2_bbframe.specs.Limits.{max_field_bytes, packets_room}
 use Rattle.s2_bbframe.specs.declared.header.Header.{Header}

@@ -131,11 +131,7 @@ fn is_header(found: Found) -> bool
 }
 
 /// Which header these 90 symbols are, by the usual test.
-fn header_of(
-    search: &mut Search,
-    max_header_errors: HeaderTolerance,
-    symbols: &[Symbol],
-) -> Found
+fn header_of(search: &mut Search, max_header_errors: HeaderTolerance, symbols: &[Symbol]) -> Found
     requires { length symbols.now ≡ header_symbols }
     ensures is { result ≡ found_as search.old.sought max_header_errors false symbols.now }
     ensures same { search.new.sought ≡ search.old.sought }

@@ -1,5 +1,4 @@
-use Rattle.s2_receive.proofs.Names.{◌≡◌, ◌-◌, by_found, true, ◌∙◌, ◌+◌, ◌<◌, ◌≤◌, ◌⊎◌, ℕ, List, inl, inr, length, take, drop, false, ap, refl, sym, subst, arith, length-drop, take_all, NextCoded, Symbol, Sought, found_as}
-use Rattle.s2_receive.proofs.Names.founds
+use Rattle.s2_receive.proofs.Names.{◌≡◌, ◌-◌, by_found, true, ◌∙◌, ◌+◌, ◌≤◌, inl, inr, length, take, drop, false, ap, sym, subst, arith, NextCoded, Sought, found_as}
 use Rattle.s2_receive.proofs.LostFrames.{first_found, first_followed, first_refused}
 use Rattle.s2_receive.proofs.header_search.first_candidate.Goals.{then-first-gt0-via-then-first-gt0, then-first-gt0-via-else-first-gt0+then-symbols-size}
 use Rattle.s2_receive.proofs.header_search.first_candidate.Goals as goal

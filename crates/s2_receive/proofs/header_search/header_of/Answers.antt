@@ -1,4 +1,4 @@
-use Rattle.s2_receive.proofs.Names.{◌≡◌, ◌∙◌, length, take, drop, false, ap, refl, sym, arith, take_all, Saw, found_as, found_last, lt-leb, cond-false}
+use Rattle.s2_receive.proofs.Names.{◌≡◌, ◌∙◌, take, drop, false, ap, refl, sym, arith, take_all, Saw, found_as, found_last}
 use Rattle.s2_receive.proofs.Headers.{restarted, seen_on, whole_header}
 use Rattle.s2_receive.proofs.header_search.header_of.Goals as goal
 

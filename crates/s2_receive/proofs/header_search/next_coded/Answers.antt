@@ -1,5 +1,4 @@
-use Rattle.s2_receive.proofs.Names.{◌≡◌, ◌≢◌, ◌∙◌, ◌+◌, ◌-◌, ◌<◌, ◌≤◌, min, length, take, drop, false, ap, refl, sym, subst, arith, eqb-true, Found, Saw, found_as, found_last}
-use Rattle.s2_receive.proofs.Names.founds
+use Rattle.s2_receive.proofs.Names.{◌∙◌, ◌<◌, length, take, drop, false, ap, refl, sym, subst, arith, Saw, found_as}
 use Rattle.s2_receive.proofs.Headers.{restarted, seen_none, seen_on, none_coded_more, coded_next, never_coded}
 use Rattle.s2_receive.proofs.LostFrames.{coded_by, other_by}
 use Rattle.s2_receive.proofs.header_search.next_coded.Goals as goal

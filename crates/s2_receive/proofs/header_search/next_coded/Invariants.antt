@@ -1,4 +1,4 @@
-use Rattle.s2_receive.proofs.Names.{◌≡◌, ◌≤◌, ◌-◌, length, take, drop, Saw, found_as}
+use Rattle.s2_receive.proofs.Names.{◌≡◌, ◌≤◌, ◌-◌, take, drop, Saw, found_as}
 use Rattle.s2_receive.proofs.Headers.{NoneCoded}
 use Rattle.s2_receive.proofs.header_search.next_coded.Given as goal
 

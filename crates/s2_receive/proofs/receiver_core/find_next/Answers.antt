@@ -1,5 +1,5 @@
 use Rattle.s2_mode.specs.Mode.{symbols_in}
-use Rattle.s2_receive.proofs.Names.{◌≡◌, ◌∙◌, ◌&&◌, Bool, List, Symbol, Some, refl, ap, subst, sym, arith, length, take, nat_eq, ◌*◌, symbols_of, reached, room_for, wanted, passed_by, is_lost, Takes, found_as, Decision, Sought, Window}
+use Rattle.s2_receive.proofs.Names.{◌≡◌, ◌∙◌, ◌&&◌, List, Symbol, Some, ap, subst, sym, arith, length, take, nat_eq, ◌*◌, symbols_of, room_for, wanted, passed_by, is_lost, Takes, found_as, Sought, Window}
 use Rattle.s2_receive.proofs.Names.next
 use Rattle.s2_receive.proofs.StepLemmas.{few_come}
 use Rattle.s2_receive.proofs.receiver_core.find_next.Goals as goal
@@ -34,7 +34,7 @@ returns-in-Frame-clause-takes g c =
     rw c.in-Frame.is (
       mid.frame,
       subst (λ (w : Window). Takes (found_as old.sought old.max_header_errors) lost size room old.window w (symbols_of c.args.bytes.now) (nat_eq (length c.args.bytes.now) (4 * wanted c.args.limit room old.window)) mid.frame
-      (Some (next.Frame c.in-Frame.at c.in-Frame.skipped))) (sym window) takes,
+          (Some (next.Frame c.in-Frame.at c.in-Frame.skipped))) (sym window) takes,
       last,
     )
 

@@ -1,4 +1,4 @@
-use Rattle.s2_receive.proofs.Names.{◌≡◌, ◌∙◌, ◌+◌, ◌<◌, ◌≤◌, [], List, Some, false, length, take, ap, sym, arith, length-take-le, Takes, Symbol, Sought, MayFollow, window_after, reached, Window, window_of, found_as}
+use Rattle.s2_receive.proofs.Names.{[], Some, false, length, take, arith, length-take-le, window_after, window_of, found_as}
 use Rattle.s2_receive.proofs.FindSteps.{told_on}
 use Rattle.s2_receive.proofs.window.look_last.Goals as goal
 

@@ -1,4 +1,4 @@
-use Rattle.s2_receive.proofs.Names.{◌≡◌, ◌∙◌, ◌+◌, ◌<◌, ◌≤◌, [], List, Some, None, true, length, take, ap, sym, arith, length-take-le, Takes, Symbol, Sought, MayFollow, passed_by, reached, Window, window_of, found_as}
+use Rattle.s2_receive.proofs.Names.{[], Some, None, true, length, take, arith, length-take-le, passed_by, window_of, found_as}
 use Rattle.s2_receive.proofs.Names.next
 use Rattle.s2_receive.proofs.FindSteps.{told_on}
 use Rattle.s2_receive.proofs.window.look_on.Goals as goal

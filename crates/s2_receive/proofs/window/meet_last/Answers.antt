@@ -1,5 +1,5 @@
-use Rattle.s2_receive.proofs.Names.{◌≡◌, ◌∙◌, ◌+◌, ◌-◌, ◌<◌, ◌≤◌, true, false, length, take, drop, ap, refl, sym, arith, length-take-le, take-take, extended, Window, window_at, window_of, found_as}
-use Rattle.s2_receive.proofs.FindSteps.{end_takes, cut_takes, frame_takes, scanned}
+use Rattle.s2_receive.proofs.Names.{◌≡◌, ◌∙◌, ◌+◌, ◌-◌, ◌≤◌, true, false, length, take, ap, refl, sym, arith, length-take-le, take-take, extended, Window, window_at, window_of, found_as}
+use Rattle.s2_receive.proofs.FindSteps.{end_takes, cut_takes, frame_takes}
 use Rattle.s2_receive.proofs.window.meet_last.Goals as goal
 
 pub returns-clause-takes : goal.returns-clause-takes

@@ -1,4 +1,4 @@
-use Rattle.s2_receive.proofs.Names.{◌≡◌, ◌∙◌, ◌+◌, ◌-◌, ◌<◌, ◌⊎◌, inl, inr, true, false, length, take, drop, ap, refl, arith, length-take-le, Window, window_of, found_as}
+use Rattle.s2_receive.proofs.Names.{◌≡◌, ◌∙◌, ◌+◌, ◌-◌, inl, inr, true, false, take, drop, ap, refl, arith, length-take-le, Window, window_of, found_as}
 use Rattle.s2_receive.proofs.FindSteps.{settles, keeps_on}
 use Rattle.s2_receive.proofs.window.resume.Goals.{then-held-buffer-via-then-held-buffer, then-held-buffer-via-else-held-buffer+then-place-eq0, then-held-buffer-via-else-held-buffer+else-place-eq0+then-place-held}
 use Rattle.s2_receive.proofs.window.resume.Goals as goal

@@ -1,4 +1,4 @@
-use Rattle.s2_receive.proofs.Names.{◌≡◌, ◌∙◌, ◌+◌, ◌-◌, ◌<◌, ◌≤◌, min, inl, inr, true, false, length, take, drop, ap, refl, sym, subst, arith, cases_Bool, take_all, length-take-le, take-take, List, Symbol, Scans, Window, window_at, window_of, found_as}
+use Rattle.s2_receive.proofs.Names.{◌≡◌, ◌∙◌, ◌-◌, ◌≤◌, min, inl, inr, true, length, take, ap, refl, sym, subst, arith, cases_Bool, take_all, take-take, List, Symbol, Scans, window_of, found_as}
 use Rattle.s2_receive.proofs.FindSteps.{frame_takes, moves_on, scanned, none_of, some_of}
 use Rattle.s2_receive.proofs.window.skip_to_header.Goals as goal
 

@@ -1,4 +1,4 @@
-use Rattle.s2_receive.proofs.Names.{◌≡◌, Some, true, false, length, take, subst, sym, Takes, found_as, symbols_of, window_of, window_after}
+use Rattle.s2_receive.proofs.Names.{Some, length, take, found_as, symbols_of, window_of, window_after}
 use Rattle.s2_receive.proofs.FindSteps.{took}
 use Rattle.s2_receive.proofs.window.take_symbols.Goals as goal
 

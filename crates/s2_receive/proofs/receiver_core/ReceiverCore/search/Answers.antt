@@ -1,4 +1,4 @@
-use Rattle.s2_receive.proofs.Names.{◌≡◌, ◌*◌, ◌≤◌, ◌&&◌, ap, subst, sym, length, nat_eq, Bool, symbols_of, reached, room_for, wanted, IsSound, TakesDecided, is_lost, Receiver, rules_of, found_as, Sought}
+use Rattle.s2_receive.proofs.Names.{◌*◌, ◌≤◌, ◌&&◌, ap, subst, sym, length, nat_eq, Bool, symbols_of, reached, room_for, wanted, IsSound, TakesDecided, is_lost, Receiver, rules_of, found_as, Sought}
 use Rattle.s2_mode.specs.Mode.{symbols_in}
 use Rattle.s2_receive.proofs.StepLemmas.{asked_then, few_come, searches_so, sound_on, symbols_least}
 use Rattle.s2_receive.proofs.receiver_core.ReceiverCore.search.Goals as goal

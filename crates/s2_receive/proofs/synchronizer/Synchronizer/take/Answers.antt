@@ -1,6 +1,6 @@
 use Rattle.s2_check.proofs.Lists.{refilled}
 use Rattle.s2_mode.specs.Mode.{symbols_in}
-use Rattle.s2_receive.proofs.Names.{◌≡◌, ◌∙◌, ◌+◌, ◌*◌, ◌++◌, ℕ, Bool, List, Symbol, ap, subst, sym, arith, length, take, drop, nat_eq, length-take-le, symbols_of, reached, room_for, wanted, window_of, window_after, Synchronizer, Takes, found_as}
+use Rattle.s2_receive.proofs.Names.{◌≡◌, ◌∙◌, ◌*◌, ◌++◌, ℕ, List, Symbol, ap, subst, sym, arith, length, take, drop, nat_eq, length-take-le, symbols_of, reached, room_for, window_of, window_after, Synchronizer, Takes, found_as}
 use Rattle.s2_receive.proofs.FindSteps.{holds_most}
 use Rattle.s2_receive.proofs.SymbolLists.{count_symbols}
 use Rattle.s2_receive.proofs.synchronizer.Synchronizer.take.Goals as goal
