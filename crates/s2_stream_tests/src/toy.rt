@@ -240,7 +240,15 @@ pub(crate) fn toy(alloc: Global, limit: u64, figured: bool) -> Result<Toy, Fail>
         figured,
     };
     let limit = limit.min(MAX_SYMBOLS);
-    Ok(Receiver::new(alloc, mode, false, HeaderTolerance::usual(), decider, limit)?)
+    Ok(Receiver::new(
+        alloc,
+        mode,
+        false,
+        HeaderTolerance::usual(),
+        false,
+        decider,
+        limit,
+    )?)
 }
 
 /// A number of symbols at which nothing begins.

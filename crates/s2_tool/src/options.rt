@@ -84,6 +84,7 @@ fn tuning_of(mode: &Mode, words: TuningArguments) -> Result<Tuning, Fault<'stati
         figures: words.figures,
         turns: words.turns,
         equalize: words.equalize,
+        resync: words.resync,
     };
     tuning_by(mode, wanted).ok_or(Fault::refused(FaultText::of("no such tuning")))
 }
