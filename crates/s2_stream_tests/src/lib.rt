@@ -11,6 +11,8 @@ mod core_tests;
 #[cfg(test)]
 mod figures_tests;
 #[cfg(test)]
+mod resync_tests;
+#[cfg(test)]
 mod send_tests;
 #[cfg(test)]
 mod sending;

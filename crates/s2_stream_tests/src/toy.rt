@@ -231,6 +231,16 @@ pub(crate) type Toy = Receiver<HalfPackets>;
 
 /// A receiver that takes at most this number of symbols, with or without figures.
 pub(crate) fn toy(alloc: Global, limit: u64, figured: bool) -> Result<Toy, Fail> {
+    toy_with(alloc, limit, figured, false)
+}
+
+/// The same, which may search lost frames again.
+pub(crate) fn toy_with(
+    alloc: Global,
+    limit: u64,
+    figured: bool,
+    resync: bool,
+) -> Result<Toy, Fail> {
     let mode = Mode::of(12, true, false).ok_or("no mode")?;
     let decider = HalfPackets {
         mode,
@@ -245,7 +255,7 @@ pub(crate) fn toy(alloc: Global, limit: u64, figured: bool) -> Result<Toy, Fail>
         mode,
         false,
         HeaderTolerance::usual(),
-        false,
+        resync,
         decider,
         limit,
     )?)
@@ -272,11 +282,16 @@ fn put_header(bytes: &mut Vec<u8>) -> Result<(), AllocError> {
     put_code(bytes, CODED_CODE)
 }
 
-/// A frame whose first symbol after the header has this Q.
-fn put_frame(bytes: &mut Vec<u8>, first: i16) -> Result<(), AllocError> {
+/// A frame whose first symbol after the header has this Q, and this number of symbols after it.
+fn put_slipped(bytes: &mut Vec<u8>, first: i16, count: u32) -> Result<(), AllocError> {
     put_header(bytes)?;
     put_symbol(bytes, Symbol { i: 1, q: first })?;
-    put_symbols(bytes, 5399)
+    put_symbols(bytes, count)
+}
+
+/// A frame whose first symbol after the header has this Q.
+fn put_frame(bytes: &mut Vec<u8>, first: i16) -> Result<(), AllocError> {
+    put_slipped(bytes, first, 5399)
 }
 
 /// A dummy frame, or its first symbols, 90 at least.
@@ -285,11 +300,12 @@ fn put_dummy(bytes: &mut Vec<u8>, symbols: u32) -> Result<(), AllocError> {
     put_symbols(bytes, symbols.saturating_sub(90))
 }
 
-/// A part of a stream: a frame with this content, a header, a number of symbols of a dummy frame or of others, or up to
-/// three bytes.
+/// A part of a stream: a frame with this content, the same with another number of symbols after the first one of its
+/// payload (5399 if none is missing), a header, a number of symbols of a dummy frame or of others, or up to three bytes.
 #[derive(Clone, Copy)]
 pub(crate) enum Part {
     Frame(i16),
+    Slipped(i16, u32),
     Header,
     Dummy(u32),
     Symbols(u32),
@@ -299,6 +315,7 @@ pub(crate) enum Part {
 fn put_part(bytes: &mut Vec<u8>, part: Part) -> Result<(), AllocError> {
     match part {
         Part::Frame(first) => put_frame(bytes, first),
+        Part::Slipped(first, count) => put_slipped(bytes, first, count),
         Part::Header => put_header(bytes),
         Part::Dummy(symbols) => put_dummy(bytes, symbols),
         Part::Symbols(count) => put_symbols(bytes, count),
