@@ -1,5 +1,5 @@
 -- The link and the tuning of the options of C (own).
-use Rattle.std.specs.Prelude.{◌≡◌, ℕ, ◌%◌, ◌/◌, nat_eq, Bool, if◌then◌else◌, min, None}
+use Rattle.std.specs.Prelude.{◌≡◌, ℕ, ◌%◌, ◌/◌, nat_eq, Bool, false, if◌then◌else◌, min, None}
 use Rattle.s2_mode.specs.Mode.{Mode, mode_of}
 use Rattle.s2_rows.specs.Rows.{Rows}
 use Rattle.s2_link.specs.Link.{Link, link_of}
@@ -50,6 +50,7 @@ wanted_by flags o = record {
   figures = flags.figures;
   turns = flags.turns;
   equalize = flags.equalize;
+  resync = false;
 }
 
 -- the mode of options

@@ -186,5 +186,6 @@ pub(crate) fn wanted_by(flags: Flags, options: &Options) -> Wanted
         figures: flags.figures,
         turns: flags.turns,
         equalize: flags.equalize,
+        resync: false,
     }
 }

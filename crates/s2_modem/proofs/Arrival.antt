@@ -1,5 +1,5 @@
 -- What is sent arrives.
-use Rattle.s2_modem.proofs.Names.{⊤, nat_eq, if◌then◌else◌, ◌≡◌, ℕ, ◌+◌, ◌*◌, IsTrue, Bool, true, false, List, [], ◌∷◌, ◌++◌, All, Option, Some, None, length, length-map, map, refl, sym, ap, ap₂, ◌∙◌, subst, append_assoc, append-nil, length-append, arith, All-nil, All-cons, Appends, Consumes, IsAtEnd, Mode, IsMode, HasCodeSizes, symbols_of, symbol_bytes, bytes_of_symbols, Symbol, field_bytes, stream_of, fields_of, dummy_frame, Link, sent_behind, Transmitter, is_due, AreUnits, AreCodewords, Met, frame, ended, no_gap, met_from, Meets, Rules, State, Standing, at_start, with_gap, begun, left_in, left_known, after, after_all, all_packets, all_lines, frame_line, end_line, Piece, coded, dummy, joined, stream_symbols, SpellSymbols, AreReceived, frames_at, SkippedNone, Report, Totals, Verdict, is_certified, Delivered, Outcome, gives, all_met, after-append, packets-append, lines-append, symbols-append, AreBytes, ReceivesAll, certified_lines, run_places, totals_of, sent_symbols, places_in, sent_places, max_symbols, ArrivalLaw, link_rules, FramePlace, Figures, IsCodeword, code_of, zero, suc, saturated, sums_after, refused_in, energy_over, sums_over, clean_energy, clean_figures_by}
+use Rattle.s2_modem.proofs.Names.{searched_again, ⊤, nat_eq, if◌then◌else◌, ◌≡◌, ℕ, ◌+◌, ◌*◌, IsTrue, Bool, true, false, List, [], ◌∷◌, ◌++◌, All, Option, Some, None, length, length-map, map, refl, sym, ap, ap₂, ◌∙◌, subst, append_assoc, append-nil, length-append, arith, All-nil, All-cons, Appends, Consumes, IsAtEnd, Mode, IsMode, HasCodeSizes, symbols_of, symbol_bytes, bytes_of_symbols, Symbol, field_bytes, stream_of, fields_of, dummy_frame, Link, sent_behind, Transmitter, is_due, AreUnits, AreCodewords, Met, frame, ended, no_gap, met_from, Meets, Rules, State, Standing, at_start, with_gap, begun, left_in, left_known, after, after_all, all_packets, all_lines, frame_line, end_line, Piece, coded, dummy, joined, stream_symbols, SpellSymbols, AreReceived, frames_at, SkippedNone, Report, Totals, Verdict, is_certified, Delivered, Outcome, gives, all_met, after-append, packets-append, lines-append, symbols-append, AreBytes, ReceivesAll, certified_lines, run_places, totals_of, sent_symbols, places_in, sent_places, max_symbols, ArrivalLaw, link_rules, FramePlace, Figures, IsCodeword, code_of, zero, suc, saturated, sums_after, refused_in, energy_over, sums_over, clean_energy, clean_figures_by}
 use Rattle.s2_modem.proofs.Names.phases
 use Rattle.s2_modem.proofs.SymbolsBack.{frame_read, dummy_read}
 use Rattle.s2_modem.proofs.ByteStreams.{AreFields, front_fields}
@@ -172,7 +172,7 @@ arrival_law m valid sizes t tuning count_old count_new source written counts tot
     let just = frames_at rules.size 0 h.pieces in
     let sent : symbols_of written ≡ stream_symbols h.pieces ++ [] = ap symbols_of (runs.written ∙ ap (λ l. joined runs.units ++ l) runs.begins) ∙ h.symbols [] in
     let met_is : met ≡ just ++ ended no_gap ∷ [] =
-    sym (all_met rules (symbols_of written) state before.taken got.left met spelt got.runs_out.0 processed.left) ∙ ap (met_from rules.finds rules.size 0 0 false no_gap) sent ∙ g.met in
+    sym (all_met rules (symbols_of written) state before.taken got.left met spelt got.runs_out.0 processed.left) ∙ ap (met_from rules.finds (searched_again rules) rules.size 0 0 false no_gap) sent ∙ g.met in
     let end = after_all rules at_start just in
     let last = with_gap end.totals no_gap in
     let all = g.all refl in

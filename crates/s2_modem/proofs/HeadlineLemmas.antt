@@ -1,5 +1,5 @@
 -- The headline holds.
-use Rattle.s2_modem.proofs.Names.{◌≡◌, ℕ, zero, suc, ◌+◌, ◌<◌, ◌≤◌, ◌⊎◌, IsTrue, Bool, true, false, cond, List, [], ◌∷◌, ◌++◌, All, Option, Some, None, length, map, range_with_len, count_by, sum_by-cons, inl, inr, refl, sym, ap, ◌∙◌, subst, append_assoc, append-nil, Result, Ok, Err, ⊤, nat_lt, lt-leb, flat_map, All-nil, All-cons, All-weaker, arith, Mode, IsMode, HasCodeSizes, symbols_of, Streams, Symbol, code_of, header_at, field_bytes, IsDivisor, Found, Tuning, Link, IsLinkOf, Gap, Report, frame_line, cut_line, end_line, Met, frame, cut, ended, no_gap, extended, begins, by_found, met_from, Rules, State, Standing, at_start, at_end, with_gap, report_of, after, after_all, all_packets, all_lines, begun, RunsOut, Piece, joined, stream_symbols, SpellSymbols, IsReceived, frames_at, gives, all_joined, all_met, packets-append, frame_soft, IsAsLikely, IsCorrected, link_rules, AllAsLikely, TrueReports, Receiver, rules_for, seen, IsSent, is_certified, Delivered, frame_from, decision_from, frame_decision, is_delivered, stands, IsFrameAt, IsCutAt, report_at, IsReadable, Arriving, closed_packets, wrong_bits, Headline, CallsLaw, KeepsHeadline, FramePromises, IsHeadline, RunsHeadline, RunAnswers, RunAnswersWith, Taking, ReceivesTo, Received, Totals, StreamFault, max_symbols}
+use Rattle.s2_modem.proofs.Names.{searched_again, ◌≡◌, ℕ, zero, suc, ◌+◌, ◌<◌, ◌≤◌, ◌⊎◌, IsTrue, Bool, true, false, cond, List, [], ◌∷◌, ◌++◌, All, Option, Some, None, length, map, range_with_len, count_by, sum_by-cons, inl, inr, refl, sym, ap, ◌∙◌, subst, append_assoc, append-nil, Result, Ok, Err, ⊤, nat_lt, lt-leb, flat_map, All-nil, All-cons, All-weaker, arith, Mode, IsMode, HasCodeSizes, symbols_of, Streams, Symbol, code_of, header_at, field_bytes, IsDivisor, Found, Tuning, Link, IsLinkOf, Gap, Report, frame_line, cut_line, end_line, Met, frame, cut, ended, no_gap, extended, begins, by_found, met_from, Rules, State, Standing, at_start, at_end, with_gap, report_of, after, after_all, all_packets, all_lines, begun, RunsOut, Piece, joined, stream_symbols, SpellSymbols, IsReceived, frames_at, gives, all_joined, all_met, packets-append, frame_soft, IsAsLikely, IsCorrected, link_rules, AllAsLikely, TrueReports, Receiver, rules_for, seen, IsSent, is_certified, Delivered, frame_from, decision_from, frame_decision, is_delivered, stands, IsFrameAt, IsCutAt, report_at, IsReadable, Arriving, closed_packets, wrong_bits, Headline, CallsLaw, KeepsHeadline, FramePromises, IsHeadline, RunsHeadline, RunAnswers, RunAnswersWith, Taking, ReceivesTo, Received, Totals, StreamFault, max_symbols}
 use Rattle.s2_modem.proofs.Names.founds
 use Rattle.s2_receive.specs.Calls.{call_lines, call_packets, in_memory, last_state}
 use Rattle.s2_receive.proofs.CallLemmas.{calls_are}
@@ -87,7 +87,7 @@ module _ (link : Link) (tuning : Tuning) (stream : List Symbol) (limit : ℕ) wh
 
 -- fewer symbols than a frame has give no packet
 none_given : (rules : Rules) (at inside : ℕ) (behind : Bool) (skipped : Gap) (symbols : List Symbol) (s : Standing) → length symbols < rules.size
-    → all_packets rules s (met_from rules.finds rules.size at inside behind skipped symbols) ≡ []
+    → all_packets rules s (met_from rules.finds (searched_again rules) rules.size at inside behind skipped symbols) ≡ []
 none_given rules at inside behind skipped [] s few = refl
 none_given rules at (suc inside) behind skipped (x ∷ symbols) s few = none_given rules (at + 1) inside true skipped symbols s (omega arith)
 none_given rules at zero behind skipped (x ∷ symbols) s few =
@@ -115,7 +115,7 @@ module _ (m : Mode) (valid : IsMode m) (sizes : HasCodeSizes m) (link : Link) (t
         ((whole.0, whole.1, (both_codes_law m valid sizes link tuning symbols at field codeword sent few).delivered), tt)
 
     abbrev met_on : List Symbol → List Met
-    met_on symbols = met_from by.finds by.size 0 0 false no_gap symbols
+    met_on symbols = met_from by.finds (searched_again by) by.size 0 0 false no_gap symbols
 
     -- their packets are written first, and no other ones where no whole frame follows
     heard : (symbols : List Symbol) (packets fields later : List (List ℕ)) (pieces : List Piece) (rest : List Symbol) → Arriving link tuning symbols packets fields later pieces rest
@@ -130,7 +130,7 @@ module _ (m : Mode) (valid : IsMode m) (sizes : HasCodeSizes m) (link : Link) (t
         let just = frames_at by.size 0 pieces in
         let n = length (stream_symbols pieces) in
         let s = after_all by at_start just in
-        let more = met_from by.finds by.size n 0 (nat_lt 0 n) no_gap rest in
+        let more = met_from by.finds (searched_again by) by.size n 0 (nat_lt 0 n) no_gap rest in
         let is = ap (all_packets by at_start) (ap met_on a.spelt ∙ g.met) ∙ packets-append by just more at_start ∙ ap (λ l. l ++ all_packets by s more) g.written in
         ((all_packets by s more, is, none_given by n 0 (nat_lt 0 n) no_gap rest s), λ none. ap joined (g.all none))
 

@@ -4,7 +4,7 @@ pub use Rattle.std.specs.List.{range_with_len}
 pub use Rattle.std.specs.Prelude.{⊤, ◌⊎◌, ◌&&◌, count_by}
 pub use Rattle.std.proofs.Common.{All, Bool, Err, IfNone, IfOk, IfSome, IsErrOf, IsTrue, List, None, Ok, Option, Result, SFits, Some, [], ap, append-nil, append_assoc, ap₂, arith, cond, drop, drop-drop, drop_at, eq-eqb, ext_get_or, false, flat_map, get_or, get_or-drop, get_or-take, if◌then◌else◌, inl, inr, int_lt, le-leb, leb-true, length, length-append, length-drop, length-take, length-take-le, lt-ltb, map, map-id, nat_eq, nat_le, nat_lt, neg_ℤ, negsuc, pos, refl, replicate, rules, subst, suc, sym, take, take-append-drop, take_all, take_at, true, w16, zero, ℕ, ℤ, ◌%◌, ◌*◌, ◌++◌, ◌+◌, ◌-◌, ◌/◌, ◌<◌, ◌==◌, ◌↔◌, ◌∙◌, ◌∷◌, ◌≡◌, ◌≢◌, ◌≤◌}
 pub use Rattle.std.proofs.Math.Bool.{and-true}
-pub use Rattle.std.proofs.lemmas.Bool.{and_parts, and_right, cases_lt, cond-true, cond_both, lt-leb, or_right}
+pub use Rattle.std.proofs.lemmas.Bool.{and_parts, and_right, cases_lt, cond-false, cond-true, cond_both, lt-leb, or_right}
 pub use Rattle.std.proofs.lemmas.Int.{int_min_is, ints}
 pub use Rattle.std.proofs.lemmas.List.{drop_all, length-map, take-replicate, take-take}
 pub use Rattle.std.proofs.lemmas.List.Elements.{All-append, All-cons, All-drop, All-from_recursion, All-head, All-map, All-nil, All-push, All-tail, All-take, All-weaker}
@@ -93,9 +93,9 @@ pub use Rattle.s2_receive.specs.Figures.{refused_in, saturated, sums_after}
 pub use Rattle.s2_receive.specs.declared.figures.Figures.{Figures}
 pub use Rattle.s2_receive.specs.declared.figures.Tally.{Tally}
 pub use Rattle.s2_receive.specs.Laws.{AreReceived, IsDummy, IsReceived, Piece, SkippedNone, SpellSymbols, coded, dummy, frames_at, joined, stream_symbols}
-pub use Rattle.s2_receive.specs.Meeting.{Met, begins, by_found, cut, ended, extended, frame, met_from, no_gap}
+pub use Rattle.s2_receive.specs.Meeting.{Met, begins, by_found, cut, ended, extended, frame, met_from, no_gap, rest_of}
 pub use Rattle.s2_receive.specs.Decider.{IsSaidBy, delivered_of}
-pub use Rattle.s2_receive.specs.Receiving.{Decision, Meets, Rules, RunsOut, Standing, State, after, after_all, all_lines, all_packets, are_all_certified, at_end, at_start, begun, count_of, left_in, left_known, report_of, step_of, with_gap}
+pub use Rattle.s2_receive.specs.Receiving.{Decision, Meets, Rules, RunsOut, searched_again, Standing, State, after, after_all, all_lines, all_packets, are_all_certified, at_end, at_start, begun, count_of, left_in, left_known, report_of, step_of, with_gap}
 pub use Rattle.s2_receive.specs.ReportLines.{cut_line, end_line, frame_line}
 pub use Rattle.s2_receive.specs.Sinks.{RunAnswersWith, Taking}
 unfoldable pub use Rattle.s2_receive.specs.Windows.{found_as}
@@ -108,7 +108,7 @@ pub use Rattle.s2_receive.specs.declared.report.Totals.{Totals}
 pub use Rattle.s2_receive.specs.declared.gap.Gap.{Gap}
 pub use Rattle.s2_receive.proofs.FieldPlaces.{placed_fields, placed_front}
 pub use Rattle.s2_receive.proofs.JoinLemmas.{all_joined}
-pub use Rattle.s2_receive.proofs.MetLemmas.{cut_frame, met-dummy, met-extended, whole_frame}
+pub use Rattle.s2_receive.proofs.MetLemmas.{behind_or, cut_frame, front_frame, met-dummy, met-extended, met-inside}
 pub use Rattle.s2_receive.proofs.Reception.{front, gives}
 pub use Rattle.s2_receive.proofs.RunLemmas.{after-append, lines-append, packets-append}
 pub use Rattle.s2_receive.proofs.SameSymbols.{all_met, same_met}
@@ -122,8 +122,8 @@ pub use Rattle.s2_modem.specs.Both.{AreBytes, FramePlace, IsByte, IsDelivered, I
 pub use Rattle.s2_modem.specs.Front.{IsCleanFrame, clean_energy, clean_figures, clean_figures_by}
 pub use Rattle.s2_modem.specs.Headline.{ArrivalLaw, BothCodesLaw, CorrectsWithin, IsSent, ReceivesAllLaw, ReceivesScattered, ScatteredFrameLaw, sent_places}
 pub use Rattle.s2_modem.specs.DeciderState.{Derotating, FindsWord, DeciderState, Reads, decides, decision_held, figures_found, meter_by, upright}
-pub use Rattle.s2_modem.specs.Promise.{Arriving, CallsLaw, Headline, IsCutAt, IsHeadline, IsNext, IsReadable, FramePromises, IsFrameAt, KeepsHeadline, Place, report_at, RunsHeadline, closed_packets, decision_from, found_at, frame_from, is_delivered, past, stands, wrong_bits}
-pub use Rattle.s2_modem.specs.Reception.{AllAsLikely, TrueReports, IsAsLikely, IsCertifiedBy, IsCorrected, Receiver, link_rules, rules_for, seen, sought_by}
+pub use Rattle.s2_modem.specs.Promise.{Arriving, CallsLaw, Headline, IsCutAt, IsHeadline, IsNext, IsReadable, FramePromises, IsFrameAt, KeepsHeadline, Place, report_at, RunsHeadline, closed_packets, decision_from, found_at, frame_from, is_delivered, passed_at, past, stands, wrong_bits}
+pub use Rattle.s2_modem.specs.Reception.{AllAsLikely, TrueReports, IsAsLikely, IsCertifiedBy, IsCorrected, Receiver, is_searched_again, link_rules, rules_for, seen, sought_by}
 pub use Rattle.s2_modem.specs.Reports.{IsUndecided, decided_symbols, decision_by, decision_on, delivered_by, field_in, figures_by, frame_soft, frame_turn, header_in, measured, message_of, outcome_by, received_word, upright_symbols}
 unfoldable pub use Rattle.s2_modem.specs.Reports.{frame_decision}
 pub use Rattle.s2_modem.specs.Steps.{DeliversAll}

@@ -2,7 +2,7 @@
 -- the report that it writes. It is the clause `headline` of `demodulate`, and of `Receiver::run` for a new receiver and
 -- a reader whose bytes are known, if the call returns no fault. `laws::headline` says it of a caller that takes all
 -- steps one by one, and `laws::calls` of a caller of `Receiver::advance`.
-use Rattle.std.specs.Prelude.{◌≡◌, ℕ, zero, suc, ◌+◌, ◌-◌, ◌<◌, ◌≤◌, ◌⊎◌, IsTrue, Bool, true, false, List, [], ◌∷◌, ◌++◌, All, length, map, take, drop, count_by, None, IfSome, Result, OnOk}
+use Rattle.std.specs.Prelude.{◌≡◌, ℕ, zero, suc, ◌+◌, ◌-◌, ◌<◌, ◌≤◌, ◌⊎◌, IsTrue, Bool, true, false, nat_le, if◌then◌else◌, List, [], ◌∷◌, ◌++◌, All, length, map, take, drop, count_by, None, IfSome, Result, OnOk}
 use Rattle.std.specs.List.{flat_map, range_with_len}
 use Rattle.std.specs.Io.KnownBytes.{Appends}
 use Rattle.s2_mode.specs.Limits.{dummy_symbols}
@@ -27,14 +27,14 @@ use Rattle.s2_receive.specs.Windows.{found_as}
 use Rattle.s2_receive.specs.ReportLines.{frame_line, cut_line, end_line}
 use Rattle.s2_receive.specs.Calls.{Call, CallsToEnd, call_lines, call_packets, in_memory}
 use Rattle.s2_receive.specs.Receiving.{State, Decision, RunsOut, begun}
-use Rattle.s2_receive.specs.Meeting.{no_gap, begins, met_from}
+use Rattle.s2_receive.specs.Meeting.{no_gap, begins, met_from, rest_of}
 use Rattle.s2_receive.specs.Laws.{Piece, joined, stream_symbols, events_of}
 use Rattle.s2_receive.specs.declared.report.Outcome.{Outcome}
 use Rattle.s2_receive.specs.declared.report.Outcome.TheVariants.{Delivered}
 use Rattle.s2_receive.specs.declared.report.Report.{Report}
 use Rattle.s2_receive.specs.declared.report.Totals.{Totals}
 use Rattle.s2_modem.specs.Reports.{frame_soft, frame_decision, received_word}
-use Rattle.s2_modem.specs.Reception.{Receiver, ReceivesTotals, IsAsLikely, AllAsLikely, IsCorrected, TrueReports, link_rules, rules_for, seen, sought_by}
+use Rattle.s2_modem.specs.Reception.{Receiver, ReceivesTotals, IsAsLikely, AllAsLikely, IsCorrected, TrueReports, is_searched_again, link_rules, rules_for, seen, sought_by}
 use Rattle.s2_modem.specs.Both.{AreBytes}
 use Rattle.s2_modem.specs.Streams.{IsWholeFrame, IsClear, AreEach}
 use Rattle.s2_modem.specs.Headline.{IsSent}
@@ -61,17 +61,26 @@ pub record Place : Type 0 where
 abbrev pub found_at : Link → Tuning → List Symbol → Place → Found
 found_at link tuning symbols place = begins (found_as (sought_by link tuning) tuning.max_header_errors place.behind) (drop place.at symbols)
 
--- the place at which the search continues: after the coded frame, after the dummy frame, or at the next symbol
-abbrev pub past : Mode → Place → Found → Place
-past m place founds.Coded = record { at = place.at + symbols_in m; frames = place.frames + 1; behind = true }
-past m place founds.Dummy = record { at = place.at + dummy_symbols; frames = place.frames; behind = true }
-past m place founds.Nothing = record { at = place.at + 1; frames = place.frames; behind = false }
+-- The number of symbols from a coded frame's first one to the place at which the search continues: those of the frame. If a frame
+-- that has all its symbols is lost, and lost ones are searched again, only those before the place in it at which the search
+-- resumes
+abbrev pub passed_at : Link → Tuning → List Symbol → ℕ → ℕ
+passed_at link tuning symbols at =
+    if nat_le (symbols_in link.setup.mode) (length (drop at symbols))
+    then 1 + rest_of (found_as (sought_by link tuning) tuning.max_header_errors) (is_searched_again link tuning) (symbols_in link.setup.mode) (drop at symbols)
+    else symbols_in link.setup.mode
+
+-- the place at which the search continues: after the coded frame or inside it, after the dummy frame, or at the next symbol
+abbrev pub past : Link → Tuning → List Symbol → Place → Found → Place
+past link tuning symbols place founds.Coded = record { at = place.at + passed_at link tuning symbols place.at; frames = place.frames + 1; behind = true }
+past link tuning symbols place founds.Dummy = record { at = place.at + dummy_symbols; frames = place.frames; behind = true }
+past link tuning symbols place founds.Nothing = record { at = place.at + 1; frames = place.frames; behind = false }
 
 -- The place of the search after n moves. It begins at the stream's first symbol. It continues after each frame that it
--- finds, and at the next symbol if it finds none
+-- finds, or inside a lost one, and at the next symbol if it finds none
 abbrev pub stands : Link → Tuning → List Symbol → (moves : ℕ) → Place
 stands link tuning symbols zero = record { at = 0; frames = 0; behind = false }
-stands link tuning symbols (suc moves) = past link.setup.mode (stands link tuning symbols moves) (found_at link tuning symbols (stands link tuning symbols moves))
+stands link tuning symbols (suc moves) = past link tuning symbols (stands link tuning symbols moves) (found_at link tuning symbols (stands link tuning symbols moves))
 
 -- the header of a coded frame passes there, and all symbols of the frame are there
 abbrev pub IsFrameAt : Link → Tuning → List Symbol → Place → Type 0
@@ -135,7 +144,7 @@ is_delivered outcome = false
 -- delivered. Skipped symbols and a cut frame give a gap too
 abbrev pub joined_on : Link → Tuning → List Symbol → Joined
 joined_on link tuning symbols =
-    joining None (events_of (frame_decision link tuning) (met_from (found_as (sought_by link tuning) tuning.max_header_errors) (symbols_in link.setup.mode) 0 0 false no_gap symbols))
+    joining None (events_of (frame_decision link tuning) (met_from (found_as (sought_by link tuning) tuning.max_header_errors) (is_searched_again link tuning) (symbols_in link.setup.mode) 0 0 false no_gap symbols))
 
 -- The report has a line for each of these frames, numbered from 1. Then comes the line of a cut frame, exactly if the
 -- search comes to one, with its symbol and the number of symbols left. Then comes the last line, with the numbers of

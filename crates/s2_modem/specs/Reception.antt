@@ -1,5 +1,5 @@
 -- The input, the report and the output of a receiver of a link, and the setups that it refuses (EN 302 307-1, 5.1 to 5.5).
-use Rattle.std.specs.Prelude.{◌≡◌, IsTrue, ℕ, ℤ, Bool, if◌then◌else◌, List, Option, Some, None, Result, Ok, Err}
+use Rattle.std.specs.Prelude.{◌≡◌, ◌&&◌, IsTrue, ℕ, ℤ, Bool, if◌then◌else◌, List, Option, Some, None, Result, Ok, Err}
 use Rattle.s2_mode.specs.Mode.{Mode, k_of, symbols_in}
 use Rattle.s2_mode.specs.Streams.{Streams}
 use Rattle.s2_mode.specs.declared.symbols.Symbol.{Symbol}
@@ -12,7 +12,7 @@ use Rattle.s2_check.specs.Views.{View}
 use Rattle.s2_check.specs.declared.verdict.Verdict.{Verdict}
 use Rattle.s2_check.specs.declared.verdict.Verdict.TheVariants.{Sole}
 use Rattle.s2_receive.specs.Decider.{IsSaidBy}
-use Rattle.s2_receive.specs.Receiving.{Rules, State, Decision, begun, is_at_frame}
+use Rattle.s2_receive.specs.Receiving.{Rules, State, Decision, begun, is_at_frame, is_lost}
 use Rattle.s2_receive.specs.Answers.{Seen, RunAnswers, ReceivesTo, BreaksIn}
 use Rattle.s2_receive.specs.Sinks.{Taking, RunAnswersWith}
 use Rattle.s2_mode.specs.declared.stream_fault.StreamFault.{StreamFault}
@@ -42,9 +42,14 @@ use Rattle.s2_modem.specs.Reports.{frame_soft, frame_decision, received_word, me
 abbrev pub sought_by : Link → Tuning → Sought
 sought_by link tuning = sought_of link.setup.mode tuning.turns
 
--- a link's rules: its header, its frame size, the decision on its frames, and the limit of symbols
+-- a link's rules: its header, its frame size, whether lost frames are searched again, the decision on its frames, and the limit
+-- of symbols
 abbrev pub link_rules : Link → Tuning → ℕ → Rules
-link_rules link tuning limit = record { finds = found_as (sought_by link tuning) tuning.max_header_errors; size = symbols_in link.setup.mode; decide = frame_decision link tuning; limit = limit }
+link_rules link tuning limit = record { finds = found_as (sought_by link tuning) tuning.max_header_errors; size = symbols_in link.setup.mode; resync = tuning.resync; decide = frame_decision link tuning; limit = limit }
+
+-- the frames that are searched again: lost ones, if the tuning says so
+abbrev pub is_searched_again : Link → Tuning → List Symbol → Bool
+is_searched_again link tuning symbols = tuning.resync && is_lost (frame_decision link tuning symbols)
 
 -- a receiver: its link, its tuning, its limit of symbols, its state, and its last decision
 pub record Receiver : Type 0 where

@@ -3,6 +3,7 @@ pub mod SymbolLists
 pub mod Rooms
 pub mod Headers
 pub mod MetLemmas
+pub mod LostFrames
 pub mod FindSteps
 pub mod StepLemmas
 pub mod ReadLemmas

@@ -1,5 +1,5 @@
 -- What is read up to a step.
-use Rattle.s2_receive.proofs.Names.{◌≡◌, ◌≢◌, ℕ, ◌+◌, ◌-◌, ◌*◌, ◌/◌, ◌<◌, arith, inl, inr, ◌⊎◌, min, min-le_right, le-min, ◌≤◌, nat_eq, eqb-true, eq-eqb, ne_eqb, cases_eq, true, List, [], ◌∷◌, ◌++◌, length, length-append, Option, Some, None, Ok, Err, refl, sym, ap, ◌∙◌, subst, Consumes, Consumes-trans, IsAtEnd, Symbol, symbols_of, Met, ended, no_gap, Bool, false, Window, Follows, Rules, State, Decision, Phase, YieldsMet, EndsAt, Steps, Waits, Handles, IsDecided, left_by, left_known, met_left, left_in, met_within, phase_after, taken, asked, asked_by, after, packets_of, step_of, Meets, Reaches, EndsBehind, StopsShort, Step, Receiver, Reads, Finds, FindsNone, Seen, KeepsLast, IsLive, is_at_frame, rules_of, seen_by, wanted}
+use Rattle.s2_receive.proofs.Names.{◌≡◌, ◌≢◌, ℕ, ◌+◌, ◌-◌, ◌*◌, ◌/◌, ◌<◌, arith, inl, inr, ◌⊎◌, min, min-le_right, le-min, ◌≤◌, nat_eq, eqb-true, eq-eqb, ne_eqb, cases_eq, true, List, [], ◌∷◌, ◌++◌, length, length-append, Option, Some, None, Ok, Err, refl, sym, ap, ◌∙◌, subst, Consumes, Consumes-trans, IsAtEnd, Symbol, symbols_of, Met, ended, no_gap, Bool, false, Window, Follows, Rules, searched_again, room_in, room_for, State, Decision, Phase, YieldsMet, EndsAt, Steps, Waits, Handles, IsDecided, left_by, left_known, met_left, left_in, met_within, phase_after, taken, asked, asked_by, after, packets_of, step_of, Meets, Reaches, EndsBehind, StopsShort, Step, Receiver, Reads, Finds, FindsNone, Seen, KeepsLast, IsLive, is_at_frame, rules_of, seen_by, wanted}
 use Rattle.s2_mode.specs.Mode.{symbols_in}
 use Rattle.s2_mode.specs.declared.counts.ReadFault.{ReadFault}
 use Rattle.s2_receive.proofs.Names.phases
@@ -46,7 +46,7 @@ module _ (rules : Rules) (old new : State) (bytes : List ℕ) where
       known (Some xs) (Some ys) read end =
           let (n, is) = asked_four rules old.phase old.window in
           subst (λ l. Meets (left_known rules phases.Searching old.window (Some xs)) l met) (sym (left_of rules new.phase new.window ys))
-          (ap (met_within rules.finds rules.size old.window) (yields (Some xs) (Some ys) bytes n read (λ other. end (λ e. other (e ∙ is))))
+          (ap (met_within rules.finds (searched_again rules) rules.size old.window) (yields (Some xs) (Some ys) bytes n read (λ other. end (λ e. other (e ∙ is))))
           ∙ sym (ap (λ p. left_by rules p old.window (symbols_of bytes ++ symbols_of ys)) searching) ∙ spell (symbols_of ys) (may ys end (cases_eq (length bytes) (asked rules old))))
 
   -- after a cut frame the end is known
@@ -106,7 +106,7 @@ module _ (rules : Rules) (old cur new : State) (a b c : Option (List ℕ)) (so :
   pub stepped : (bytes : List ℕ) (last : Decision) (packets : List ℕ) (step : Step) → Steps rules cur new (symbols_of bytes) (nat_eq (length bytes) (asked rules cur)) last packets step → Consumes b c bytes
       → (length bytes ≢ asked rules cur → IsAtEnd c) → IsLive cur.phase
       → (met : Met) × Handles rules old new met packets step × IsDecided rules met last × Meets (left_in rules old a) (left_in rules new c) (met ∷ []) × Reaches (taken new) (taken old) a c
-      × EndsAt rules.size met (taken new)
+      × EndsAt rules.size (room_in rules) met (taken new)
   stepped bytes last packets step steps read end live =
       let told = steps.handles in
       let met = steps.met in (
@@ -132,24 +132,24 @@ module _ (rules : Rules) (old cur new : State) (a b c : Option (List ℕ)) (so :
 -- ---- none any more
 
 -- the next frame ends no sooner than it is known to where the same is met
-before_ends : (size place : ℕ) (old new : Option (List Met)) → Meets old new [] → EndsBehind size place new → EndsBehind size place old
-before_ends size place None new same h = tt
-before_ends size place (Some old) None same h = absurd same
-before_ends size place (Some old) (Some new) same h = subst (λ l. EndsBehind size place (Some l)) (sym same) h
+before_ends : (room place : ℕ) (old new : Option (List Met)) → Meets old new [] → EndsBehind room place new → EndsBehind room place old
+before_ends room place None new same h = tt
+before_ends room place (Some old) None same h = absurd same
+before_ends room place (Some old) (Some new) same h = subst (λ l. EndsBehind room place (Some l)) (sym same) h
 
-ends_behind : (rules : Rules) (s : State) (limit : ℕ) (r : Option (List ℕ)) → s.phase ≡ phases.Searching → limit < s.window.at + rules.size → EndsBehind rules.size limit (left_in rules s r)
-ends_behind rules s limit r searching h = subst (λ p. EndsBehind rules.size limit (left_known rules p s.window r)) (sym searching) (known r)
+ends_behind : (rules : Rules) (s : State) (limit : ℕ) (r : Option (List ℕ)) → s.phase ≡ phases.Searching → limit < s.window.at + room_in rules → EndsBehind (room_in rules) limit (left_in rules s r)
+ends_behind rules s limit r searching h = subst (λ p. EndsBehind (room_in rules) limit (left_known rules p s.window r)) (sym searching) (known r)
   where
-    known : (r : Option (List ℕ)) → EndsBehind rules.size limit (left_known rules phases.Searching s.window r)
+    known : (r : Option (List ℕ)) → EndsBehind (room_in rules) limit (left_known rules phases.Searching s.window r)
     known None = tt
-    known (Some bytes) = held_ends rules.finds rules.size limit s.window (symbols_of bytes) h
+    known (Some bytes) = held_ends rules.finds (searched_again rules) rules.size (room_in rules) limit s.window (symbols_of bytes) h
 
-module _ (rules : Rules) (old cur : State) (a b : Option (List ℕ)) (so : Waited rules old cur a b) (few : length cur.window.symbols < rules.size) (searching : cur.phase ≡ phases.Searching) where
+module _ (rules : Rules) (old cur : State) (a b : Option (List ℕ)) (so : Waited rules old cur a b) (few : length cur.window.symbols < room_in rules) (searching : cur.phase ≡ phases.Searching) where
   -- as many symbols were taken as may be
   pub stops_full : (n : ℕ) → taken cur ≡ rules.limit → StopsShort rules old a b n n
   stops_full n full =
       let far : taken old + length so.reaches.0 ≡ taken cur = so.reaches.2 in
-      let behind = λ (place : ℕ). before_ends rules.size place (left_in rules old a) (left_in rules cur b) so.met in
+      let behind = λ (place : ℕ). before_ends (room_in rules) place (left_in rules old a) (left_in rules cur b) so.met in
       record {
         bytes = so.bytes;
         read = so.read;
@@ -171,8 +171,8 @@ module _ (rules : Rules) (old cur : State) (a b : Option (List ℕ)) (so : Waite
       record {
         bytes = so.bytes ++ bytes;
         read = Consumes-trans a b c so.bytes bytes so.read read;
-        short = before_ends rules.size place (left_in rules old a) (left_in rules cur b) so.met (ends_behind rules cur place b searching
-            (omega (arith, length-append so.bytes bytes, so.count, far, room, min-le_right (rules.limit - taken cur) (rules.size - length cur.window.symbols))));
+        short = before_ends (room_in rules) place (left_in rules old a) (left_in rules cur b) so.met (ends_behind rules cur place b searching
+            (omega (arith, length-append so.bytes bytes, so.count, far, room, min-le_right (rules.limit - taken cur) (room_in rules - length cur.window.symbols))));
         cause = λ other. absurd (other failed);
       }
 
@@ -209,9 +209,9 @@ module _ {D : Type 0} (decide : D → List Symbol → Decision) (last : D → De
       let (met, handles, decided, meets, reaches, ends) = stepped rules first.state cur.state new.state a b c so bytes (last new.decider) new.packets step steps read ended live in
       (met, handles, decided, subst (λ l. KeepsLast (Some step) l (last new.decider)) kept advances.kept, meets, reaches, ends, count, subst (λ (x : Rules). taken new.state ≤ x.limit) same advances.bounded)
 
-  module _ (few : length cur.state.window.symbols < symbols_in cur.sought.mode) (within : taken cur.state ≤ cur.limit) (n n' : ℕ) where
-    small : length cur.state.window.symbols < rules.size
-    small = subst (λ (x : Rules). length cur.state.window.symbols < x.size) same few
+  module _ (few : length cur.state.window.symbols < room_for cur.resync (symbols_in cur.sought.mode)) (within : taken cur.state ≤ cur.limit) (n n' : ℕ) where
+    small : length cur.state.window.symbols < room_in rules
+    small = subst (λ (x : Rules). length cur.state.window.symbols < room_in x) same few
 
     pub fails_now : (fault : ReadFault) → Reads (seen_by decide last cur) (seen_by decide last new) b c (Err fault) → n' ≡ n + 1 → FindsNone (seen_by decide last first) (seen_by decide last new) a c n n'
     fails_now fault (is, (bytes, read, less)) failed =
@@ -225,13 +225,13 @@ module _ {D : Type 0} (decide : D → List Symbol → Decision) (last : D → De
         )
 
   -- no symbols may be taken any more
-  pub full_now : (n n' : ℕ) → length cur.state.window.symbols < symbols_in cur.sought.mode → taken cur.state ≤ cur.limit → cur.state.phase ≡ phases.Searching → asked (rules_of decide cur) cur.state ≡ 0 → n' ≡ n
+  pub full_now : (n n' : ℕ) → length cur.state.window.symbols < room_for cur.resync (symbols_in cur.sought.mode) → taken cur.state ≤ cur.limit → cur.state.phase ≡ phases.Searching → asked (rules_of decide cur) cur.state ≡ 0 → n' ≡ n
       → FindsNone (seen_by decide last first) (seen_by decide last cur) a b n n'
   full_now n n' few within searching none count =
-      let size = symbols_in cur.sought.mode in
+      let size = room_for cur.resync (symbols_in cur.sought.mode) in
       let zero : 4 * wanted cur.limit size cur.state.window ≡ 0 = sym (ap (λ p. asked_by (rules_of decide cur) p cur.state.window) searching) ∙ none in
       let full : taken cur.state ≡ cur.limit = full_by (cur.limit - taken cur.state) (size - length cur.state.window.symbols) (taken cur.state) cur.limit zero refl within (omega (arith, few)) in
-      let short = subst (λ (x : Rules). length cur.state.window.symbols < x.size) same few in
+      let short = subst (λ (x : Rules). length cur.state.window.symbols < room_in x) same few in
       let all = full ∙ ap (λ (x : Rules). x.limit) same in (
         sym so.phase ∙ searching,
         so.standing,

@@ -1,12 +1,12 @@
 -- What known bytes spell determines what is met.
-use Rattle.s2_receive.proofs.Names.{◌≡◌, ℕ, false, List, [], ◌∷◌, ◌++◌, Option, Some, None, refl, sym, ap, ◌∙◌, subst, append-nil, Streams, Symbol, Met, no_gap, met_from, begun, Window, met_within, Meets, Rules, State, Processed, left_by, left_in, left_known, met_left, after, step_of, phase_after, HasGiven, SameRunLaw, SameStepLaw, SpellSymbols, Phase}
+use Rattle.s2_receive.proofs.Names.{◌≡◌, ℕ, false, List, [], ◌∷◌, ◌++◌, Option, Some, None, refl, sym, ap, ◌∙◌, subst, append-nil, Streams, Symbol, Met, no_gap, met_from, begun, Window, met_within, Meets, Rules, searched_again, State, Processed, left_by, left_in, left_known, met_left, after, step_of, phase_after, HasGiven, SameRunLaw, SameStepLaw, SpellSymbols, Phase}
 use Rattle.s2_receive.proofs.Names.phases
 
 module _ (rules : Rules) where
   -- in known bytes it is known what is left
   pub spelled : (phase : Phase) (window : Window) (symbols : List Symbol) (known : Option (List ℕ)) → SpellSymbols known symbols → left_known rules phase window known ≡ Some (left_by rules phase window symbols)
   spelled phase window symbols None spelt = absurd spelt
-  spelled phases.Searching window symbols (Some bytes) spelt = ap (λ l. Some (met_within rules.finds rules.size window l)) spelt
+  spelled phases.Searching window symbols (Some bytes) spelt = ap (λ l. Some (met_within rules.finds (searched_again rules) rules.size window l)) spelt
   spelled phases.Closing window symbols (Some bytes) spelt = refl
   spelled phases.Ended window symbols (Some bytes) spelt = refl
   spelled phases.Failed window symbols (Some bytes) spelt = refl
@@ -62,8 +62,8 @@ same_step rules old first second symbols before behind other_before other_behind
 
 -- a new receiver that came to the end met all that is in known symbols
 pub all_met : (rules : Rules) (symbols : List Symbol) (new : State) (taken left : Option (List ℕ)) (met : List Met) → SpellSymbols taken symbols → new.phase ≡ phases.Ended
-    → Meets (left_in rules begun taken) (left_in rules new left) met → met_from rules.finds rules.size 0 0 false no_gap symbols ≡ met
+    → Meets (left_in rules begun taken) (left_in rules new left) met → met_from rules.finds (searched_again rules) rules.size 0 0 false no_gap symbols ≡ met
 all_met rules symbols new None left met spelt phase h = absurd spelt
 all_met rules symbols new (Some bytes) left met spelt phase h =
     let whole = subst (λ x. Meets (left_in rules begun (Some bytes)) (left_known rules x new.window left) met) phase h in
-    ap (met_from rules.finds rules.size 0 0 false no_gap) (sym spelt) ∙ whole ∙ append-nil met
+    ap (met_from rules.finds (searched_again rules) rules.size 0 0 false no_gap) (sym spelt) ∙ whole ∙ append-nil met

@@ -1,11 +1,11 @@
 -- The invariant between a receiver's steps (own).
-use Rattle.std.specs.Prelude.{◌≡◌, ℕ, ◌+◌, ◌*◌, ◌<◌, ◌≤◌, ◌⊎◌, List, [], length, Option}
+use Rattle.std.specs.Prelude.{◌≡◌, ℕ, Bool, ◌+◌, ◌*◌, ◌<◌, ◌≤◌, ◌⊎◌, List, [], length, Option}
 use Rattle.std.specs.Io.KnownBytes.{Appends}
 use Rattle.s2_mode.specs.Mode.{Mode, symbols_in}
 use Rattle.s2_mode.specs.Pieces.{AppendsPart}
 use Rattle.s2_mode.specs.Limits.{header_symbols}
 use Rattle.s2_receive.specs.Limits.{max_symbols}
-use Rattle.s2_receive.specs.Synchronization.{Window, reached}
+use Rattle.s2_receive.specs.Synchronization.{Window, reached, room_for}
 use Rattle.s2_receive.specs.declared.window.Next.{Next}
 use Rattle.s2_receive.specs.declared.window.Next.TheVariants as next
 use Rattle.s2_receive.specs.declared.report.Totals.{Totals}
@@ -14,26 +14,30 @@ use Rattle.s2_receive.specs.declared.report.Totals.{Totals}
 pub record Fits (limit : ℕ) (window : Window) (t : Totals) : Type 0 where
   pub most : limit ≤ max_symbols
   pub place : reached window ≤ limit
-  -- a frame has at least the symbols of a header, and completes no more packets than that
-  pub frames : header_symbols * t.frames ≤ window.at
-  pub delivered : t.delivered ≤ t.frames
-  pub packets : t.packets + t.bad ≤ header_symbols * t.frames
+  pub frames : t.frames ≤ window.at
+  -- a delivered frame has at least the symbols of a header, and completes no more packets than that; none of its symbols is in
+  -- a later frame
+  pub delivered : header_symbols * t.delivered ≤ window.at
+  pub packets : t.packets + t.bad ≤ header_symbols * t.delivered
   pub incomplete : t.incomplete ≤ window.at
   pub skipped : t.skipped + window.skipped.symbols ≤ window.at
   pub places : t.places ≤ t.skipped
 
--- the totals have room to count this thing, which comes before the symbols held
-abbrev pub CanCountIn : Window → Totals → Next → Type 0
-CanCountIn w t (next.Frame at skipped) = (header_symbols * t.frames + header_symbols ≤ w.at) × (t.incomplete + header_symbols ≤ w.at) × (t.skipped + skipped.symbols + w.skipped.symbols ≤ w.at)
-CanCountIn w t (next.Cut at skipped count) = (t.incomplete + header_symbols ≤ w.at) × (t.skipped + skipped.symbols + w.skipped.symbols ≤ w.at)
-CanCountIn w t (next.End at skipped) = t.skipped + skipped.symbols + w.skipped.symbols ≤ w.at
+-- the totals have room to count this thing, which comes before the symbols held; a frame with this number of delivered
+-- messages, 1 or 0
+abbrev pub CanCountIn : Window → Totals → (delivered : ℕ) → Next → Type 0
+CanCountIn w t delivered (next.Frame at skipped) =
+    (t.frames + 1 ≤ w.at) × (header_symbols * (t.delivered + delivered) ≤ w.at) × (t.incomplete + 1 + delivered ≤ w.at) × (t.skipped + skipped.symbols + w.skipped.symbols ≤ w.at)
+CanCountIn w t delivered (next.Cut at skipped count) = (t.incomplete + header_symbols ≤ w.at) × (t.skipped + skipped.symbols + w.skipped.symbols ≤ w.at)
+CanCountIn w t delivered (next.End at skipped) = t.skipped + skipped.symbols + w.skipped.symbols ≤ w.at
 
 -- a part of the packets was written and no line; or the packets and a part of the line
 abbrev pub FailsIn : List ℕ → List ℕ → Option (List ℕ) → Option (List ℕ) → Option (List ℕ) → Option (List ℕ) → Type 0
 FailsIn packets line p p' w w' = (AppendsPart packets p p' × Appends w w' []) ⊎ (Appends p p' packets × AppendsPart line w w')
 
--- a receiver's buffers are of the size of the frames that it decides, it holds less than a frame, and its totals fit
-pub record IsSound (mode : Mode) (takes limit : ℕ) (window : Window) (t : Totals) : Type 0 where
+-- a receiver's buffers are of the size of the frames that it decides, its search holds fewer symbols than it has room for, and
+-- its totals fit
+pub record IsSound (mode : Mode) (resync : Bool) (takes limit : ℕ) (window : Window) (t : Totals) : Type 0 where
   pub takes_frames : symbols_in mode ≡ takes
-  pub few : length window.symbols < symbols_in mode
+  pub few : length window.symbols < room_for resync (symbols_in mode)
   pub fits : Fits limit window t

@@ -16,7 +16,7 @@ use Rattle.s2_receive.specs.declared.figures.Figures.{Figures}
 use Rattle.s2_receive.specs.declared.gap.Gap.{Gap}
 use Rattle.s2_receive.specs.Figures.{refused_in, saturated, sums_after}
 use Rattle.s2_receive.specs.Meeting.{Met, frame, cut, ended, no_gap, is_gap}
-use Rattle.s2_receive.specs.Synchronization.{Window, Follows, met_within, reached, wanted, window_at}
+use Rattle.s2_receive.specs.Synchronization.{Window, Follows, met_within, reached, room_for, wanted, window_at}
 use Rattle.s2_receive.specs.Windows.{found_as}
 use Rattle.s2_receive.specs.ReportLines.{step_line}
 use Rattle.s2_receive.specs.ReceiverCore.{FailsIn}
@@ -54,14 +54,33 @@ abbrev pub delivery : Option (Header × List ℕ) → Event
 delivery (Some pair) = field pair.0 pair.1
 delivery None = gap
 
--- the rules of a receiver: the header test, the size of a frame, the decision on a frame, and the limit of symbols
+-- whether nothing is delivered
+abbrev pub is_none : Option (Header × List ℕ) → Bool
+is_none (Some pair) = false
+is_none None = true
+
+-- whether a frame is lost: nothing of it is delivered
+abbrev pub is_lost : Decision → Bool
+is_lost decision = is_none decision.delivered
+
+-- the rules of a receiver: the header test, the size of a frame, whether lost frames are searched again, the decision on a
+-- frame, and the limit of symbols
 pub record Rules : Type 0 where
   -- the header test, right after a frame (`true`) and elsewhere
   pub finds : Bool → List Symbol → Found
   pub size : ℕ
+  pub resync : Bool
   pub decide : List Symbol → Decision
   -- the limit of symbols in all
   pub limit : ℕ
+
+-- the frames that are searched again: lost ones, if the rules say so
+abbrev pub searched_again : Rules → List Symbol → Bool
+searched_again rules symbols = rules.resync && is_lost (rules.decide symbols)
+
+-- the number of symbols that the search holds before it tells of a frame
+abbrev pub room_in : Rules → ℕ
+room_in rules = room_for rules.resync rules.size
 
 -- the joiner and the totals so far
 pub record Standing : Type 0 where
@@ -202,10 +221,12 @@ pub record State : Type 0 where
 abbrev pub taken : State → ℕ
 taken s = reached s.window
 
--- a receiver: the frames that it seeks, its lock, its decider, its limit of symbols, and its state
+-- a receiver: the frames that it seeks, its lock, whether it searches lost frames again, its decider, its limit of symbols,
+-- and its state
 pub record Receiver (D : Type 0) : Type 0 where
   pub sought : Sought
   pub max_header_errors : ℕ
+  pub resync : Bool
   pub decider : D
   pub limit : ℕ
   pub state : State
@@ -213,7 +234,7 @@ pub record Receiver (D : Type 0) : Type 0 where
 
 -- its rules, by the decision of its decider
 abbrev pub rules_of : {D : Type 0} → (D → List Symbol → Decision) → Receiver D → Rules
-rules_of decide r = record { finds = found_as r.sought r.max_header_errors; size = symbols_in r.sought.mode; decide = decide r.decider; limit = r.limit }
+rules_of decide r = record { finds = found_as r.sought r.max_header_errors; size = symbols_in r.sought.mode; resync = r.resync; decide = decide r.decider; limit = r.limit }
 
 -- a receiver's state, from its phase, the symbols held, the body that its joiner holds, and its totals
 abbrev pub state_of : Phase → Window → Option (List ℕ) → Totals → State
@@ -249,7 +270,7 @@ rank phases.Failed = 2
 
 -- the things still to be met in the symbols to come
 abbrev pub left_by : Rules → Phase → Window → List Symbol → List Met
-left_by rules phases.Searching window coming = met_within rules.finds rules.size window coming
+left_by rules phases.Searching window coming = met_within rules.finds (searched_again rules) rules.size window coming
 left_by rules phases.Closing window coming = ended no_gap ∷ []
 left_by rules phases.Ended window coming = []
 left_by rules phases.Failed window coming = []
@@ -261,7 +282,7 @@ met_left rules s coming = left_by rules s.phase s.window coming
 -- the same of the bytes to come, if they are known
 abbrev pub left_known : Rules → Phase → Window → Option (List ℕ) → Option (List Met)
 left_known rules phases.Searching window None = None
-left_known rules phases.Searching window (Some bytes) = Some (met_within rules.finds rules.size window (symbols_of bytes))
+left_known rules phases.Searching window (Some bytes) = Some (met_within rules.finds (searched_again rules) rules.size window (symbols_of bytes))
 left_known rules phases.Closing window bytes = Some (ended no_gap ∷ [])
 left_known rules phases.Ended window bytes = Some []
 left_known rules phases.Failed window bytes = Some []
@@ -271,9 +292,9 @@ left_in rules s bytes = left_known rules s.phase s.window bytes
 
 -- ---- symbols that come
 
--- the number of bytes wanted next: those of the symbols that a frame lacks, up to the limit; 0 if it does not search
+-- the number of bytes wanted next: those of the symbols that the search lacks, up to the limit; 0 if it does not search
 abbrev pub asked_by : Rules → Phase → Window → ℕ
-asked_by rules phases.Searching window = 4 * wanted rules.limit rules.size window
+asked_by rules phases.Searching window = 4 * wanted rules.limit (room_in rules) window
 asked_by rules phase window = 0
 
 -- the same for a receiver in this state
@@ -300,11 +321,12 @@ pub record Handles (rules : Rules) (old new : State) (met : Met) (packets : List
   pub standing : new.standing ≡ after rules old.standing met
   pub packets_are : packets ≡ packets_of rules old.standing met
 
--- it ends at this position of the stream
-abbrev pub EndsAt : ℕ → Met → ℕ → Type 0
-EndsAt size (frame at skipped symbols) place = place ≡ at + size
-EndsAt size (cut at skipped count) place = place ≡ at + count
-EndsAt size (ended skipped) place = ⊤
+-- It ends at this position of the stream, up to which symbols were taken. For a frame no more were taken than the search holds
+-- before it tells of one: if lost frames are not searched again, just those of the frame
+abbrev pub EndsAt : (size room : ℕ) → Met → ℕ → Type 0
+EndsAt size room (frame at skipped symbols) place = (at + size ≤ place) × (place ≤ at + room)
+EndsAt size room (cut at skipped count) place = place ≡ at + count
+EndsAt size room (ended skipped) place = ⊤
 
 -- A step: symbols came, all wanted ones or the last ones of the stream, and this was met in them. They were taken, and no
 -- others.
@@ -313,11 +335,11 @@ pub record Steps (rules : Rules) (old new : State) (symbols : List Symbol) (whol
   pub handles : Handles rules old new met packets step
   pub spell : YieldsMet rules old new symbols whole (met ∷ [])
   pub taken_are : taken new ≡ taken old + length symbols
-  pub ends : EndsAt rules.size met (taken new)
+  pub ends : EndsAt rules.size (room_in rules) met (taken new)
   pub decided : IsDecided rules met last
 
--- No step yet: all wanted symbols came, and nothing is met in them. They were taken. Fewer symbols are held now than a
--- frame has, so that the receiver wants more of them, unless its limit is reached.
+-- No step yet: all wanted symbols came, and nothing is met in them. They were taken. Fewer symbols are held now than the
+-- search has room for, so that the receiver wants more of them, unless its limit is reached.
 pub record Waits (rules : Rules) (old new : State) (symbols : List Symbol) (whole : Bool) : Type 0 where
   pub all : whole ≡ true
   pub searching : old.phase ≡ phases.Searching
@@ -325,7 +347,7 @@ pub record Waits (rules : Rules) (old new : State) (symbols : List Symbol) (whol
   pub standing : new.standing ≡ old.standing
   pub spell : YieldsMet rules old new symbols true []
   pub taken_are : taken new ≡ taken old + length symbols
-  pub few : length new.window.symbols < rules.size
+  pub few : length new.window.symbols < room_in rules
 
 -- ---- reads and writes
 
@@ -345,23 +367,24 @@ Meets None new front = ⊤
 Meets (Some old) None front = ⊥
 Meets (Some old) (Some new) front = old ≡ front ++ new
 
--- if the next thing of those known is a coded frame, it ends after this position
-abbrev pub EndsBehind : ℕ → ℕ → Option (List Met) → Type 0
-EndsBehind size place None = ⊤
-EndsBehind size place (Some []) = ⊤
-EndsBehind size place (Some (frame at skipped symbols ∷ later)) = place < at + size
-EndsBehind size place (Some (cut at skipped count ∷ later)) = ⊤
-EndsBehind size place (Some (ended skipped ∷ later)) = ⊤
+-- if the next thing of those known is a coded frame, what the search holds of it ends after this position
+abbrev pub EndsBehind : (room : ℕ) → ℕ → Option (List Met) → Type 0
+EndsBehind room place None = ⊤
+EndsBehind room place (Some []) = ⊤
+EndsBehind room place (Some (frame at skipped symbols ∷ later)) = place < at + room
+EndsBehind room place (Some (cut at skipped count ∷ later)) = ⊤
+EndsBehind room place (Some (ended skipped ∷ later)) = ⊤
 
--- Nothing was met, since a read failed or the limit was reached. The next frame, if it is known, ends after the bytes
--- that were read. If no read failed, it ends after the limit, and exactly the bytes up to the limit were read.
+-- Nothing was met, since a read failed or the limit was reached. What the search holds of the next frame, if that is known,
+-- ends after the bytes that were read. If no read failed, it ends after the limit, and exactly the bytes up to the limit were
+-- read.
 pub record StopsShort (rules : Rules) (old : State) (reader_old reader_new : Option (List ℕ)) (reads_old reads_new : ℕ) : Type 0 where
   pub bytes : List ℕ
   pub read : Consumes reader_old reader_new bytes
-  pub short : EndsBehind rules.size (taken old + length bytes / 4) (left_in rules old reader_old)
+  pub short : EndsBehind (room_in rules) (taken old + length bytes / 4) (left_in rules old reader_old)
   pub cause : reads_new ≢ reads_old + 1
       → (reads_new ≡ reads_old) × Reaches rules.limit (taken old) reader_old reader_new × (length bytes ≡ 4 * (rules.limit - taken old))
-      × EndsBehind rules.size rules.limit (left_in rules old reader_old)
+      × EndsBehind (room_in rules) rules.limit (left_in rules old reader_old)
 
 -- Nothing could be met, because a read failed or the limit of symbols was reached. The receiver was searching, and now
 -- counts as failed
@@ -410,11 +433,12 @@ StepAnswers rules old new before behind (Err faults.Read) = Stops rules old new 
 StepAnswers rules old new before behind (Err faults.Write) = (new.phase ≡ phases.Failed) × BreaksOff rules old before behind
 StepAnswers rules old new before behind (Err faults.Failed) = ⊥
 
--- the number of symbols taken after a step: up to the end of the frame, or of the symbols of a cut one
-abbrev pub StandsBehind : {E : Type 0} → ℕ → ℕ → Result Step E → Type 0
-StandsBehind size at (Ok (steps.Frame report)) = at ≡ report.at + size
-StandsBehind size at (Ok (steps.Cut place count)) = at ≡ place + count
-StandsBehind size at result = ⊤
+-- the number of symbols taken after a step: up to the end of the frame, and no more than the search holds; or up to the end
+-- of the symbols of a cut one
+abbrev pub StandsBehind : {E : Type 0} → (size room : ℕ) → ℕ → Result Step E → Type 0
+StandsBehind size room at (Ok (steps.Frame report)) = (report.at + size ≤ at) × (at ≤ report.at + room)
+StandsBehind size room at (Ok (steps.Cut place count)) = at ≡ place + count
+StandsBehind size room at result = ⊤
 
 -- ---- whole runs
 

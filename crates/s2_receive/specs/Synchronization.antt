@@ -1,5 +1,5 @@
 -- The first place in symbols at which a frame begins (own).
-use Rattle.std.specs.Prelude.{Bool, ◌&&◌, nat_eq, ◌≡◌, ℕ, ◌+◌, ◌-◌, ◌^◌, ◌<◌, ◌≤◌, true, false, nat_le, min, if◌then◌else◌, List, [], ◌∷◌, ◌++◌, length, take, drop, Option, Some, None, ⊤}
+use Rattle.std.specs.Prelude.{Bool, ◌&&◌, nat_eq, ◌≡◌, ◌≢◌, ℕ, ◌+◌, ◌-◌, ◌^◌, ◌<◌, ◌≤◌, ◌⊎◌, true, false, nat_le, min, if◌then◌else◌, List, [], ◌∷◌, ◌++◌, length, take, drop, Option, Some, None, ⊤}
 use Rattle.s2_mode.specs.Limits.{header_symbols}
 use Rattle.s2_mode.specs.Mode.{Mode, symbols_in}
 use Rattle.s2_mode.specs.declared.symbols.Symbol.{Symbol}
@@ -7,7 +7,7 @@ use Rattle.s2_plframe.specs.Turns.{Sought}
 use Rattle.s2_plframe.specs.declared.receive.found.Found.{Found}
 use Rattle.s2_plframe.specs.declared.receive.found.Found.TheVariants as founds
 use Rattle.s2_receive.specs.declared.gap.Gap.{Gap}
-use Rattle.s2_receive.specs.Meeting.{Met, frame, cut, ended, no_gap, met_from}
+use Rattle.s2_receive.specs.Meeting.{Met, frame, cut, ended, no_gap, begins, met_from, resumes, resumed}
 use Rattle.s2_receive.specs.declared.window.Held.{Held}
 use Rattle.s2_receive.specs.declared.window.Next.{Next}
 use Rattle.s2_receive.specs.declared.window.Next.TheVariants as next
@@ -16,34 +16,49 @@ use Rattle.s2_receive.specs.declared.header_search.Scan.{Scan}
 -- ---- the symbols held
 
 -- The symbols of a stream that a search holds, the position of the first one, and the gap before it. Also: the number of
--- first symbols that still belong to a dummy frame, and whether a frame ended right before the first that belongs to
--- none.
+-- first symbols that still belong to a frame; whether that frame is lost, so that they are searched again, or a dummy frame;
+-- and whether a frame ended right before the first that belongs to none.
 pub record Window : Type 0 where
   pub at : ℕ
   pub skipped : Gap
   pub inside : ℕ
+  pub again : Bool
   pub behind : Bool
   pub symbols : List Symbol
 
 -- no symbols are held, from this position of the stream on, right after a frame or not
 abbrev pub window_at : ℕ → Bool → Window
-window_at at behind = record { at = at; skipped = no_gap; inside = 0; behind = behind; symbols = [] }
+window_at at behind = record { at = at; skipped = no_gap; inside = 0; again = false; behind = behind; symbols = [] }
 
 -- the symbols at the front of a frame's buffer
 abbrev pub window_of : Held → List Symbol → Window
-window_of held buffer = record { at = held.at; skipped = held.skipped; inside = held.inside; behind = held.behind; symbols = take held.count buffer }
+window_of held buffer = record { at = held.at; skipped = held.skipped; inside = held.inside; again = held.again; behind = held.behind; symbols = take held.count buffer }
 
 -- the position up to which symbols came
 abbrev pub reached : Window → ℕ
 reached w = w.at + length w.symbols
 
--- the number of symbols wanted next: those that a frame of this size lacks, but no more than the limit leaves
+-- The number of symbols that a search holds before it tells of a frame of this size: those of the frame. If lost frames are
+-- searched again, also those of the next header
+abbrev pub room_for : (resync : Bool) → ℕ → ℕ
+room_for resync size = if resync then size + header_symbols else size
+
+-- the number of symbols wanted next: those that a search of this room lacks, but no more than the limit leaves
 abbrev pub wanted : ℕ → ℕ → Window → ℕ
-wanted limit size w = min (limit - reached w) (size - length w.symbols)
+wanted limit room w = min (limit - reached w) (room - length w.symbols)
+
+-- how many of these symbols, which begin with those held, belong to the last frame
+abbrev pub inside_of : (Bool → List Symbol → Found) → ℕ → Window → List Symbol → ℕ
+inside_of finds size w symbols = if w.again then resumed finds size w.inside symbols else w.inside
 
 -- the things still to be met in the symbols held and in those to come
-abbrev pub met_within : (Bool → List Symbol → Found) → ℕ → Window → List Symbol → List Met
-met_within finds size w coming = met_from finds size w.at w.inside w.behind w.skipped (w.symbols ++ coming)
+abbrev pub met_within : (Bool → List Symbol → Found) → (List Symbol → Bool) → ℕ → Window → List Symbol → List Met
+met_within finds lost size w coming = met_from finds lost size w.at (inside_of finds size w (w.symbols ++ coming)) w.behind w.skipped (w.symbols ++ coming)
+
+-- the symbols held after the frame that they begin with, by whether it is lost
+abbrev pub passed_by : (lost : Bool) → ℕ → Window → Window
+passed_by true size w = record { at = w.at + 1; skipped = no_gap; inside = size - 1; again = true; behind = true; symbols = drop 1 w.symbols }
+passed_by false size w = record { at = w.at + size; skipped = no_gap; inside = 0; again = false; behind = true; symbols = drop size w.symbols }
 
 -- ---- the search in symbols
 
@@ -51,6 +66,26 @@ met_within finds size w coming = met_from finds size w.at w.inside w.behind w.sk
 -- frame ended right before, or not
 abbrev pub NoHeader : (Bool → List Symbol → Found) → List Symbol → Bool → ℕ → ℕ → Type 0
 NoHeader finds symbols behind start n = (i : ℕ) → start ≤ i → i + header_symbols ≤ n → finds (behind && nat_eq i start) (take header_symbols (drop i symbols)) ≡ founds.Nothing
+
+-- The first place from one on and before another at which the header of a coded frame begins, by the usual test; or that
+-- other place
+pub record NextCoded (finds : Bool → List Symbol → Found) (symbols : List Symbol) (start before place : ℕ) : Type 0 where
+  pub from : start ≤ place
+  pub within : place ≤ before
+  pub none : (i : ℕ) → start ≤ i → i < place → begins (finds false) (drop i symbols) ≢ founds.Coded
+  pub coded : place < before → begins (finds false) (drop place symbols) ≡ founds.Coded
+
+-- symbols that may follow those held: any, if these are all that a search holds; else none
+abbrev pub MayFollow : ℕ → (held coming : List Symbol) → Type 0
+MayFollow size held coming = length held < size + header_symbols → coming ≡ []
+
+-- The first place before another at which the search may resume in symbols that begin in a lost frame; or that other place.
+-- At their first place, and if no symbols follow, it does resume
+pub record Candidate (finds : Bool → List Symbol → Found) (size before : ℕ) (symbols : List Symbol) (place : ℕ) : Type 0 where
+  pub within : place ≤ before
+  pub none : (coming : List Symbol) → MayFollow size symbols coming → (i : ℕ) → i < place → resumes finds size (drop i (symbols ++ coming)) ≡ false
+  pub there : (coming : List Symbol) → MayFollow size symbols coming → place < before → (place ≡ 0) ⊎ (length symbols < size + header_symbols)
+      → resumes finds size (drop place (symbols ++ coming)) ≡ true
 
 -- the header that the last 90 symbols are, or nothing
 abbrev pub found_last : (List Symbol → Found) → List Symbol → Found
@@ -60,7 +95,7 @@ found_last finds seen = if nat_le header_symbols (length seen) then finds (drop 
 -- same is met. A coded frame begins there, or too few symbols are left for a header. A frame ended right before it, or
 -- not
 pub record Scans (finds : Bool → List Symbol → Found) (symbols : List Symbol) (at inside : ℕ) (behind : Bool) (skipped : Gap) (scan : Scan) : Type 0 where
-  pub met : (size : ℕ) (rest : List Symbol) → met_from finds size at inside behind skipped (symbols ++ rest) ≡ met_from finds size (at + scan.place) 0 scan.behind scan.skipped (drop scan.place (symbols ++ rest))
+  pub met : (lost : List Symbol → Bool) (size : ℕ) (rest : List Symbol) → met_from finds lost size at inside behind skipped (symbols ++ rest) ≡ met_from finds lost size (at + scan.place) 0 scan.behind scan.skipped (drop scan.place (symbols ++ rest))
   pub further : inside ≤ scan.place
   -- no more of these symbols were skipped
   pub within : (scan.skipped.symbols ≤ scan.place + skipped.symbols) × (scan.skipped.symbols ≤ length symbols + skipped.symbols)
@@ -77,11 +112,10 @@ met_of (next.Frame at skipped) symbols = frame at skipped symbols
 met_of (next.Cut at skipped count) symbols = cut at skipped count
 met_of (next.End at skipped) symbols = ended skipped
 
--- the position after it, up to which symbols were taken
-abbrev pub place_after : ℕ → Next → ℕ
-place_after size (next.Frame at skipped) = at + size
-place_after size (next.Cut at skipped count) = at + count
-place_after size (next.End at skipped) = at
+-- the symbols held after it, if these are held with it in front
+abbrev pub window_after : (List Symbol → Bool) → ℕ → Option Next → Window → Window
+window_after lost size (Some (next.Frame at skipped)) w = passed_by (lost (take size w.symbols)) size w
+window_after lost size found w = w
 
 -- it begins at or after this position of the stream. The symbols skipped from there to it are no more than lie between,
 -- besides those of an earlier gap
@@ -90,11 +124,19 @@ IsBehind start before (next.Frame at skipped) = (start ≤ at) × (start + skipp
 IsBehind start before (next.Cut at skipped count) = (start ≤ at) × (start + skipped.symbols ≤ at + before.symbols) × (header_symbols ≤ count)
 IsBehind start before (next.End at skipped) = (start ≤ at) × (start + skipped.symbols ≤ at + before.symbols)
 
--- the things still to be met after it
-abbrev pub met_then : (Bool → List Symbol → Found) → ℕ → Next → List Symbol → List Met
-met_then finds size (next.Frame at skipped) coming = met_within finds size (window_at (at + size) true) coming
-met_then finds size (next.Cut at skipped count) coming = ended no_gap ∷ []
-met_then finds size (next.End at skipped) coming = []
+-- the things still to be met after it, with these symbols held
+abbrev pub met_then : (Bool → List Symbol → Found) → (List Symbol → Bool) → ℕ → Next → Window → List Symbol → List Met
+met_then finds lost size (next.Frame at skipped) w coming = met_within finds lost size w coming
+met_then finds lost size (next.Cut at skipped count) w coming = ended no_gap ∷ []
+met_then finds lost size (next.End at skipped) w coming = []
+
+-- After a frame with these symbols fewer are held than the room. The first of them comes after the frame, or after its first
+-- symbol if the frame is lost. Up to there no symbol is skipped. After a cut frame and at the end, nothing is held
+abbrev pub HoldsAfter : (List Symbol → Bool) → (size room : ℕ) → Next → List Symbol → Window → Type 0
+HoldsAfter lost size room (next.Frame at skipped) symbols w =
+    (length w.symbols < room) × (w.at ≡ at + (if lost symbols then 1 else size)) × (w.skipped ≡ no_gap) × (at + size ≤ reached w) × (reached w ≤ at + room)
+HoldsAfter lost size room (next.Cut at skipped count) symbols w = w ≡ window_at (at + count) true
+HoldsAfter lost size room (next.End at skipped) symbols w = w ≡ window_at at true
 
 -- the symbols that may follow some: any, or none if the stream ends with them
 abbrev pub Follows : Bool → List Symbol → Type 0
@@ -102,26 +144,39 @@ Follows true coming = ⊤
 Follows false coming = coming ≡ []
 
 -- Symbols came: all wanted ones (`whole`), or the last ones of the stream. Nothing is met yet, and the symbols that may
--- begin a frame are held. Or this was met, whatever may follow, and nothing is held.
-abbrev pub Takes : (Bool → List Symbol → Found) → ℕ → (old new : Window) → (symbols : List Symbol) → (whole : Bool) → (buffer : List Symbol) → Option Next → Type 0
-Takes finds size old new symbols whole buffer None =
-    (whole ≡ true) × ((coming : List Symbol) → met_within finds size old (symbols ++ coming) ≡ met_within finds size new coming)
-    × (reached new ≡ reached old + length symbols) × (length new.symbols < size) × (old.at ≤ new.at) × (old.at + new.skipped.symbols ≤ new.at + old.skipped.symbols)
-Takes finds size old new symbols whole buffer (Some found) =
-    ((coming : List Symbol) → Follows whole coming → met_within finds size old (symbols ++ coming) ≡ met_of found buffer ∷ met_then finds size found coming)
-    × (place_after size found ≡ reached old + length symbols) × IsBehind old.at old.skipped found × (new ≡ window_at (place_after size found) true)
+-- begin a frame are held. Or this was met, whatever may follow.
+abbrev pub Takes : (Bool → List Symbol → Found) → (List Symbol → Bool) → (size room : ℕ) → (old new : Window) → (symbols : List Symbol) → (whole : Bool) → (buffer : List Symbol) → Option Next → Type 0
+Takes finds lost size room old new symbols whole buffer None =
+    (whole ≡ true) × ((coming : List Symbol) → met_within finds lost size old (symbols ++ coming) ≡ met_within finds lost size new coming)
+    × (reached new ≡ reached old + length symbols) × (length new.symbols < room) × (old.at ≤ new.at) × (old.at + new.skipped.symbols ≤ new.at + old.skipped.symbols)
+Takes finds lost size room old new symbols whole buffer (Some found) =
+    ((coming : List Symbol) → Follows whole coming → met_within finds lost size old (symbols ++ coming) ≡ met_of found buffer ∷ met_then finds lost size found new coming)
+    × (reached new ≡ reached old + length symbols) × IsBehind old.at old.skipped found × HoldsAfter lost size room found buffer new
 
--- the search for frames, with a lock
+-- The number of symbols that a search holds when it returns this. A frame is in front, whole; else it has room for more
+abbrev pub HoldsFor : ℕ → Option Next → (count room : ℕ) → Type 0
+HoldsFor size (Some (next.Frame at skipped)) count room = (size ≤ count) × (count ≤ room)
+HoldsFor size found count room = count < room
+
+-- the search for frames, with a lock; whether lost frames are searched again
 pub record Synchronizer : Type 0 where
   pub sought : Sought
   pub max_header_errors : ℕ
+  pub resync : Bool
   pub window : Window
   -- the symbols of the frame that was found last
   pub frame : List Symbol
 
--- its buffer has room for a frame of the mode, and it does not hold all symbols of one
-pub record HoldsFrame (mode : Mode) (held symbols : ℕ) : Type 0 where
-  pub frame : symbols ≡ symbols_in mode
-  pub least : header_symbols ≤ symbols
-  pub most : symbols ≤ 2 ^ 32
-  pub few : held < symbols
+-- at least a symbol of a lost frame is held, and no symbol of it is missing; the buffer has room for a header more
+abbrev pub RestOfLost : (size room : ℕ) → Held → Type 0
+RestOfLost size room held = (room ≡ size + header_symbols) × (1 ≤ held.inside) × (held.inside < size) × (held.inside ≤ held.count)
+
+-- The frames have this size, and the buffer has the room that they need. If the symbols held begin in a lost frame, the rest of
+-- that frame is held
+pub record HoldsFrame (mode : Mode) (resync : Bool) (size room : ℕ) (held : Held) : Type 0 where
+  pub size_is : size ≡ symbols_in mode
+  pub room_is : room ≡ room_for resync size
+  pub least : header_symbols ≤ size
+  pub most : size ≤ 2 ^ 31
+  pub few : held.count ≤ room
+  pub again : held.again ≡ true → RestOfLost size room held

@@ -1,7 +1,7 @@
 //! Laws, which follow from the definitions alone. Each is the clause of a call that does nothing.
 ghost use Rattle.s2_receive.specs.Calls.{CallsLaw};
 ghost use Rattle.s2_receive.specs.Limits.{LimitsLaw};
-ghost use Rattle.s2_receive.specs.Laws.{JoiningLaw, ReceptionLaw, FrontLaw, SearchLaw, SameRunLaw, SameStepLaw, TwoRunsLaw};
+ghost use Rattle.s2_receive.specs.Laws.{JoiningLaw, ReceptionLaw, FrontLaw, ResumeLaw, SearchLaw, SameRunLaw, SameStepLaw, TwoRunsLaw};
 
 /// The packets written are those of all fields and gaps that came to the joiner, one after another. The totals
 /// count them.
@@ -22,10 +22,16 @@ pub fn front()
 {}
 
 /// The next frame is at the first header, if it is a coded frame's, and has all its symbols from there, or is
-/// cut. After a dummy frame the search continues as if its symbols were not there. If no header begins, the end
-/// comes.
+/// cut. The search continues after it, or inside it if it is lost and lost frames are searched again. After a dummy
+/// frame the search continues as if its symbols were not there. If no header begins, the end comes.
 pub fn searching()
     ensures { SearchLaw }
+{}
+
+/// In a lost frame the search resumes at the first place where the header of a coded frame begins and one frame later
+/// another header or the end of the stream comes. If there is no such place, it resumes after the frame.
+pub fn resuming()
+    ensures { ResumeLaw }
 {}
 
 /// However a reader cuts the bytes of a stream, the same is met, written and counted: in a run to the

@@ -6,7 +6,7 @@
 //!
 //! Its core does no input or output. [`Receiver::room`] returns how many bytes are wanted, and [`Receiver::advance`]
 //! takes them. It returns the next step as soon as all its symbols are there: the first coded frame at or after the end
-//! of the last one, a frame that lacks symbols, or the end. Then the decision ([`Receiver::decider`]) and the packets
+//! of the last one, a frame that lacks symbols, or the end. If it is told so, a frame may also begin in a lost one. Then the decision ([`Receiver::decider`]) and the packets
 //! that end in the frame ([`Receiver::packets`]) can be read. [`Receiver::next`] reads, advances, writes these packets,
 //! and then writes the step's line (`src/lines.rt`). [`receive_all`] and [`receive_bytes`] take all steps. Only
 //! [`Receiver::new`] allocates memory.
@@ -16,7 +16,7 @@
 //! has their [`Sums`]. The steps are a function of the symbols (`specs/Meeting.antt`). The state, the output and the
 //! results are a function of the steps (`specs/Receiving.antt`). [`laws`] states what follows:
 //!
-//! - the search in its own words;
+//! - the search in its own words, also in lost frames that are searched again;
 //! - packets are joined only if there is no gap;
 //! - frames received unchanged give the packets that were sent;
 //! - the way in which a reader cuts the bytes does not matter;
@@ -24,7 +24,7 @@
 //! - calls of [`Receiver::advance`] up to the end are one run.
 //!
 //! ```
-//! let mut receiver = Receiver::new(alloc, mode, false, lock, decider, MAX_SYMBOLS)?;
+//! let mut receiver = Receiver::new(alloc, mode, false, lock, false, decider, MAX_SYMBOLS)?;
 //! let count = read_full(&mut reader, &mut buffer[..receiver.room()])?;
 //! if let Some(step) = receiver.advance(&buffer[..count]) {
 //!     write_full(&mut packets, receiver.packets())?;

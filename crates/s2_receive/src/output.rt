@@ -4,7 +4,7 @@ ghost use Rattle.std.specs.Io.KnownBytes.{Appends};
 ghost use Rattle.s2_mode.specs.Counts.{CanCount};
 ghost use Rattle.s2_mode.specs.Streams.{NoneFailed, OneFailed};
 ghost use Rattle.s2_receive.specs.Synchronization.{met_of};
-ghost use Rattle.s2_receive.specs.Receiving.{phase_after, rules_of};
+ghost use Rattle.s2_receive.specs.Receiving.{count_of, phase_after, rules_of};
 ghost use Rattle.s2_receive.specs.ReportLines.{step_line};
 ghost use Rattle.s2_receive.specs.ReceiverCore.{CanCountIn, FailsIn, IsSound};
 ghost use Rattle.s2_receive.specs.Answers.{IsSame};
@@ -59,11 +59,11 @@ impl<D: Decide> ReceiverCore<D> {
 
     /// The receiver's status after a step with these counts.
     fn status_after(&self, next: Next, counts: StepCounts) -> Status
-        requires room { CanCountIn self.now.state.window self.now.state.standing.totals next }
+        requires room { CanCountIn self.now.state.window self.now.state.standing.totals counts.delivered next }
         requires few { IsFew counts }
         ensures phase { result.phase ≡ phase_after (met_of next []) }
         ensures totals { result.totals ≡ counted self.now.state.standing.totals next counts (D.last self.now.decider) }
-        ensures sound { IsSound self.now.sought.mode (D.size self.now.decider) self.now.limit self.now.state.window result.totals }
+        ensures sound { IsSound self.now.sought.mode self.now.resync (D.size self.now.decider) self.now.limit self.now.state.window result.totals }
     {
         let totals = self.status.totals;
         match next {
@@ -90,7 +90,7 @@ impl<D: Decide> ReceiverCore<D> {
 
     /// Passes a step to the joiner, and counts it. A frame was decided before. Returns the step.
     pub(crate) fn step_to(&mut self, next: Next) -> Step
-        requires room { CanCountIn self.old.state.window self.old.state.standing.totals next }
+        requires room { CanCountIn self.old.state.window self.old.state.standing.totals (count_of (D.last self.old.decider).delivered) next }
         ensures same { IsSame D.decide self.old self.new }
         ensures decider { self.new.decider ≡ self.old.decider }
         ensures window { self.new.state.window ≡ self.old.state.window }

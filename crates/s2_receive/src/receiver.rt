@@ -7,6 +7,7 @@ ghost use Rattle.s2_receive.specs.declared.report.Phase.TheVariants as phases;
 ghost use Rattle.s2_receive.specs.Receiving.{IsLive, asked, begun, is_at_frame, rules_of, taken};
 ghost use Rattle.s2_receive.specs.Answers.{Advances, Between, Finds, IsSame, Reads, StepsBy, seen_by};
 ghost use Rattle.s2_receive.specs.Sinks.{NextWith};
+ghost use Rattle.s2_receive.specs.Synchronization.{room_for};
 ghost use Rattle.s2_plframe.specs.Turns.{sought_of};
 
 use crate::decider::Decide;
@@ -14,6 +15,7 @@ use crate::output::write_step;
 use crate::receiver_core::ReceiverCore;
 use crate::report::{Fault, Phase, Step, Totals};
 use crate::sinks::{Sink, give_frame};
+use crate::synchronizer::room_for;
 use s2_mode::{CountedRead, CountedWrite, Mode, ReadFault, read_full};
 use s2_plframe::HeaderTolerance;
 use std::alloc::{AllocError, Global};
@@ -38,12 +40,13 @@ impl<D: Decide> Model for Receiver<D> {
     ghost use Rattle.std.specs.Prelude.{◌≡◌, ◌*◌, length};
     ghost use Rattle.s2_mode.specs.Mode.{symbols_in};
     ghost use Rattle.s2_receive.specs.Receiving.{Receiver as ReceiverValue};
+    ghost use Rattle.s2_receive.specs.Synchronization.{room_for};
 
     ghost Value = { ReceiverValue D };
 
     ghost view = { λ r. r.inner };
 
-    ghost invariant = { λ r. length r.bytes.items ≡ 4 * symbols_in r.inner.sought.mode };
+    ghost invariant = { λ r. length r.bytes.items ≡ 4 * room_for r.inner.resync (symbols_in r.inner.sought.mode) };
 }
 
 /// Reads the wanted bytes, and passes them on.
@@ -70,7 +73,7 @@ fn read_step<D: Decide, R: CountedRead>(
     buffer: &mut [u8],
 ) -> Result<Option<Step>, ReadFault>
     requires reader { CanCount (R.count reader.old) }
-    requires room { length buffer.old ≡ 4 * symbols_in inner.old.sought.mode }
+    requires room { length buffer.old ≡ 4 * room_for inner.old.resync (symbols_in inner.old.sought.mode) }
     ensures same { IsSame D.decide inner.old inner.new }
     ensures reads { Reads (seen_by D.decide D.last inner.old) (seen_by D.decide D.last inner.new) (R.remaining reader.old) (R.remaining reader.new) result }
     ensures cause { CountsFault (R.count reader.old) (R.count reader.new) result }
@@ -82,13 +85,17 @@ fn read_step<D: Decide, R: CountedRead>(
 
 impl<D: Decide> Receiver<D> {
     /// A receiver of the frames of a mode that takes at most `limit` symbols in all, with the memory that
-    /// its steps use. With `turns` frames are also found whose symbols are rotated by quarter turns. Right after a frame, `max_header_errors` is the number of wrong bits that a header may have.
+    /// its steps use. With `turns` frames are also found whose symbols are rotated by quarter turns. Right after a frame,
+    /// `max_header_errors` is the number of wrong bits that a header may have. With `resync` the search continues in a
+    /// frame that is lost: at the first place after its first symbol where the header of a coded frame begins, by the
+    /// usual test, and one frame later another header or the stream's end comes.
     /// `AllocError` only if an allocation was refused.
     pub fn new(
         alloc: Global,
         mode: Mode,
         turns: bool,
         max_header_errors: HeaderTolerance,
+        resync: bool,
         decider: D,
         limit: u64,
     ) -> Result<Receiver<D>, AllocError>
@@ -97,11 +104,19 @@ impl<D: Decide> Receiver<D> {
         requires takes { symbols_in mode ≡ D.size decider }
         requires limit { limit ≤ max_symbols }
         ensures parts { IfOk result (λ r. (r.sought ≡ sought_of mode turns) × (r.max_header_errors ≡ max_header_errors)
-            × (r.decider ≡ decider) × (r.limit ≡ limit)) }
+            × (r.resync ≡ resync) × (r.decider ≡ decider) × (r.limit ≡ limit)) }
         ensures begun { IfOk result (λ r. r.state ≡ begun) }
     {
-        let bytes = vec![in alloc; 0u8; 4 * mode.symbols()]?;
-        let inner = ReceiverCore::new(alloc, mode, turns, max_header_errors, decider, limit)?;
+        let bytes = vec![in alloc; 0u8; 4 * room_for(mode, resync)]?;
+        let inner = ReceiverCore::new(
+            alloc,
+            mode,
+            turns,
+            max_header_errors,
+            resync,
+            decider,
+            limit,
+        )?;
         Ok(Receiver { inner, bytes })
     }
 
@@ -150,12 +165,12 @@ impl<D: Decide> Receiver<D> {
         matches!(self.inner.phase(), Phase::Searching)
     }
 
-    /// The number of bytes wanted next: four for each symbol that the next frame lacks, up to the limit. It is 0 if no
-    /// symbols are needed: after a cut frame and the end, after a fault, and when the limit is reached.
+    /// The number of bytes wanted next: four for each symbol that the next frame lacks, up to the limit. With `resync` the
+    /// 90 symbols after a frame are wanted too, before it is decided. It is 0 if no symbols are needed: after a cut frame and the end, after a fault, and when the limit is reached.
     pub fn room(&self) -> usize
         ensures is { result ≡ asked (rules_of D.decide self.now) self.now.state }
-        ensures few { result ≤ 4 * symbols_in self.now.sought.mode }
-        ensures held { (length self.now.state.window.symbols < symbols_in self.now.sought.mode)
+        ensures few { result ≤ 4 * room_for self.now.resync (symbols_in self.now.sought.mode) }
+        ensures held { (length self.now.state.window.symbols < room_for self.now.resync (symbols_in self.now.sought.mode))
             × (taken self.now.state ≤ self.now.limit) }
     {
         self.inner.room()
@@ -167,7 +182,7 @@ impl<D: Decide> Receiver<D> {
     ///
     /// `Some` is the next step, as soon as all its symbols are there: a frame, which is decided, a cut one, or the end.
     /// `None` means that more symbols are needed. A frame begins at the first header of a coded frame that is not before the
-    /// last frame's end and in no dummy frame. Dummy frames are not reported. After a frame, [`Receiver::packets`] are those
+    /// last frame's end and in no dummy frame. With `resync` it may begin in a frame that was lost. Dummy frames are not reported. After a frame, [`Receiver::packets`] are those
     /// that end in it. The joiner gets a gap if symbols were skipped that belong to no dummy frame, if a frame is not
     /// delivered, and after a cut frame. After `Cut` comes `End`, after `End` again `End`, and after a fault `None`. If the
     /// step is no frame, the last decision is kept. It allocates no memory.

@@ -1,13 +1,14 @@
 //! The receiver without input and output: bytes come, and steps are made.
-ghost use Rattle.std.specs.Prelude.{◌≡◌, ◌*◌, ◌<◌, ◌≤◌, IfOk, IfSome, length, nat_eq};
+ghost use Rattle.std.specs.Prelude.{◌≡◌, ◌*◌, ◌<◌, ◌≤◌, ◌&&◌, Bool, List, IfOk, IfSome, length, nat_eq};
 ghost use Rattle.s2_receive.specs.Limits.{max_symbols};
 ghost use Rattle.s2_mode.specs.Mode.{symbols_in};
 ghost use Rattle.s2_mode.specs.Symbols.{symbols_of};
 ghost use Rattle.s2_receive.specs.declared.report.Phase.TheVariants as phases;
-ghost use Rattle.s2_receive.specs.Synchronization.{Takes, met_of, reached, wanted};
-ghost use Rattle.s2_receive.specs.Receiving.{IsDecidedBy, asked, begun, rules_of, taken};
+ghost use Rattle.s2_mode.specs.declared.symbols.Symbol.{Symbol as SymbolValue};
+ghost use Rattle.s2_receive.specs.Synchronization.{reached, room_for, wanted};
+ghost use Rattle.s2_receive.specs.Receiving.{asked, begun, is_lost, rules_of, taken};
 ghost use Rattle.s2_receive.specs.Answers.{Advances, IsSame, seen_by};
-ghost use Rattle.s2_receive.specs.Output.{KeepsWithout, Searches};
+ghost use Rattle.s2_receive.specs.Output.{KeepsWithout, Searches, TakesDecided};
 ghost use Rattle.s2_plframe.specs.Turns.{sought_of};
 ghost use Rattle.s2_receive.specs.Windows.{found_as};
 
@@ -59,16 +60,27 @@ impl<D: Decide> Model for ReceiverCore<D> {
     ghost view = { λ r. record {
       sought = r.synchronizer.sought;
       max_header_errors = r.synchronizer.max_header_errors;
+      resync = r.synchronizer.resync;
       decider = r.decider;
       limit = r.limit;
       state = state_of r.status.phase r.synchronizer.window r.joiner.held r.status.totals;
       packets = r.joiner.packets;
     } };
 
-    ghost invariant = { λ r. IsSound r.synchronizer.sought.mode (D.size r.decider) r.limit r.synchronizer.window r.status.totals };
+    ghost invariant = { λ r. IsSound r.synchronizer.sought.mode r.synchronizer.resync (D.size r.decider) r.limit r.synchronizer.window r.status.totals };
 }
 
-/// Looks for the next frame or the end in the symbols of these bytes. If it is a frame, it is decided.
+/// Whether nothing was delivered of the frame that was decided last.
+fn is_lost<D: Decide>(decider: &D) -> bool
+    ensures { result ≡ is_lost (D.last decider.now) }
+{
+    match decider.decided().header {
+        Some(_) => false,
+        None => true,
+    }
+}
+
+/// Looks for the next frame or the end in the symbols of these bytes. If it is a frame, it is decided and passed.
 fn find_next<D: Decide>(
     synchronizer: &mut Synchronizer,
     decider: &mut D,
@@ -76,18 +88,24 @@ fn find_next<D: Decide>(
     limit: u64,
 ) -> Option<Next>
     requires frames { symbols_in synchronizer.old.sought.mode ≡ D.size decider.old }
-    requires room { length bytes.now ≤ 4 * wanted limit (symbols_in synchronizer.old.sought.mode) synchronizer.old.window }
+    requires few { length synchronizer.old.window.symbols < room_for synchronizer.old.resync (symbols_in synchronizer.old.sought.mode) }
+    requires room { length bytes.now ≤ 4 * wanted limit (room_for synchronizer.old.resync (symbols_in synchronizer.old.sought.mode)) synchronizer.old.window }
     requires limit { (reached synchronizer.old.window ≤ limit) × (limit ≤ max_symbols) }
     requires skipped { synchronizer.old.window.skipped.symbols ≤ synchronizer.old.window.at }
-    ensures takes { Takes (found_as synchronizer.old.sought synchronizer.old.max_header_errors) (symbols_in synchronizer.old.sought.mode) synchronizer.old.window synchronizer.new.window (symbols_of bytes.now)
-        (nat_eq (length bytes.now) (4 * wanted limit (symbols_in synchronizer.old.sought.mode) synchronizer.old.window)) synchronizer.new.frame result }
-    ensures decided { IfSome result (λ next. IsDecidedBy (D.decide decider.old) (met_of next synchronizer.new.frame) (D.last decider.new)) }
+    ensures takes { TakesDecided (found_as synchronizer.old.sought synchronizer.old.max_header_errors) (D.decide decider.old) synchronizer.old.resync (symbols_in synchronizer.old.sought.mode) synchronizer.old.window synchronizer.new.window (symbols_of bytes.now)
+        (nat_eq (length bytes.now) (4 * wanted limit (room_for synchronizer.old.resync (symbols_in synchronizer.old.sought.mode)) synchronizer.old.window)) (D.last decider.new) result }
     ensures kept { KeepsWithout result (D.last decider.old) (D.last decider.new) }
-    ensures same { (synchronizer.new.sought ≡ synchronizer.old.sought) × (synchronizer.new.max_header_errors ≡ synchronizer.old.max_header_errors) × (D.decide decider.new ≡ D.decide decider.old) × (D.size decider.new ≡ D.size decider.old) }
+    ensures same { (synchronizer.new.sought ≡ synchronizer.old.sought) × (synchronizer.new.max_header_errors ≡ synchronizer.old.max_header_errors) × (synchronizer.new.resync ≡ synchronizer.old.resync)
+        × (D.decide decider.new ≡ D.decide decider.old) × (D.size decider.new ≡ D.size decider.old) }
 {
     let next = synchronizer.take(bytes, limit)?;
-    if let Next::Frame { .. } = next {
-        decider.decide(synchronizer.frame());
+    match next {
+        Next::Frame { .. } => {
+            decider.decide(synchronizer.frame());
+            synchronizer.pass(is_lost(decider));
+        }
+        Next::Cut { .. } => {}
+        Next::End { .. } => {}
     }
     Some(next)
 }
@@ -98,6 +116,7 @@ impl<D: Decide> ReceiverCore<D> {
         mode: Mode,
         turns: bool,
         max_header_errors: HeaderTolerance,
+        resync: bool,
         decider: D,
         limit: u64,
     ) -> Result<ReceiverCore<D>, AllocError>
@@ -106,11 +125,11 @@ impl<D: Decide> ReceiverCore<D> {
         requires takes { symbols_in mode ≡ D.size decider }
         requires limit { limit ≤ max_symbols }
         ensures parts { IfOk result (λ r. (r.sought ≡ sought_of mode turns) × (r.max_header_errors ≡ max_header_errors)
-            × (r.decider ≡ decider) × (r.limit ≡ limit)) }
+            × (r.resync ≡ resync) × (r.decider ≡ decider) × (r.limit ≡ limit)) }
         ensures begun { IfOk result (λ r. r.state ≡ begun) }
     {
         Ok(ReceiverCore {
-            synchronizer: Synchronizer::new(alloc, mode, turns, max_header_errors)?,
+            synchronizer: Synchronizer::new(alloc, mode, turns, max_header_errors, resync)?,
             decider,
             joiner: PacketBuffer::new(alloc)?,
             status: Status {
@@ -156,8 +175,8 @@ impl<D: Decide> ReceiverCore<D> {
     /// The number of bytes wanted next.
     pub(crate) fn room(&self) -> usize
         ensures is { result ≡ asked (rules_of D.decide self.now) self.now.state }
-        ensures few { result ≤ 4 * symbols_in self.now.sought.mode }
-        ensures held { (length self.now.state.window.symbols < symbols_in self.now.sought.mode) × (taken self.now.state ≤ self.now.limit) }
+        ensures few { result ≤ 4 * room_for self.now.resync (symbols_in self.now.sought.mode) }
+        ensures held { (length self.now.state.window.symbols < room_for self.now.resync (symbols_in self.now.sought.mode)) × (taken self.now.state ≤ self.now.limit) }
     {
         match self.status.phase {
             Phase::Searching => 4 * self.synchronizer.wanted(self.limit),

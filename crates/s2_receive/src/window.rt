@@ -1,15 +1,15 @@
 //! Finds the next frame in a stream of symbols.
-ghost use Rattle.std.specs.Prelude.{◌≡◌, ◌+◌, ◌/◌, ◌^◌, ◌<◌, ◌≤◌, ◌∷◌, ◌++◌, [], List, length, take, true, false};
+ghost use Rattle.std.specs.Prelude.{◌≡◌, ◌+◌, ◌-◌, ◌/◌, ◌^◌, ◌<◌, ◌≤◌, ◌++◌, [], Bool, List, None, Some, length, take, drop, true, false};
 ghost use Rattle.s2_mode.specs.Limits.{header_symbols};
 ghost use Rattle.s2_receive.specs.Limits.{max_symbols};
 ghost use Rattle.s2_mode.specs.Symbols.{symbols_of};
 ghost use Rattle.s2_mode.specs.declared.symbols.Symbol.{Symbol as SymbolValue};
-ghost use Rattle.s2_receive.specs.Meeting.{no_gap, frame as met_frame};
-ghost use Rattle.s2_receive.specs.Synchronization.{Takes, IsBehind, met_within, met_then, met_of, place_after, window_at, window_of};
+ghost use Rattle.s2_receive.specs.Synchronization.{HoldsFor, RestOfLost, Takes, MayFollow, met_within, passed_by, window_after, window_at, window_of};
 ghost use Rattle.s2_receive.specs.Windows.{found_as};
+ghost use Rattle.s2_receive.specs.declared.window.Next.TheVariants as next;
 
 use crate::gap::Gap;
-use crate::header_search::look_through;
+use crate::header_search::{Scan, first_candidate, look_through};
 use s2_mode::{Symbol, symbols_into};
 use s2_plframe::{HeaderTolerance, Search};
 
@@ -24,7 +24,7 @@ pub enum Next {
     End { at: u64, skipped: Gap },
 }
 
-/// The symbols of the stream at the front of a frame's buffer.
+/// The symbols of the stream at the front of a buffer.
 #[derive(Clone, Copy)]
 pub(crate) struct Held {
     /// The position of its first symbol.
@@ -32,8 +32,10 @@ pub(crate) struct Held {
     /// The symbols skipped before it.
     pub(crate) skipped: Gap,
     pub(crate) count: usize,
-    /// The number of first symbols that still belong to a dummy frame. After them a frame may begin.
+    /// The number of first symbols that still belong to a frame: to a dummy frame, or to a lost one.
     pub(crate) inside: usize,
+    /// Whether that frame is lost. Then it is searched again.
+    pub(crate) again: bool,
     /// Whether a frame ended right before the first symbol that belongs to none.
     pub(crate) behind: bool,
 }
@@ -43,177 +45,307 @@ impl Held {
     pub(crate) fn nothing(at: u64, behind: bool) -> Held
         ensures window { (buffer : List SymbolValue) → window_of result buffer ≡ window_at at behind }
         ensures count { result.count ≡ 0 }
+        ensures again { result.again ≡ false }
     {
         Held {
             at,
             skipped: Gap::none(),
             count: 0,
             inside: 0,
+            again: false,
             behind,
         }
     }
 }
 
 /// Puts the symbols of these bytes after those that are held.
-fn fill(bytes: &[u8], frame: &mut [Symbol], held: &mut Held)
-    requires room { held.old.count + length bytes.now / 4 ≤ length frame.old }
-    ensures window { window_of held.new frame.new ≡ record (window_of held.old frame.old) { symbols = take held.old.count frame.old ++ symbols_of bytes.now } }
-    ensures count { held.new.count ≡ held.old.count + length bytes.now / 4 }
-    ensures size { length frame.new ≡ length frame.old }
+fn fill(bytes: &[u8], buffer: &mut [Symbol], held: &mut Held)
+    requires room { held.old.count + length bytes.now / 4 ≤ length buffer.old }
+    ensures window { window_of held.new buffer.new ≡ record (window_of held.old buffer.old) { symbols = take held.old.count buffer.old ++ symbols_of bytes.now } }
+    ensures held { held.new ≡ record held.old { count = held.old.count + length bytes.now / 4 } }
+    ensures size { length buffer.new ≡ length buffer.old }
 {
     let start = held.count;
     let count = bytes.len() / 4;
-    symbols_into(&bytes[..4 * count], &mut frame[start..start + count]);
+    symbols_into(&bytes[..4 * count], &mut buffer[start..start + count]);
     held.count = start + count;
 }
 
-/// The cut frame or the end, at the stream's end. Fewer symbols are held than a frame has.
+/// Drops the first n symbols that are held. The others move to the front.
+fn drop_front(buffer: &mut [Symbol], held: &mut Held, n: usize)
+    requires some { n ≤ held.old.count }
+    requires count { held.old.count ≤ length buffer.old }
+    requires place { held.old.at + held.old.count ≤ max_symbols }
+    ensures symbols { take held.new.count buffer.new ≡ drop n (take held.old.count buffer.old) }
+    ensures held { held.new ≡ record held.old { at = held.old.at + n; count = held.old.count - n } }
+    ensures size { length buffer.new ≡ length buffer.old }
+{
+    buffer.copy_within(n.., 0);
+    held.at += n as u64;
+    held.count -= n;
+}
+
+/// Drops the frame that the symbols held begin with, or only its first symbol if it is searched again.
+pub(crate) fn pass_frame(buffer: &mut [Symbol], size: usize, held: &mut Held, again: bool)
+    requires size { (header_symbols ≤ size) × (size ≤ held.old.count) }
+    requires count { held.old.count ≤ length buffer.old }
+    requires place { held.old.at + held.old.count ≤ max_symbols }
+    ensures window { window_of held.new buffer.new ≡ passed_by again size (window_of held.old buffer.old) }
+    ensures few { held.new.count < held.old.count }
+    ensures rest { held.new.again ≡ true → (again ≡ true) × (held.new.inside ≡ size - 1) × (size ≤ held.new.count + 1) }
+    ensures long { length buffer.new ≡ length buffer.old }
+{
+    drop_front(buffer, held, if again { 1 } else { size });
+    held.skipped = Gap::none();
+    held.inside = if again { size - 1 } else { 0 };
+    held.again = again;
+    held.behind = true;
+}
+
+/// Goes on with the search of a lost frame, in a buffer that is full or at the stream's end. Returns whether more
+/// symbols are needed. If not, the symbols before the place at which a frame may begin still belong to the lost one.
+/// It needs more if the header of a coded frame begins, and the next header is not there yet. Then this header is moved
+/// to the front.
+fn resume(
+    search: &mut Search,
+    max_header_errors: HeaderTolerance,
+    buffer: &mut [Symbol],
+    size: usize,
+    held: &mut Held,
+) -> bool
+    requires size { (header_symbols ≤ size) × (size ≤ 2 ^ 31) × (length buffer.old ≤ size + header_symbols) }
+    requires count { held.old.count ≤ length buffer.old }
+    requires place { held.old.at + held.old.count ≤ max_symbols }
+    requires rest { held.old.again ≡ true → RestOfLost size (length buffer.old) held.old }
+    ensures met { (lost : List SymbolValue → Bool) (coming : List SymbolValue) → (held.old.again ≡ true → MayFollow size (take held.old.count buffer.old) coming) →
+        met_within (found_as search.old.sought max_header_errors) lost size (window_of held.old buffer.old) coming ≡ met_within (found_as search.old.sought max_header_errors) lost size (window_of held.new buffer.new) coming }
+    ensures stays { result ≡ false → (held.new.again ≡ false) × (held.new.at ≡ held.old.at) × (held.new.count ≡ held.old.count) }
+    ensures moved { result ≡ true → (held.old.at < held.new.at) × (held.new.at + held.new.count ≡ held.old.at + held.old.count) × (held.old.count ≡ length buffer.old) }
+    ensures ended { held.old.count < length buffer.old → result ≡ false }
+    ensures rest { held.new.again ≡ true → RestOfLost size (length buffer.old) held.new }
+    ensures skipped { held.new.skipped ≡ held.old.skipped }
+    ensures long { length buffer.new ≡ length buffer.old }
+    ensures same { search.new.sought ≡ search.old.sought }
+{
+    if !held.again {
+        return false;
+    }
+    let symbols = &buffer[..held.count];
+    let place = first_candidate(search, max_header_errors, symbols, size, held.inside);
+    if held.count < buffer.len() || place == 0 || place == held.inside {
+        held.again = false;
+        held.inside = place;
+        return false;
+    }
+    drop_front(buffer, held, place);
+    held.inside -= place;
+    held.behind = true;
+    true
+}
+
+/// Drops the first n symbols that are held, before the place that a scan reached.
+fn stand_before(buffer: &mut [Symbol], held: &mut Held, scan: Scan, n: usize)
+    requires some { (n ≤ held.old.count) × (n ≤ scan.place) }
+    requires count { held.old.count ≤ length buffer.old }
+    requires place { held.old.at + held.old.count ≤ max_symbols }
+    ensures window { window_of held.new buffer.new ≡ record { at = held.old.at + n; skipped = scan.skipped; inside = scan.place - n; again = false; behind = scan.behind; symbols = drop n (take held.old.count buffer.old) } }
+    ensures held { held.new ≡ record { at = held.old.at + n; skipped = scan.skipped; count = held.old.count - n; inside = scan.place - n; again = false; behind = scan.behind } }
+    ensures size { length buffer.new ≡ length buffer.old }
+{
+    drop_front(buffer, held, n);
+    held.skipped = scan.skipped;
+    held.inside = scan.place - n;
+    held.again = false;
+    held.behind = scan.behind;
+}
+
+/// The next frame, the cut frame or the end, at the stream's end. If it is a frame, the symbols held begin with it.
 fn meet_last(
     search: &mut Search,
     max_header_errors: HeaderTolerance,
-    frame: &[Symbol],
-    held: Held,
+    buffer: &mut [Symbol],
+    size: usize,
+    held: &mut Held,
 ) -> Next
-    requires few { held.count < length frame.now }
-    requires size { length frame.now ≤ 2 ^ 32 }
-    requires place { held.at + held.count ≤ max_symbols }
-    requires skipped { held.skipped.symbols ≤ held.at }
-    ensures met { met_within (found_as search.old.sought max_header_errors) (length frame.now) (window_of held frame.now) []
-        ≡ met_of result frame.now ∷ met_then (found_as search.old.sought max_header_errors) (length frame.now) result [] }
-    ensures place { place_after (length frame.now) result ≡ held.at + held.count }
-    ensures behind { IsBehind held.at held.skipped result }
+    requires size { (header_symbols ≤ size) × (size ≤ length buffer.old) × (length buffer.old ≤ 2 ^ 32) }
+    requires count { held.old.count < length buffer.old }
+    requires again { held.old.again ≡ false }
+    requires place { held.old.at + held.old.count ≤ max_symbols }
+    requires skipped { held.old.skipped.symbols ≤ held.old.at }
+    ensures takes { (lost : List SymbolValue → Bool) → Takes (found_as search.old.sought max_header_errors) lost size (length buffer.old) (window_of held.old buffer.old)
+        (window_after lost size (Some result) (window_of held.new buffer.new)) [] false (take size buffer.new) (Some result) }
+    ensures holds { HoldsFor size (Some result) held.new.count (length buffer.old) }
+    ensures reached { held.new.at + held.new.count ≡ held.old.at + held.old.count }
+    ensures again { held.new.again ≡ false }
+    ensures long { length buffer.new ≡ length buffer.old }
     ensures same { search.new.sought ≡ search.old.sought }
 {
     let scan = look_through(
         search,
         max_header_errors,
-        &frame[..held.count],
+        &buffer[..held.count],
         held.at,
         held.inside,
         held.behind,
         held.skipped,
     );
+    let end = held.at + held.count as u64;
     if scan.coded {
-        Next::Cut {
-            at: held.at + scan.place as u64,
-            skipped: scan.skipped,
-            count: (held.count - scan.place) as u64,
+        let at = held.at + scan.place as u64;
+        let skipped = scan.skipped;
+        let count = held.count - scan.place;
+        if count < size {
+            *held = Held::nothing(end, true);
+            return Next::Cut {
+                at,
+                skipped,
+                count: count as u64,
+            };
         }
-    } else {
-        Next::End {
-            at: held.at + held.count as u64,
-            skipped: scan.skipped.extended(held.at, scan.place, held.count),
-        }
+        stand_before(buffer, held, scan, scan.place);
+        return Next::Frame { at, skipped };
+    }
+    let last = scan.skipped.extended(held.at, scan.place, held.count);
+    *held = Held::nothing(end, true);
+    Next::End {
+        at: end,
+        skipped: last,
     }
 }
 
 /// Moves the symbols that may begin a frame to the front of a full buffer: those from the first coded frame's
 /// header on, or else those after the last dummy frame, at most 89. Returns whether symbols left the buffer.
-/// If none did, the buffer is a frame.
+/// If none did, the buffer begins with a frame.
 fn skip_to_header(
     search: &mut Search,
     max_header_errors: HeaderTolerance,
-    frame: &mut [Symbol],
+    buffer: &mut [Symbol],
+    size: usize,
     held: &mut Held,
 ) -> bool
-    requires size { (header_symbols ≤ length frame.old) × (length frame.old ≤ 2 ^ 32) }
-    requires full { held.old.count ≡ length frame.old }
+    requires size { (header_symbols ≤ size) × (size ≤ length buffer.old) × (length buffer.old ≤ 2 ^ 32) }
+    requires full { held.old.count ≡ length buffer.old }
+    requires again { held.old.again ≡ false }
     requires place { held.old.at + held.old.count ≤ max_symbols }
     requires skipped { held.old.skipped.symbols ≤ held.old.at }
-    ensures stands { result ≡ false → (coming : List SymbolValue) → met_within (found_as search.old.sought max_header_errors) (length frame.old) (window_of held.old frame.old) coming
-        ≡ met_frame held.new.at held.new.skipped frame.new ∷ met_within (found_as search.old.sought max_header_errors) (length frame.old) (window_at (held.old.at + held.old.count) true) coming }
-    ensures held { result ≡ false → (held.new.at ≡ held.old.at) × (held.new.skipped.symbols ≤ held.old.skipped.symbols) }
-    ensures moved { result ≡ true → (coming : List SymbolValue) → met_within (found_as search.old.sought max_header_errors) (length frame.old) (window_of held.old frame.old) coming
-        ≡ met_within (found_as search.old.sought max_header_errors) (length frame.old) (window_of held.new frame.new) coming }
-    ensures further { result ≡ true → (held.old.at < held.new.at) × (held.new.at + held.new.count ≡ held.old.at + held.old.count) }
-    ensures skipped { result ≡ true → held.old.at + held.new.skipped.symbols ≤ held.new.at + held.old.skipped.symbols }
-    ensures long { length frame.new ≡ length frame.old }
+    ensures stands { result ≡ false → (lost : List SymbolValue → Bool) → Takes (found_as search.old.sought max_header_errors) lost size (length buffer.old) (window_of held.old buffer.old)
+        (passed_by (lost (take size (take held.new.count buffer.new))) size (window_of held.new buffer.new)) [] true (take size buffer.new) (Some (next.Frame held.new.at held.new.skipped)) }
+    ensures moved { result ≡ true → (lost : List SymbolValue → Bool) → Takes (found_as search.old.sought max_header_errors) lost size (length buffer.old) (window_of held.old buffer.old) (window_of held.new buffer.new) [] true (take size buffer.new) None }
+    ensures count { held.new.count ≤ length buffer.old }
+    ensures full { result ≡ false → held.new.count ≡ length buffer.old }
+    ensures fewer { result ≡ true → held.new.count < length buffer.old }
+    ensures reached { held.new.at + held.new.count ≡ held.old.at + held.old.count }
+    ensures again { held.new.again ≡ false }
+    ensures long { length buffer.new ≡ length buffer.old }
     ensures same { search.new.sought ≡ search.old.sought }
 {
-    let size = frame.len();
     let scan = look_through(
         search,
         max_header_errors,
-        frame,
+        buffer,
         held.at,
         held.inside,
         held.behind,
         held.skipped,
     );
-    if scan.place == 0 {
-        held.skipped = scan.skipped;
-        return false;
-    }
-    let gone = scan.place.min(size);
-    frame.copy_within(gone.., 0);
-    *held = Held {
-        at: held.at + gone as u64,
-        skipped: scan.skipped,
-        count: size - gone,
-        inside: scan.place - gone,
-        behind: scan.behind,
-    };
-    true
+    stand_before(buffer, held, scan, scan.place.min(held.count));
+    scan.place > 0
 }
 
-/// Looks for a frame in the symbols that are held. All wanted symbols came (`whole`), or the stream ended. Returns
-/// the next frame or the end, or nothing if more symbols are needed.
+/// Looks for a frame in the symbols that are held, after all wanted symbols came. Returns the next frame, or nothing if
+/// more symbols are needed. If it is a frame, the symbols held begin with it.
 ///
 /// No frame begins before the buffer's first symbol. Only a full buffer is searched. Then the symbols from the header
 /// on, or the last 89, move to the front. If a dummy frame reaches past them, none are kept.
-fn look(
+fn look_on(
     search: &mut Search,
     max_header_errors: HeaderTolerance,
-    frame: &mut [Symbol],
+    buffer: &mut [Symbol],
+    size: usize,
     held: &mut Held,
-    whole: bool,
 ) -> Option<Next>
-    requires size { (header_symbols ≤ length frame.old) × (length frame.old ≤ 2 ^ 32) }
-    requires count { held.old.count ≤ length frame.old }
-    requires last { whole ≡ false → held.old.count < length frame.old }
+    requires size { (header_symbols ≤ size) × (size ≤ 2 ^ 31) × (size ≤ length buffer.old) × (length buffer.old ≤ size + header_symbols) }
+    requires count { held.old.count ≤ length buffer.old }
     requires place { held.old.at + held.old.count ≤ max_symbols }
     requires skipped { held.old.skipped.symbols ≤ held.old.at }
-    ensures takes { Takes (found_as search.old.sought max_header_errors) (length frame.old) (window_of held.old frame.old) (window_of held.new frame.new) [] whole frame.new result }
-    ensures count { held.new.count < length frame.old }
-    ensures long { length frame.new ≡ length frame.old }
+    requires rest { held.old.again ≡ true → RestOfLost size (length buffer.old) held.old }
+    ensures takes { (lost : List SymbolValue → Bool) → Takes (found_as search.old.sought max_header_errors) lost size (length buffer.old) (window_of held.old buffer.old)
+        (window_after lost size result (window_of held.new buffer.new)) [] true (take size buffer.new) result }
+    ensures holds { HoldsFor size result held.new.count (length buffer.old) }
+    ensures reached { held.new.at + held.new.count ≡ held.old.at + held.old.count }
+    ensures rest { held.new.again ≡ true → RestOfLost size (length buffer.old) held.new }
+    ensures long { length buffer.new ≡ length buffer.old }
     ensures same { search.new.sought ≡ search.old.sought }
 {
-    if !whole {
-        let next = meet_last(search, max_header_errors, frame, *held);
-        *held = Held::nothing(held.at + held.count as u64, true);
-        return Some(next);
-    }
-    if held.count < frame.len() || skip_to_header(search, max_header_errors, frame, held) {
+    if held.count < buffer.len() {
         return None;
     }
-    let next = Next::Frame {
+    if resume(search, max_header_errors, buffer, size, held) {
+        return None;
+    }
+    if skip_to_header(search, max_header_errors, buffer, size, held) {
+        return None;
+    }
+    Some(Next::Frame {
         at: held.at,
         skipped: held.skipped,
-    };
-    *held = Held::nothing(held.at + frame.len() as u64, true);
-    Some(next)
+    })
+}
+
+/// Looks for the next frame, the cut frame or the end in the symbols that are held, after the stream ended. If it is a
+/// frame, the symbols held begin with it.
+fn look_last(
+    search: &mut Search,
+    max_header_errors: HeaderTolerance,
+    buffer: &mut [Symbol],
+    size: usize,
+    held: &mut Held,
+) -> Next
+    requires size { (header_symbols ≤ size) × (size ≤ 2 ^ 31) × (size ≤ length buffer.old) × (length buffer.old ≤ size + header_symbols) }
+    requires count { held.old.count < length buffer.old }
+    requires place { held.old.at + held.old.count ≤ max_symbols }
+    requires skipped { held.old.skipped.symbols ≤ held.old.at }
+    requires rest { held.old.again ≡ true → RestOfLost size (length buffer.old) held.old }
+    ensures takes { (lost : List SymbolValue → Bool) → Takes (found_as search.old.sought max_header_errors) lost size (length buffer.old) (window_of held.old buffer.old)
+        (window_after lost size (Some result) (window_of held.new buffer.new)) [] false (take size buffer.new) (Some result) }
+    ensures holds { HoldsFor size (Some result) held.new.count (length buffer.old) }
+    ensures reached { held.new.at + held.new.count ≡ held.old.at + held.old.count }
+    ensures rest { held.new.again ≡ true → RestOfLost size (length buffer.old) held.new }
+    ensures long { length buffer.new ≡ length buffer.old }
+    ensures same { search.new.sought ≡ search.old.sought }
+{
+    resume(search, max_header_errors, buffer, size, held);
+    meet_last(search, max_header_errors, buffer, size, held)
 }
 
 /// Takes the symbols of these bytes: all that are wanted (`whole`), or the last ones of the stream. Returns the next
-/// frame or the end, or nothing if more symbols are needed.
+/// frame or the end, or nothing if more symbols are needed. If it is a frame, the symbols held begin with it.
 pub(crate) fn take_symbols(
     search: &mut Search,
     max_header_errors: HeaderTolerance,
     bytes: &[u8],
-    frame: &mut [Symbol],
+    buffer: &mut [Symbol],
+    size: usize,
     held: &mut Held,
     whole: bool,
 ) -> Option<Next>
-    requires size { (header_symbols ≤ length frame.old) × (length frame.old ≤ 2 ^ 32) }
-    requires room { held.old.count + length bytes.now / 4 ≤ length frame.old }
-    requires last { whole ≡ false → held.old.count + length bytes.now / 4 < length frame.old }
+    requires size { (header_symbols ≤ size) × (size ≤ 2 ^ 31) × (size ≤ length buffer.old) × (length buffer.old ≤ size + header_symbols) }
+    requires room { held.old.count + length bytes.now / 4 ≤ length buffer.old }
+    requires last { whole ≡ false → held.old.count + length bytes.now / 4 < length buffer.old }
     requires place { held.old.at + held.old.count + length bytes.now / 4 ≤ max_symbols }
     requires skipped { held.old.skipped.symbols ≤ held.old.at }
-    ensures takes { Takes (found_as search.old.sought max_header_errors) (length frame.old) (window_of held.old frame.old) (window_of held.new frame.new) (symbols_of bytes.now) whole frame.new result }
-    ensures count { held.new.count < length frame.old }
-    ensures long { length frame.new ≡ length frame.old }
+    requires rest { held.old.again ≡ true → RestOfLost size (length buffer.old) held.old }
+    ensures takes { (lost : List SymbolValue → Bool) → Takes (found_as search.old.sought max_header_errors) lost size (length buffer.old) (window_of held.old buffer.old)
+        (window_after lost size result (window_of held.new buffer.new)) (symbols_of bytes.now) whole (take size buffer.new) result }
+    ensures holds { HoldsFor size result held.new.count (length buffer.old) }
+    ensures reached { held.new.at + held.new.count ≡ held.old.at + held.old.count + length bytes.now / 4 }
+    ensures rest { held.new.again ≡ true → RestOfLost size (length buffer.old) held.new }
+    ensures long { length buffer.new ≡ length buffer.old }
     ensures same { search.new.sought ≡ search.old.sought }
 {
-    fill(bytes, frame, held);
-    look(search, max_header_errors, frame, held, whole)
+    fill(bytes, buffer, held);
+    if whole {
+        return look_on(search, max_header_errors, buffer, size, held);
+    }
+    Some(look_last(search, max_header_errors, buffer, size, held))
 }

@@ -77,6 +77,7 @@ fn tuning_of(mode: &Mode, words: TuningArguments) -> Option<Tuning> {
         figures: words.figures,
         turns: words.turns,
         equalize: words.equalize,
+        resync: words.resync,
     };
     tuning_by(mode, wanted)
 }

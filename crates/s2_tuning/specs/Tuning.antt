@@ -11,8 +11,8 @@ use Rattle.s2_tuning.specs.Limits.{max_rounds, max_passes}
 -- The parameters of a receiver: rounds of min-sum, passes of settling, the divisor of soft values, and the factor of
 -- min-sum's messages. Then the most bits of a header that may be wrong right after a frame, and whether what min-sum
 -- finds stays uncertified. With no passes a certificate comes from greedy amounts and spreading. Then whether there are
--- figures of each frame, whether frames are also received that are rotated by quarter turns, and whether each symbol is
--- divided by the gain of the channel
+-- figures of each frame, whether frames are also received that are rotated by quarter turns, whether each symbol is divided by
+-- the gain of the channel, and whether the symbols of lost frames are searched again
 pub record Tuning : Type 0 where
   pub rounds : ℕ
   pub passes : ℕ
@@ -23,12 +23,13 @@ pub record Tuning : Type 0 where
   pub figures : Bool
   pub turns : Bool
   pub equalize : Bool
+  pub resync : Bool
 
 -- these rounds and passes, and the default divisor, factor and limit of wrong header bits, with certificates, and without
--- figures, rotations and the equalizer
+-- figures, rotations, the equalizer and a second search of lost frames
 abbrev pub tuning_of : ℕ → ℕ → Tuning
 tuning_of rounds passes =
-    record { rounds = rounds; passes = passes; divisor = default_divisor; factor = default_factor; max_header_errors = header_threshold; uncertified = false; figures = false; turns = false; equalize = false }
+    record { rounds = rounds; passes = passes; divisor = default_divisor; factor = default_factor; max_header_errors = header_threshold; uncertified = false; figures = false; turns = false; equalize = false; resync = false }
 
 -- At least one round of min-sum, and rounds and passes within their limits. A divisor, a factor and a limit of
 -- wrong header bits in their ranges. No passes if min-sum's words stay uncertified

@@ -26,7 +26,8 @@ pub const MAX_PASSES: u32 = 1000;
 /// header may be wrong right after a frame. If it is uncertified, there are no passes, and no certificate is looked for
 /// when min-sum finds a codeword. With figures a receiver measures each frame that it decides; what it decides is
 /// unchanged. It may also receive frames whose symbols are rotated by quarter turns. With the equalizer it divides each
-/// symbol by the gain of the channel before it decides.
+/// symbol by the gain of the channel before it decides. It may search the symbols of lost frames again, for a header
+/// that stands elsewhere.
 #[derive(Clone, Copy, Debug, PartialEq, Eq)]
 pub struct Tuning {
     rounds: u32,
@@ -38,6 +39,7 @@ pub struct Tuning {
     figures: bool,
     turns: bool,
     equalize: bool,
+    resync: bool,
 }
 
 impl Model for Tuning {
@@ -55,6 +57,7 @@ impl Model for Tuning {
       figures = t.figures;
       turns = t.turns;
       equalize = t.equalize;
+      resync = t.resync;
     } };
 
     ghost invariant = { λ t. IsTuning (record {
@@ -67,6 +70,7 @@ impl Model for Tuning {
       figures = t.figures;
       turns = t.turns;
       equalize = t.equalize;
+      resync = t.resync;
     }) };
 
     ghost inverse = { λ v. record {
@@ -79,13 +83,14 @@ impl Model for Tuning {
       figures = v.figures;
       turns = v.turns;
       equalize = v.equalize;
+      resync = v.resync;
     } };
 }
 
 impl Tuning {
     /// These rounds and passes, the usual divisor, 4096, and the usual factor, 12. At most 12 bits of a header may be
     /// wrong right after a frame. Certificates are looked for, there are no figures, rotated frames are not
-    /// received, and there is no equalizer. If there are two refusals, it returns the first: `BadRounds` if the rounds are
+    /// received, there is no equalizer, and lost frames are not searched again. If there are two refusals, it returns the first: `BadRounds` if the rounds are
     /// not 1 to 200, `BadPasses` if the passes are over 1000.
     pub fn new(rounds: u32, passes: u32) -> Result<Tuning, SetupFault>
         ensures is { IfOk result (λ t. t ≡ tuning_of rounds passes) }
@@ -108,6 +113,7 @@ impl Tuning {
             figures: false,
             turns: false,
             equalize: false,
+            resync: false,
         })
     }
 
@@ -178,6 +184,16 @@ impl Tuning {
     {
         Tuning {
             equalize: true,
+            ..self
+        }
+    }
+
+    /// The same, but the symbols of lost frames are searched again for the header of a frame.
+    pub fn with_resync(self) -> Tuning
+        ensures { result ≡ record self { resync = true } }
+    {
+        Tuning {
+            resync: true,
             ..self
         }
     }
@@ -253,5 +269,11 @@ impl Tuning {
         ensures { result ≡ self.equalize }
     {
         self.equalize
+    }
+    /// Whether the symbols of lost frames are searched again.
+    pub fn has_resync(self) -> bool
+        ensures { result ≡ self.resync }
+    {
+        self.resync
     }
 }

@@ -31,6 +31,7 @@ pub struct Wanted {
     pub figures: bool,
     pub turns: bool,
     pub equalize: bool,
+    pub resync: bool,
 }
 
 /// The largest number of wrong header bits that is best, for each code.
@@ -108,6 +109,14 @@ fn equalized_by(equalize: bool, tuning: Tuning) -> Tuning
     }
 }
 
+/// The same tuning, and lost frames are searched again if that is requested.
+fn resynced_by(resync: bool, tuning: Tuning) -> Tuning
+    requires { tuning.resync ≡ false }
+    ensures { result ≡ record tuning { resync = resync } }
+{
+    if resync { tuning.with_resync() } else { tuning }
+}
+
 /// The tuning of a single decision: the default rounds, and these passes and this factor. `None` if one of them is out
 /// of its range.
 pub fn judging_by(passes: u32, factor: u32, uncertified: bool) -> Option<Tuning>
@@ -140,7 +149,8 @@ fn tuning_with(best: Best, wanted: Wanted) -> Option<Tuning>
         .with_max_header_errors(max_header_errors);
     let tuning = figured_by(wanted.figures, certified_by(wanted.uncertified, tuning));
     let turns = is_set(wanted.turns, wanted.tuned);
-    Some(equalized_by(wanted.equalize, turned_by(turns, tuning)))
+    let tuning = equalized_by(wanted.equalize, turned_by(turns, tuning));
+    Some(resynced_by(wanted.resync, tuning))
 }
 
 /// The tuning of a receiver of a mode by what is asked. `None` if a number is out of its range.

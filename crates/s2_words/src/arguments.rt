@@ -215,6 +215,18 @@ pub(crate) const RESYNC: Argument = Argument {
     help: "After a wrong sync byte, continue at the next place with five sync bytes at distance 188; count the bytes left out",
 };
 
+/// The same name, for lost frames.
+pub(crate) const RESYNC_FRAMES: Argument = Argument {
+    help: "After a lost frame, search its symbols again for a header that is followed by another one frame later",
+    ..RESYNC
+};
+
+/// The same name, for packets and for lost frames.
+pub(crate) const RESYNC_BOTH: Argument = Argument {
+    help: "After a wrong sync byte, continue at the next place with five sync bytes at distance 188; count the bytes left out. After a lost frame, search its symbols again for a header that is followed by another one frame later",
+    ..RESYNC
+};
+
 pub(crate) const ROUNDS: Argument = Argument {
     name: "rounds",
     form: ArgumentKind::Valued(Value {

@@ -146,6 +146,7 @@ fn tuning_of(r: &mut Reader<'_, '_>) -> TuningArguments {
         figures: r.flag("figures"),
         turns: r.flag("turns"),
         equalize: r.flag("equalize"),
+        resync: r.flag("resync"),
     }
 }
 

@@ -53,6 +53,7 @@ pub struct TuningArguments {
     pub figures: bool,
     pub turns: bool,
     pub equalize: bool,
+    pub resync: bool,
 }
 
 /// A range of seeds, from the first to the last: `first` is at most `last`.

@@ -14,11 +14,11 @@ returns c =
       rules = IfOk-weaker c.new-2.result _ _ (λ r e.
           (let sought = e.0 ∙ (λ i. sought_of (mode.is i) (c.has_turns.ensures i)) in
           let lock = e.1 ∙ c.max_header_errors.ensures.is in
-          let link = ap (λ (x : DeciderState). x.link) e.2 ∙ d.link in
-          let tuning = ap (λ (x : DeciderState). x.tuning) e.2 ∙ d.tuning in
-          λ i. record { finds = found_as (sought i) (lock i); size = symbols_in (sought i).mode; decide = frame_decision (link i) (tuning i); limit = e.3 i })) c.new-2.ensures.parts;
+          let link = ap (λ (x : DeciderState). x.link) e.3 ∙ d.link in
+          let tuning = ap (λ (x : DeciderState). x.tuning) e.3 ∙ d.tuning in
+          λ i. record { finds = found_as (sought i) (lock i); size = symbols_in (sought i).mode; resync = (e.2 ∙ c.has_resync.ensures) i; decide = frame_decision (link i) (tuning i); limit = e.4 i })) c.new-2.ensures.parts;
       limit = search rules;
       begun = search rules;
       keeps = IfOk-weaker c.new-2.result _ _ (λ r e. all) c.new-2.ensures.parts;
-      undecided = IfOk-weaker c.new-2.result _ _ (λ r e. subst (λ (x : DeciderState). IsUndecided c.args.link.now.setup.mode x.last) (sym e.2) d.undecided) c.new-2.ensures.parts;
+      undecided = IfOk-weaker c.new-2.result _ _ (λ r e. subst (λ (x : DeciderState). IsUndecided c.args.link.now.setup.mode x.last) (sym e.3) d.undecided) c.new-2.ensures.parts;
     }

@@ -3,7 +3,7 @@ use Rattle.s2_receive.proofs.RunLemmas.{processed_none, goes, finishes, breaks_o
 use Rattle.s2_receive.proofs.run.receive_with.Goals as goal
 
 pub steps-init : goal.steps-init
-steps-init g c = record { came = ([], processed_none _ _ _, refl, refl); same = record { rules = refl; sought = refl; max_header_errors = refl; limit = refl }; live = c.requires.live; counts = (refl, refl, refl, refl) }
+steps-init g c = record { came = ([], processed_none _ _ _, refl, refl); same = record { rules = refl; sought = refl; max_header_errors = refl; resync = refl; limit = refl }; live = c.requires.live; counts = (refl, refl, refl, refl) }
 
 pub returns-then-eq-clause-runs : goal.returns-then-eq-clause-runs
 returns-then-eq-clause-runs g c =
@@ -19,7 +19,7 @@ steps-preserved g c =
     let kept = c.next_with.ensures.same in
     record {
       came = rw c.is_certified_step-all_certified.ensures on.0;
-      same = record { rules = kept.rules ∙ so.same.rules; sought = kept.sought ∙ so.same.sought; max_header_errors = kept.max_header_errors ∙ so.same.max_header_errors; limit = kept.limit ∙ so.same.limit };
+      same = record { rules = kept.rules ∙ so.same.rules; sought = kept.sought ∙ so.same.sought; max_header_errors = kept.max_header_errors ∙ so.same.max_header_errors; resync = kept.resync ∙ so.same.resync; limit = kept.limit ∙ so.same.limit };
       live = on.1;
       counts = (c.in-Ok.ensures.steps.counts.no_read (λ x. cc) ∙ so.counts.0, kept_count ∙ so.counts.1, none.0 ∙ so.counts.2, none.1 ∙ so.counts.3);
     }

@@ -1,8 +1,17 @@
-use Rattle.s2_receive.proofs.Names.{length, found_as, symbols_of, window_of}
+use Rattle.s2_receive.proofs.Names.{Some, length, take, found_as, symbols_of, window_of, window_after}
 use Rattle.s2_receive.proofs.FindSteps.{took}
 use Rattle.s2_receive.proofs.window.take_symbols.Goals as goal
 
+pub returns-then-whole-clause-takes : goal.returns-then-whole-clause-takes
+returns-then-whole-clause-takes c = λ lost.
+    let takes = rw c.fill.ensures.size at c.look_on.ensures.takes in
+    took (found_as c.args.search.now.sought c.args.max_header_errors) lost c.args.size (length c.args.buffer.now) (window_of c.args.held.now c.args.buffer.now) (window_of c.fill.new.held c.fill.new.buffer)
+    (window_after lost c.args.size c.look_on.result (window_of c.look_on.new.held c.look_on.new.buffer)) (symbols_of c.args.bytes.now) c.args.whole (take c.args.size c.look_on.new.buffer) c.look_on.result c.fill.ensures.window
+    (rw c.if-whole.true (takes lost))
+
 pub returns-clause-takes : goal.returns-clause-takes
-returns-clause-takes c =
-    took (found_as c.args.search.now.sought c.args.max_header_errors) (length c.args.frame.now) (window_of c.args.held.now c.args.frame.now) (window_of c.fill.new.held c.fill.new.frame)
-    (window_of c.look.new.held c.look.new.frame) (symbols_of c.args.bytes.now) c.args.whole c.look.new.frame c.look.result c.fill.ensures.window (rw c.fill.ensures.size at c.look.ensures.takes)
+returns-clause-takes c = λ lost.
+    let takes = rw c.fill.ensures.size at c.look_last.ensures.takes in
+    took (found_as c.args.search.now.sought c.args.max_header_errors) lost c.args.size (length c.args.buffer.now) (window_of c.args.held.now c.args.buffer.now) (window_of c.fill.new.held c.fill.new.buffer)
+    (window_after lost c.args.size (Some c.look_last.result) (window_of c.look_last.new.held c.look_last.new.buffer)) (symbols_of c.args.bytes.now) c.args.whole (take c.args.size c.look_last.new.buffer) (Some c.look_last.result) c.fill.ensures.window
+    (rw c.if-whole.false (takes lost))
