@@ -168,6 +168,7 @@ pub record IsResumed (finds : Bool → List Symbol → Found) (size n : ℕ) (sy
   pub first : (i : ℕ) → i < place → resumes finds size (drop i symbols) ≡ false
   pub there : place < n → resumes finds size (drop place symbols) ≡ true
 
+-- in any symbols, the search of a lost frame resumes at that place
 abbrev pub ResumeLaw : Type 0
 ResumeLaw = (finds : Bool → List Symbol → Found) (size n : ℕ) (symbols : List Symbol) → IsResumed finds size n symbols (resumed finds size n symbols)
 
