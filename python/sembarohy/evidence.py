@@ -93,8 +93,8 @@ class Checked(NamedTuple):
 
 
 def check(code: Code, certificate: bytes) -> Checked:
-    """Checks a certificate file against a code. No decoder takes part. Bytes that are no certificate file raise `Error`, and what is no
-    bytes `TypeError`, such as the certificate of a frame that has none."""
+    """Checks a certificate file against a code. No decoder takes part. Bytes that are no certificate file raise `Error`. Without
+    bytes it raises `TypeError`, for instance for the certificate of a frame that has none."""
     if not isinstance(certificate, (bytes, bytearray, memoryview)):
         raise TypeError(f"a certificate is the bytes of its file, not {type(certificate).__name__}")
     data, told = bytes(certificate), _library.Checked()

@@ -149,7 +149,7 @@ impl<'a> Receiver<'a> {
     }
 
     /// The number of bytes wanted next: four for each symbol that the next frame lacks, up to the limit. If lost frames are
-    /// searched again, the 90 symbols after a frame are wanted too, before it is decided. It is 0 if no symbols are needed: after a cut frame and the end, after a fault, and when the limit is reached.
+    /// searched again, the 90 symbols after a frame are read too, before it is decided. It is 0 if no symbols are needed: after a cut frame and the end, after a fault, and when the limit is reached.
     pub fn room(&self) -> usize
         ensures is { result ≡ asked (rules_for self.now) self.now.state }
         ensures few { result ≤ 4 * room_in (rules_for self.now) }

@@ -72,7 +72,7 @@ Searches rules old new symbols whole last (Some found) =
     × (taken new ≡ taken old + length symbols) × (new ≡ record old { window = new.window }) × HoldsAfter (searched_again rules) rules.size (room_in rules) found buffer new.window
     × CanCountIn new.window old.standing.totals (count_of last.delivered) found
 
--- Symbols came to a search. What was met is that of the frames that the decision calls lost, if those are searched again. If it is
+-- Symbols came to a search, and this was met. If lost frames are searched again, the decision says which frames are lost. If it is
 -- a frame, the last decision is on its symbols
 abbrev pub TakesDecided : (Bool → List Symbol → Found) → (List Symbol → Decision) → (resync : Bool) → (size : ℕ) → (old new : Window) → (symbols : List Symbol) → (whole : Bool) → Decision → Option Next → Type 0
 TakesDecided finds decide resync size old new symbols whole last found =

@@ -78,7 +78,7 @@ pub record Rules : Type 0 where
 abbrev pub searched_again : Rules → List Symbol → Bool
 searched_again rules symbols = rules.resync && is_lost (rules.decide symbols)
 
--- the number of symbols that the search holds before it tells of a frame
+-- the number of symbols that the search holds before it reports a frame
 abbrev pub room_in : Rules → ℕ
 room_in rules = room_for rules.resync rules.size
 
@@ -322,7 +322,7 @@ pub record Handles (rules : Rules) (old new : State) (met : Met) (packets : List
   pub packets_are : packets ≡ packets_of rules old.standing met
 
 -- It ends at this position of the stream, up to which symbols were taken. For a frame no more were taken than the search holds
--- before it tells of one: if lost frames are not searched again, just those of the frame
+-- before it reports one. If lost frames are not searched again, these are the symbols of the frame alone
 abbrev pub EndsAt : (size room : ℕ) → Met → ℕ → Type 0
 EndsAt size room (frame at skipped symbols) place = (at + size ≤ place) × (place ≤ at + room)
 EndsAt size room (cut at skipped count) place = place ≡ at + count
@@ -339,7 +339,7 @@ pub record Steps (rules : Rules) (old new : State) (symbols : List Symbol) (whol
   pub decided : IsDecided rules met last
 
 -- No step yet: all wanted symbols came, and nothing is met in them. They were taken. Fewer symbols are held now than the
--- search has room for, so that the receiver wants more of them, unless its limit is reached.
+-- search has room for, so that the receiver requires more of them, unless its limit is reached.
 pub record Waits (rules : Rules) (old new : State) (symbols : List Symbol) (whole : Bool) : Type 0 where
   pub all : whole ≡ true
   pub searching : old.phase ≡ phases.Searching

@@ -15,9 +15,9 @@ use Rattle.s2_receive.specs.declared.header_search.Scan.{Scan}
 
 -- ---- the symbols held
 
--- The symbols of a stream that a search holds, the position of the first one, and the gap before it. Also: the number of
--- first symbols that still belong to a frame; whether that frame is lost, so that they are searched again, or a dummy frame;
--- and whether a frame ended right before the first that belongs to none.
+-- The symbols of a stream that a search holds, the position of the first one, and the gap before it. Also the number of
+-- first symbols that still belong to a frame. That frame is lost, so that they are searched again, or it is a dummy frame. Then
+-- whether a frame ended right before the first symbol that belongs to none.
 pub record Window : Type 0 where
   pub at : ℕ
   pub skipped : Gap
@@ -38,7 +38,7 @@ window_of held buffer = record { at = held.at; skipped = held.skipped; inside = 
 abbrev pub reached : Window → ℕ
 reached w = w.at + length w.symbols
 
--- The number of symbols that a search holds before it tells of a frame of this size: those of the frame. If lost frames are
+-- The number of symbols that a search holds before it reports a frame of this size: those of the frame. If lost frames are
 -- searched again, also those of the next header
 abbrev pub room_for : (resync : Bool) → ℕ → ℕ
 room_for resync size = if resync then size + header_symbols else size

@@ -28,8 +28,8 @@ pub fn searching()
     ensures { SearchLaw }
 {}
 
-/// In a lost frame the search resumes at the first place where the header of a coded frame begins and one frame later
-/// another header or the end of the stream comes. If there is no such place, it resumes after the frame.
+/// In a lost frame the search resumes at the first header of a coded frame that is followed, one frame later, by another header
+/// or by the end of the stream. If there is none, it resumes after the frame.
 pub fn resuming()
     ensures { ResumeLaw }
 {}

@@ -6,7 +6,7 @@
 //!
 //! Its core does no input or output. [`Receiver::room`] returns how many bytes are wanted, and [`Receiver::advance`]
 //! takes them. It returns the next step as soon as all its symbols are there: the first coded frame at or after the end
-//! of the last one, a frame that lacks symbols, or the end. If it is told so, a frame may also begin in a lost one. Then the decision ([`Receiver::decider`]) and the packets
+//! of the last one, a frame that lacks symbols, or the end. With `resync` a frame may also begin in a lost one. Then the decision ([`Receiver::decider`]) and the packets
 //! that end in the frame ([`Receiver::packets`]) can be read. [`Receiver::next`] reads, advances, writes these packets,
 //! and then writes the step's line (`src/lines.rt`). [`receive_all`] and [`receive_bytes`] take all steps. Only
 //! [`Receiver::new`] allocates memory.

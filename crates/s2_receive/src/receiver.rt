@@ -87,8 +87,8 @@ impl<D: Decide> Receiver<D> {
     /// A receiver of the frames of a mode that takes at most `limit` symbols in all, with the memory that
     /// its steps use. With `turns` frames are also found whose symbols are rotated by quarter turns. Right after a frame,
     /// `max_header_errors` is the number of wrong bits that a header may have. With `resync` the search continues in a
-    /// frame that is lost: at the first place after its first symbol where the header of a coded frame begins, by the
-    /// usual test, and one frame later another header or the stream's end comes.
+    /// frame that is lost, after its first symbol. It takes the first header of a coded frame, by the usual test, that is followed, one
+    /// frame later, by another header or by the stream's end.
     /// `AllocError` only if an allocation was refused.
     pub fn new(
         alloc: Global,
@@ -166,7 +166,7 @@ impl<D: Decide> Receiver<D> {
     }
 
     /// The number of bytes wanted next: four for each symbol that the next frame lacks, up to the limit. With `resync` the
-    /// 90 symbols after a frame are wanted too, before it is decided. It is 0 if no symbols are needed: after a cut frame and the end, after a fault, and when the limit is reached.
+    /// 90 symbols after a frame are read too, before it is decided. It is 0 if no symbols are needed: after a cut frame and the end, after a fault, and when the limit is reached.
     pub fn room(&self) -> usize
         ensures is { result ≡ asked (rules_of D.decide self.now) self.now.state }
         ensures few { result ≤ 4 * room_for self.now.resync (symbols_in self.now.sought.mode) }

@@ -252,7 +252,7 @@ fn skip_to_header(
     scan.place > 0
 }
 
-/// Looks for a frame in the symbols that are held, after all wanted symbols came. Returns the next frame, or nothing if
+/// Looks for a frame in the symbols that are held, when the buffer is full. Returns the next frame, or nothing if
 /// more symbols are needed. If it is a frame, the symbols held begin with it.
 ///
 /// No frame begins before the buffer's first symbol. Only a full buffer is searched. Then the symbols from the header

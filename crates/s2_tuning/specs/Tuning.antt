@@ -11,8 +11,8 @@ use Rattle.s2_tuning.specs.Limits.{max_rounds, max_passes}
 -- The parameters of a receiver: rounds of min-sum, passes of settling, the divisor of soft values, and the factor of
 -- min-sum's messages. Then the most bits of a header that may be wrong right after a frame, and whether what min-sum
 -- finds stays uncertified. With no passes a certificate comes from greedy amounts and spreading. Then whether there are
--- figures of each frame, whether frames are also received that are rotated by quarter turns, whether each symbol is divided by
--- the gain of the channel, and whether the symbols of lost frames are searched again
+-- figures of each frame, and whether frames are also received that are rotated by quarter turns. Then whether each symbol is
+-- divided by the gain of the channel, and whether the symbols of lost frames are searched again
 pub record Tuning : Type 0 where
   pub rounds : ℕ
   pub passes : ℕ

@@ -27,7 +27,7 @@ pub const MAX_PASSES: u32 = 1000;
 /// when min-sum finds a codeword. With figures a receiver measures each frame that it decides; what it decides is
 /// unchanged. It may also receive frames whose symbols are rotated by quarter turns. With the equalizer it divides each
 /// symbol by the gain of the channel before it decides. It may search the symbols of lost frames again, for a header
-/// that stands elsewhere.
+/// elsewhere.
 #[derive(Clone, Copy, Debug, PartialEq, Eq)]
 pub struct Tuning {
     rounds: u32,
