@@ -1,5 +1,5 @@
 -- Where a search stands after some moves, and what is met from there on.
-use Rattle.s2_modem.proofs.Names.{◌≡◌, ℕ, zero, suc, ◌+◌, ◌-◌, ◌<◌, ◌≤◌, Bool, true, false, List, [], ◌∷◌, ◌++◌, length, take, drop, inl, inr, cases_lt, refl, sym, ap, ◌∙◌, subst, append_assoc, length-append, length-drop, length-take, length-take-le, take-take, take-append-drop, drop-drop, drop_all, cond-true, cond-false, le-leb, lt-leb, and-true, and_right, arith, ◌&&◌, nat_eq, Mode, symbols_in, Symbol, Found, Tuning, Link, Gap, Report, cut_line, Met, frame, cut, ended, no_gap, extended, begins, met_from, met-extended, met-dummy, met-inside, behind_or, front_frame, rest_of, cut_frame, is_searched_again, passed_at, symbols_least, Rules, Standing, at_start, report_of, after, found_as, link_rules, frame_from, Place, found_at, past, stands, IsFrameAt, IsCutAt, IsNext, IsWholeFrame, frame_decision, report_at, sought_by}
+use Rattle.s2_modem.proofs.Names.{◌≡◌, ℕ, zero, suc, ◌+◌, ◌-◌, ◌<◌, ◌≤◌, Bool, true, false, List, [], ◌∷◌, ◌++◌, length, take, drop, inl, inr, cases_lt, refl, sym, ap, ◌∙◌, subst, append_assoc, length-append, length-drop, length-take, take-take, drop-drop, drop_all, cond-true, cond-false, le-leb, lt-leb, and-true, and_right, arith, ◌&&◌, nat_eq, Mode, symbols_in, Symbol, Found, Tuning, Link, Gap, Report, cut_line, Met, frame, cut, ended, no_gap, extended, begins, met_from, met-extended, met-dummy, met-inside, behind_or, front_frame, rest_of, cut_frame, is_searched_again, passed_at, symbols_least, Rules, Standing, at_start, report_of, after, found_as, link_rules, frame_from, Place, found_at, past, stands, IsFrameAt, IsCutAt, IsNext, IsWholeFrame, frame_decision, report_at, sought_by}
 use Rattle.s2_modem.proofs.Names.founds
 
 -- the reports of frames that were met, and the line of one that is cut
