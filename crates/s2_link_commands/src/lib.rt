@@ -6,7 +6,7 @@
 //!
 //! ```text
 //! let options = DemodOptions { .. };
-//! with_link(rt, terminal, LinkRequest::Demod(words, &options), console, notes)
+//! with_link(opener, terminal, LinkRequest::Demod(words, &options), console, notes)
 //! ```
 #![tactic(auto)]
 
@@ -16,4 +16,4 @@ mod records;
 mod setup;
 
 pub use link_request::{LinkRequest, with_link};
-pub use setup::{mode_of, setup_of};
+pub use setup::setup_of;

@@ -1,21 +1,21 @@
 //! The commands on a link: what each needs of its words, and how it runs on its files. This is plain code.
-ghost use Rattle.std.specs.Prelude.{◌≡◌, ◌≢◌, ◌+◌, ◌≤◌, OnErr};
+ghost use Rattle.std.specs.Prelude.{◌≡◌, ◌≢◌, ◌+◌, ◌≤◌, IfOk, OnErr};
 ghost use Rattle.s2_mode.specs.Counts.{CanCount};
 ghost use Rattle.s2_console.specs.Files.{CanStart};
 ghost use Rattle.s2_console.specs.Screens.{CanNote};
 ghost use Rattle.s2_receive.specs.Sinks.{wanted_count};
 
-use crate::opening::{Reading, open_link};
+use crate::opening::{Reading, Watching, open_link};
 use crate::records::{Records, finish_command, open_records};
 use crate::setup::setup_of;
 use s2_commands::{DemodOptions, LinkFiles, RunOptions, demod_command, mod_command, run_command};
-use s2_console::{Console, Exit, Fault};
-use s2_files::{Disk, Opener, Output, Truncating};
+use s2_console::{Console, Exit};
+use s2_files::{Disk, Output, Truncating};
 use s2_link::LinkSetup;
 use s2_mode::{CountedRead, CountedWrite, Mode};
 use s2_notes::{exit_after, note_beginning, note_left_out};
-use s2_opening::show_on;
-use s2_progress::{Pace, Show, Terminal};
+use s2_opening::{Opens, Unserved, show_on};
+use s2_progress::{Meter, Pace, Show, Terminal};
 use s2_resync::LeftOut;
 use s2_words::{
     DemodArguments, LinkArguments, ModArguments, Progress, RecordArguments, RunArguments, Seeds,
@@ -31,95 +31,89 @@ pub enum LinkRequest<'w, 'a> {
     Run(&'w RunArguments<'a>, &'w RunOptions),
 }
 
-impl<'w, 'a> LinkRequest<'w, 'a> {
-    /// The options of its link.
-    fn link(self) -> LinkArguments {
-        match self {
-            LinkRequest::Mod(words) => words.link,
-            LinkRequest::Demod(words, _) => words.link,
-            LinkRequest::Run(words, _) => words.link,
-        }
-    }
-
+/// The words of a request that its command does not take: those on its files and on its progress.
+#[derive(Clone, Copy)]
+struct FileWords<'a> {
+    link: LinkArguments,
     /// The names of its row file, its input and its output, in the order in which they are opened.
-    fn names(self) -> [&'a str; 3] {
-        match self {
-            LinkRequest::Mod(words) => [words.rows, words.packets, words.symbols],
-            LinkRequest::Demod(words, _) => [words.rows, words.symbols, words.packets],
-            LinkRequest::Run(words, _) => [words.rows, words.packets, words.to],
-        }
-    }
-
-    /// The names of its files of records.
-    fn records(self) -> RecordArguments<'a> {
-        match self {
-            LinkRequest::Mod(words) => words.records,
-            LinkRequest::Demod(words, _) => words.records,
-            LinkRequest::Run(words, _) => words.records,
-        }
-    }
-
-    /// Whether its input has a buffer. `demod` reads many bytes at a time, so its symbols have none.
-    fn is_buffered(self) -> bool {
-        match self {
-            LinkRequest::Mod(_) | LinkRequest::Run(_, _) => true,
-            LinkRequest::Demod(_, _) => false,
-        }
-    }
-
-    /// Whether, after a wrong sync byte, it continues at the next place at which packets begin.
-    fn resyncs(self) -> bool {
-        match self {
-            LinkRequest::Mod(words) => words.resync,
-            LinkRequest::Run(words, _) => words.resync,
-            LinkRequest::Demod(_, _) => false,
-        }
-    }
-
-    /// How its input is read.
-    fn reading(self) -> Reading {
-        Reading {
-            buffered: self.is_buffered(),
-            resync: self.resyncs(),
-        }
-    }
-
+    names: [&'a str; 3],
+    reading: Reading,
+    records: RecordArguments<'a>,
+    progress: Progress,
     /// The name of its packet file, if it reads one and notes are not suppressed.
-    fn noted_packets(self) -> Option<&'a str> {
-        match self {
-            LinkRequest::Mod(words) if !words.quiet => Some(words.packets),
-            LinkRequest::Run(words, _) if !words.notes.quiet => Some(words.packets),
-            _ => None,
-        }
-    }
-
-    /// Which of its bytes the progress line counts.
-    fn pace(self, mode: &Mode) -> Pace {
-        let frame = mode.symbols() as u64;
-        match self {
-            LinkRequest::Mod(_) => Pace::Sending { frame },
-            LinkRequest::Demod(_, _) => Pace::Receiving { frame },
-            LinkRequest::Run(words, _) => Pace::Looping {
-                runs: runs_of(words.seeds),
-            },
-        }
-    }
-
+    noted_packets: Option<&'a str>,
     /// Whether a gap is noted at once.
-    fn notes_gaps(self) -> bool {
-        match self {
-            LinkRequest::Demod(words, _) => !words.notes.quiet,
-            LinkRequest::Mod(_) | LinkRequest::Run(_, _) => false,
-        }
-    }
+    notes_gaps: bool,
+}
 
-    /// Whether the progress line is shown.
-    fn progress(self) -> Progress {
-        match self {
-            LinkRequest::Mod(words) => words.progress,
-            LinkRequest::Demod(words, _) => words.progress,
-            LinkRequest::Run(words, _) => words.progress,
-        }
+/// A name of a file on which there are notes, unless these are suppressed.
+fn noted<'a>(quiet: bool, name: &'a str) -> Option<&'a str> {
+    if quiet { None } else { Some(name) }
+}
+
+fn sending_words<'a>(words: &ModArguments<'a>) -> FileWords<'a> {
+    FileWords {
+        link: words.link,
+        names: [words.rows, words.packets, words.symbols],
+        reading: Reading {
+            buffered: true,
+            resync: words.resync,
+        },
+        records: words.records,
+        progress: words.progress,
+        noted_packets: noted(words.quiet, words.packets),
+        notes_gaps: false,
+    }
+}
+
+/// `demod` reads many bytes at a time, so its input has no buffer.
+fn receiving_words<'a>(words: &DemodArguments<'a>) -> FileWords<'a> {
+    FileWords {
+        link: words.link,
+        names: [words.rows, words.symbols, words.packets],
+        reading: Reading {
+            buffered: false,
+            resync: false,
+        },
+        records: words.records,
+        progress: words.progress,
+        noted_packets: None,
+        notes_gaps: !words.notes.quiet,
+    }
+}
+
+fn looping_words<'a>(words: &RunArguments<'a>) -> FileWords<'a> {
+    FileWords {
+        link: words.link,
+        names: [words.rows, words.packets, words.to],
+        reading: Reading {
+            buffered: true,
+            resync: words.resync,
+        },
+        records: words.records,
+        progress: words.progress,
+        noted_packets: noted(words.notes.quiet, words.packets),
+        notes_gaps: false,
+    }
+}
+
+fn file_words<'a>(request: LinkRequest<'_, 'a>) -> FileWords<'a> {
+    match request {
+        LinkRequest::Mod(words) => sending_words(words),
+        LinkRequest::Demod(words, _) => receiving_words(words),
+        LinkRequest::Run(words, _) => looping_words(words),
+    }
+}
+
+/// Which of its bytes the progress line counts.
+fn pace_of(request: LinkRequest<'_, '_>, mode: &Mode) -> Pace {
+    let frame = mode.symbols() as u64;
+    match request {
+        LinkRequest::Mod(_) => Pace::Sending { frame },
+        LinkRequest::Demod(_, _) => Pace::Receiving { frame },
+        LinkRequest::Run(words, _) => Pace::Looping {
+            runs: runs_of(words.seeds),
+        },
     }
 }
 
@@ -127,10 +121,11 @@ impl<'w, 'a> LinkRequest<'w, 'a> {
 fn show_of<'t, 'r, R: Disk + Clock>(
     terminal: &'t Terminal<'r, R>,
     pace: Pace,
-    request: LinkRequest<'_, '_>,
+    progress: Progress,
+    notes_gaps: bool,
 ) -> Show<'t, 'r, R> {
-    let show = show_on(terminal, pace, request.progress());
-    if request.notes_gaps() {
+    let show = show_on(terminal, pace, progress);
+    if notes_gaps {
         show.note_gaps();
     }
     show
@@ -213,26 +208,48 @@ fn run_on_files<I: CountedRead, W: Output, F: Output, O: CountedWrite, E: Counte
     }
 }
 
+/// The opened files of a request on a link: its own, and those of records.
+type Opened<'m, I, W, M> = (Watching<'m, I, W, M>, Records<Truncating<W>>);
+
+/// Opens the files of a request on a link, those of records after the others.
+fn open_all<'a, 'm, P: Opens<'a>, M: Meter>(
+    opener: &mut P,
+    alloc: Global,
+    meter: &'m M,
+    unseen: &'m M,
+    mode: Mode,
+    words: &FileWords<'a>,
+) -> Result<Opened<'m, P::Input, P::Output, M>, Unserved<'a>>
+    requires { P.opened opener.old ≡ 0 }
+    ensures start { IfOk result (λ files. CanStart files.0) }
+    ensures fresh { IfOk result (λ files. wanted_count (λ t. P.Output.count t.to) files.1.0 + (wanted_count (λ t. P.Output.count t.to) files.1.1.0
+        + (wanted_count (λ t. P.Output.count t.to) files.1.1.1.0 + wanted_count (λ b. P.Output.count b.to.to) files.1.1.1.1)) ≡ 0) }
+{
+    let files = open_link(opener, alloc, meter, unseen, words.names, words.reading)?;
+    let records = open_records(opener, alloc, mode, words.records)?;
+    Ok((files, records))
+}
+
 /// Opens the files of a request on a link, and runs its command on them. `notes` takes the notes before a report.
-pub fn with_link<'a, R: Disk + Clock + AllocGlobal, O: CountedWrite, E: CountedWrite>(
-    rt: &R,
+pub fn with_link<'a, P: Opens<'a>, R: Disk + Clock + AllocGlobal, O: CountedWrite, E: CountedWrite>(
+    opener: &mut P,
     terminal: &Terminal<'_, R>,
     request: LinkRequest<'_, 'a>,
     console: &mut Console<O, E>,
     notes: &mut E,
-) -> Result<Exit, Fault<'a>>
+) -> Result<Exit, Unserved<'a>>
+    requires opener { P.opened opener.old ≡ 0 }
     requires console { CanNote console.old }
     requires notes { CanCount (E.count notes.old) }
     ensures { OnErr result (CanCount console.new.errors_failed) }
 {
-    let (alloc, setup) = (rt.alloc(), setup_of(request.link())?);
-    let pace = request.pace(&setup.mode);
-    let show = show_of(terminal, pace, request);
+    let words = file_words(request);
+    let alloc = terminal.host().alloc();
+    let setup = setup_of(words.link).ok_or(Unserved::NoMode)?;
+    let pace = pace_of(request, &setup.mode);
+    let show = show_of(terminal, pace, words.progress, words.notes_gaps);
     let unseen = Show::new(terminal, pace, false);
-    let (names, reading) = (request.names(), request.reading());
-    let mut opener = Opener::new(rt);
-    let mut files = open_link(&mut opener, terminal, &show, &unseen, names, reading)?;
-    let mut records = open_records(&mut opener, terminal, setup.mode, request.records())?;
+    let (mut files, mut records) = open_all(opener, alloc, &show, &unseen, setup.mode, &words)?;
     let exit = run_on_files(
         setup,
         request,
@@ -244,9 +261,9 @@ pub fn with_link<'a, R: Disk + Clock + AllocGlobal, O: CountedWrite, E: CountedW
     );
     show.finish();
     let left_out = files.from.left_out();
-    let exit = conclude_packets(terminal, request.noted_packets(), left_out, exit);
+    let exit = conclude_packets(terminal, words.noted_packets, left_out, exit);
     match finish_command(exit, files.to.is_begun(), records) {
         Ok(exit) => Ok(exit),
-        Err(_) => Err(Fault::Write),
+        Err(_) => Err(Unserved::Write),
     }
 }

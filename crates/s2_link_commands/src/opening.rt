@@ -1,23 +1,21 @@
 //! Opens the files of a command on a link.
-ghost use Rattle.std.specs.Prelude.{◌≡◌, ◌+◌, ◌<◌, IfOk, OnOk, [], length};
+ghost use Rattle.std.specs.Prelude.{◌≡◌, IfOk, OnOk};
 ghost use Rattle.either.specs.Either.{either};
 ghost use Rattle.s2_console.specs.Files.{CanStart};
 
 use s2_commands::LinkFiles;
-use s2_console::Fault;
-use s2_files::{Destination, Disk, Opener};
+use s2_files::Destination;
 use s2_mode::CountedRead;
-use s2_opening::{Input, Seen, Written, read_buffered_by, read_by, write_by};
-use s2_progress::{Meter, Show, Terminal, Watched};
+use s2_opening::{Opens, Unserved};
+use s2_progress::{Meter, Watched};
 use s2_resync::{PacketReader, PacketSource};
 use std::alloc::{AllocError, Global};
-use std::time::Clock;
 
-/// The files of a command on a link; the second and the third are watched. The second may be a reader of packets.
-pub(crate) type Watching<'m, 't, 'r, 'a, R> = LinkFiles<
-    PacketSource<Seen<'m, 't, 'r, 'a, R>, PacketReader<Seen<'m, 't, 'r, 'a, R>>>,
-    Watched<'m, Written<'t, 'r, 'a, R>, Show<'t, 'r, R>>,
->;
+/// A reader, or a reader of the packets in it.
+pub(crate) type Source<I> = PacketSource<I, PacketReader<I>>;
+
+/// The files of a command on a link, all watched. The second may be a reader of packets.
+pub(crate) type Watching<'m, I, W, M> = LinkFiles<Source<Watched<'m, I, M>>, Watched<'m, W, M>>;
 
 /// How the input of a command on a link is read.
 #[derive(Clone, Copy)]
@@ -29,20 +27,19 @@ pub(crate) struct Reading {
 }
 
 /// Opens the input of a command on a link.
-fn read_as<'t, 'r, 'a, R: Disk + AllocGlobal>(
-    opener: &mut Opener<'_, R>,
-    terminal: &'t Terminal<'r, R>,
+fn read_as<'a, P: Opens<'a>>(
+    opener: &mut P,
     name: &'a str,
     buffered: bool,
-) -> Result<Input<'t, 'r, 'a, R>, Fault<'a>>
-    requires room { length opener.old < 8 }
-    ensures fresh { IfOk result (λ file. file.inner.failed ≡ 0) }
-    ensures count { OnOk result (length opener.new ≡ length opener.old + 1) }
+) -> Result<P::Input, Unserved<'a>>
+    requires room { P.opened opener.old ≡ 1 }
+    ensures fresh { IfOk result (λ file. P.Input.count file ≡ 0) }
+    ensures count { OnOk result (P.opened opener.new ≡ 2) }
 {
     if buffered {
-        read_buffered_by(opener, terminal, name)
+        opener.read_buffered(name)
     } else {
-        read_by(opener, terminal, name)
+        opener.read(name)
     }
 }
 
@@ -51,7 +48,7 @@ fn source_of<R: CountedRead + Drop>(
     alloc: Global,
     reader: R,
     resync: bool,
-) -> Result<PacketSource<R, PacketReader<R>>, AllocError>
+) -> Result<Source<R>, AllocError>
     requires { R.count reader ≡ 0 }
     ensures { IfOk result (λ source. either R.count (λ p. p.failed) source.reader ≡ 0) }
 {
@@ -61,32 +58,46 @@ fn source_of<R: CountedRead + Drop>(
     Ok(PacketSource::packets(PacketReader::new(alloc, reader)?))
 }
 
-/// Opens the files of a command on a link: the row file, the input, with a buffer if one is requested, and the output.
-/// The progress line does not count the rows' bytes.
-pub(crate) fn open_link<'a, 'm, 't, 'r, R: Disk + Clock + AllocGlobal>(
-    opener: &mut Opener<'_, R>,
-    terminal: &'t Terminal<'r, R>,
-    show: &'m Show<'t, 'r, R>,
-    unseen: &'m Show<'t, 'r, R>,
+/// Opens the row file, the input and the output of a command on a link, in this order. The meter expects the input's bytes.
+fn open_three<'a, P: Opens<'a>, M: Meter>(
+    opener: &mut P,
+    meter: &M,
     names: [&'a str; 3],
-    reading: Reading,
-) -> Result<Watching<'m, 't, 'r, 'a, R>, Fault<'a>>
-    requires first { opener.old ≡ [] }
-    ensures room { OnOk result (length opener.new ≡ 3) }
-    ensures start { IfOk result CanStart }
+    buffered: bool,
+) -> Result<(P::Input, P::Input, P::Output), Unserved<'a>>
+    requires first { P.opened opener.old ≡ 0 }
+    ensures room { OnOk result (P.opened opener.new ≡ 3) }
+    ensures inputs { IfOk result (λ files. (P.Input.count files.0 ≡ 0) × (P.Input.count files.1 ≡ 0)) }
+    ensures output { IfOk result (λ files. P.Output.count files.2 ≡ 0) }
 {
     let [rows, from, to] = names;
-    let rows = read_by(opener, terminal, rows)?;
-    let from = read_as(opener, terminal, from, reading.buffered)?;
-    show.expect(opener.last_length());
-    let to = write_by(opener, terminal, to)?;
-    let from = Watched::new(from, show);
-    let Ok(from) = source_of(terminal.host().alloc(), from, reading.resync) else {
-        return Err(Fault::NoMemory);
+    let rows = opener.read(rows)?;
+    let from = read_as(opener, from, buffered)?;
+    meter.expect(opener.last_length());
+    let to = opener.write(to)?;
+    Ok((rows, from, to))
+}
+
+/// Opens the files of a command on a link. `unseen` takes the bytes of the row file.
+pub(crate) fn open_link<'a, 'm, P: Opens<'a>, M: Meter>(
+    opener: &mut P,
+    alloc: Global,
+    meter: &'m M,
+    unseen: &'m M,
+    names: [&'a str; 3],
+    reading: Reading,
+) -> Result<Watching<'m, P::Input, P::Output, M>, Unserved<'a>>
+    requires first { P.opened opener.old ≡ 0 }
+    ensures room { OnOk result (P.opened opener.new ≡ 3) }
+    ensures start { IfOk result CanStart }
+{
+    let (rows, from, to) = open_three(opener, meter, names, reading.buffered)?;
+    let Ok(from) = source_of(alloc, Watched::new(from, meter), reading.resync) else {
+        return Err(Unserved::NoMemory);
     };
     Ok(LinkFiles {
         rows: PacketSource::plain(Watched::new(rows, unseen)),
         from,
-        to: Destination::new(Watched::new(to, show)),
+        to: Destination::new(Watched::new(to, meter)),
     })
 }

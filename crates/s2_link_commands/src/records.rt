@@ -1,14 +1,14 @@
 //! The files of records: opened, each with the sink that writes to it, and finished.
-ghost use Rattle.std.specs.Prelude.{◌≡◌, ◌≢◌, ◌+◌, ◌<◌, ◌≤◌, IfOk, OnErr, OnOk, length};
+ghost use Rattle.std.specs.Prelude.{◌≡◌, ◌≢◌, ◌+◌, ◌<◌, ◌≤◌, IfOk, OnErr, OnOk};
 ghost use Rattle.s2_receive.specs.Sinks.{wanted_count};
 
-use s2_console::{Exit, Fault};
-use s2_files::{Disk, Opener, Output, Truncating};
+use s2_console::Exit;
+use s2_files::{Output, Truncating};
 use s2_mode::{Mode, WriteFault};
-use s2_opening::{Written, write_by};
-use s2_progress::Terminal;
+use s2_opening::{Opens, Unserved};
 use s2_records::{Bbframes, Certificates, Codewords, Values};
 use s2_words::RecordArguments;
+use std::alloc::Global;
 
 /// The sinks of records, each if its file is given. Frames go to them in this order.
 pub(crate) type Records<W> = (
@@ -19,108 +19,105 @@ pub(crate) type Records<W> = (
     ),
 );
 
-/// An opened file of records. It is truncated by its first write.
-pub(crate) type RecordFile<'t, 'r, 'a, R> = Truncating<Written<'t, 'r, 'a, R>>;
-
 /// Opens a file of certificates, if a name is given.
-fn open_certificates<'t, 'r, 'a, R: Disk + AllocGlobal>(
-    opener: &mut Opener<'_, R>,
-    terminal: &'t Terminal<'r, R>,
+fn open_certificates<'a, P: Opens<'a>>(
+    opener: &mut P,
+    alloc: Global,
     mode: Mode,
     name: Option<&'a str>,
-) -> Result<Option<Certificates<RecordFile<'t, 'r, 'a, R>>>, Fault<'a>>
-    requires room { length opener.old < 8 }
-    ensures room { OnOk result (length opener.new ≤ length opener.old + 1) }
-    ensures fresh { IfOk result (λ made. wanted_count (λ file. file.to.inner.failed) made ≡ 0) }
+) -> Result<Option<Certificates<Truncating<P::Output>>>, Unserved<'a>>
+    requires room { P.opened opener.old < 8 }
+    ensures room { OnOk result (P.opened opener.new ≤ P.opened opener.old + 1) }
+    ensures fresh { IfOk result (λ made. wanted_count (λ file. P.Output.count file.to) made ≡ 0) }
 {
     let Some(name) = name else {
         return Ok(None);
     };
-    let file = Truncating::new(write_by(opener, terminal, name)?);
-    match Certificates::new(terminal.host().alloc(), mode, file) {
+    let file = Truncating::new(opener.write(name)?);
+    match Certificates::new(alloc, mode, file) {
         Ok(sink) => Ok(Some(sink)),
-        Err(_) => Err(Fault::NoMemory),
+        Err(_) => Err(Unserved::NoMemory),
     }
 }
 
 /// Opens a file of soft values, if a name is given.
-fn open_values<'t, 'r, 'a, R: Disk + AllocGlobal>(
-    opener: &mut Opener<'_, R>,
-    terminal: &'t Terminal<'r, R>,
+fn open_values<'a, P: Opens<'a>>(
+    opener: &mut P,
+    alloc: Global,
     mode: Mode,
     name: Option<&'a str>,
-) -> Result<Option<Values<RecordFile<'t, 'r, 'a, R>>>, Fault<'a>>
-    requires room { length opener.old < 8 }
-    ensures room { OnOk result (length opener.new ≤ length opener.old + 1) }
-    ensures fresh { IfOk result (λ made. wanted_count (λ file. file.to.inner.failed) made ≡ 0) }
+) -> Result<Option<Values<Truncating<P::Output>>>, Unserved<'a>>
+    requires room { P.opened opener.old < 8 }
+    ensures room { OnOk result (P.opened opener.new ≤ P.opened opener.old + 1) }
+    ensures fresh { IfOk result (λ made. wanted_count (λ file. P.Output.count file.to) made ≡ 0) }
 {
     let Some(name) = name else {
         return Ok(None);
     };
-    let file = Truncating::new(write_by(opener, terminal, name)?);
-    match Values::new(terminal.host().alloc(), mode, file) {
+    let file = Truncating::new(opener.write(name)?);
+    match Values::new(alloc, mode, file) {
         Ok(sink) => Ok(Some(sink)),
-        Err(_) => Err(Fault::NoMemory),
+        Err(_) => Err(Unserved::NoMemory),
     }
 }
 
 /// Opens a file of decided words, if a name is given.
-fn open_codewords<'t, 'r, 'a, R: Disk + AllocGlobal>(
-    opener: &mut Opener<'_, R>,
-    terminal: &'t Terminal<'r, R>,
+fn open_codewords<'a, P: Opens<'a>>(
+    opener: &mut P,
+    alloc: Global,
     mode: Mode,
     name: Option<&'a str>,
-) -> Result<Option<Codewords<RecordFile<'t, 'r, 'a, R>>>, Fault<'a>>
-    requires room { length opener.old < 8 }
-    ensures room { OnOk result (length opener.new ≤ length opener.old + 1) }
-    ensures fresh { IfOk result (λ made. wanted_count (λ file. file.to.inner.failed) made ≡ 0) }
+) -> Result<Option<Codewords<Truncating<P::Output>>>, Unserved<'a>>
+    requires room { P.opened opener.old < 8 }
+    ensures room { OnOk result (P.opened opener.new ≤ P.opened opener.old + 1) }
+    ensures fresh { IfOk result (λ made. wanted_count (λ file. P.Output.count file.to) made ≡ 0) }
 {
     let Some(name) = name else {
         return Ok(None);
     };
-    let file = Truncating::new(write_by(opener, terminal, name)?);
-    match Codewords::new(terminal.host().alloc(), mode, file) {
+    let file = Truncating::new(opener.write(name)?);
+    match Codewords::new(alloc, mode, file) {
         Ok(sink) => Ok(Some(sink)),
-        Err(_) => Err(Fault::NoMemory),
+        Err(_) => Err(Unserved::NoMemory),
     }
 }
 
 /// Opens a file of BBFRAMEs, if a name is given.
-fn open_bbframes<'t, 'r, 'a, R: Disk + AllocGlobal>(
-    opener: &mut Opener<'_, R>,
-    terminal: &'t Terminal<'r, R>,
+fn open_bbframes<'a, P: Opens<'a>>(
+    opener: &mut P,
+    alloc: Global,
     mode: Mode,
     name: Option<&'a str>,
-) -> Result<Option<Bbframes<RecordFile<'t, 'r, 'a, R>>>, Fault<'a>>
-    requires room { length opener.old < 8 }
-    ensures room { OnOk result (length opener.new ≤ length opener.old + 1) }
-    ensures fresh { IfOk result (λ made. wanted_count (λ sink. sink.to.to.inner.failed) made ≡ 0) }
+) -> Result<Option<Bbframes<Truncating<P::Output>>>, Unserved<'a>>
+    requires room { P.opened opener.old < 8 }
+    ensures room { OnOk result (P.opened opener.new ≤ P.opened opener.old + 1) }
+    ensures fresh { IfOk result (λ made. wanted_count (λ sink. P.Output.count sink.to.to) made ≡ 0) }
 {
     let Some(name) = name else {
         return Ok(None);
     };
-    let file = Truncating::new(write_by(opener, terminal, name)?);
-    match Bbframes::new(terminal.host().alloc(), mode, file) {
+    let file = Truncating::new(opener.write(name)?);
+    match Bbframes::new(alloc, mode, file) {
         Ok(sink) => Ok(Some(sink)),
-        Err(_) => Err(Fault::NoMemory),
+        Err(_) => Err(Unserved::NoMemory),
     }
 }
 
 /// Opens the files of records, those that are given, after the other files.
-pub(crate) fn open_records<'t, 'r, 'a, R: Disk + AllocGlobal>(
-    opener: &mut Opener<'_, R>,
-    terminal: &'t Terminal<'r, R>,
+pub(crate) fn open_records<'a, P: Opens<'a>>(
+    opener: &mut P,
+    alloc: Global,
     mode: Mode,
     words: RecordArguments<'a>,
-) -> Result<Records<RecordFile<'t, 'r, 'a, R>>, Fault<'a>>
-    requires room { length opener.old ≤ 4 }
-    ensures fresh { IfOk result (λ made. wanted_count (λ file. file.to.inner.failed) made.0 + (wanted_count (λ file. file.to.inner.failed) made.1.0
-        + (wanted_count (λ file. file.to.inner.failed) made.1.1.0 + wanted_count (λ sink. sink.to.to.inner.failed) made.1.1.1)) ≡ 0) }
+) -> Result<Records<Truncating<P::Output>>, Unserved<'a>>
+    requires room { P.opened opener.old ≤ 4 }
+    ensures fresh { IfOk result (λ made. wanted_count (λ file. P.Output.count file.to) made.0 + (wanted_count (λ file. P.Output.count file.to) made.1.0
+        + (wanted_count (λ file. P.Output.count file.to) made.1.1.0 + wanted_count (λ sink. P.Output.count sink.to.to) made.1.1.1)) ≡ 0) }
 {
-    let certificates = open_certificates(opener, terminal, mode, words.certificates)?;
-    let values = open_values(opener, terminal, mode, words.values)?;
-    let codewords = open_codewords(opener, terminal, mode, words.codewords)?;
-    let bbframes = open_bbframes(opener, terminal, mode, words.bbframes)?;
+    let certificates = open_certificates(opener, alloc, mode, words.certificates)?;
+    let values = open_values(opener, alloc, mode, words.values)?;
+    let codewords = open_codewords(opener, alloc, mode, words.codewords)?;
+    let bbframes = open_bbframes(opener, alloc, mode, words.bbframes)?;
     Ok((certificates, (values, (codewords, bbframes))))
 }
 

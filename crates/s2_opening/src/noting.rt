@@ -1,6 +1,7 @@
 //! Readers and writers whose failed calls are noted at once, with the name of their file and the cause. This is plain code.
 ghost use Rattle.std.specs.Prelude.{◌≡◌};
 
+use crate::opens::Finishes;
 use s2_files::{Disk, Explains, Output, Role, Target, is_standard};
 use s2_mode::{Counted, CountedRead, CountedWrite, ReadFault, WriteFault};
 use s2_notes::note_failure;
@@ -71,9 +72,8 @@ impl<T, N> Noting<T, N> {
     }
 }
 
-impl<F: Write + Drop, S: Write + Drop, N: Notes + Drop> Noting<Target<F, S>, N> {
-    /// Writes the bytes that are still in the buffer. After a failed write nothing more is written.
-    pub fn finish(self) -> Result<(), WriteFault> {
+impl<F: Write + Drop, S: Write + Drop, N: Notes + Drop> Finishes for Noting<Target<F, S>, N> {
+    fn finish(self) -> Result<(), WriteFault> {
         let Noting { inner, notes } = self;
         match inner.finish() {
             Ok(()) => Ok(()),

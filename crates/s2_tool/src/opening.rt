@@ -1,42 +1,39 @@
 //! Opens the files of `judge`.
-ghost use Rattle.std.specs.Prelude.{◌≡◌, ◌≤◌, false, IfOk, IfSome, OnOk, [], length};
+ghost use Rattle.std.specs.Prelude.{◌≡◌, ◌≤◌, false, IfOk, IfSome, OnOk};
 ghost use Rattle.s2_judging.specs.Files.{CanJudge};
 
-use s2_console::Fault;
-use s2_files::{Destination, Disk, Opener};
+use s2_files::Destination;
 use s2_judging::JudgeFiles;
-use s2_opening::{Input, Written, read_by, write_by};
-use s2_progress::Terminal;
+use s2_opening::{Opens, Unserved};
 use s2_words::JudgeArguments;
 
 /// Opens an output if a name is given.
-fn write_named<'t, 'r, 'a, R: Disk>(
-    opener: &mut Opener<'_, R>,
-    terminal: &'t Terminal<'r, R>,
+fn write_named<'a, P: Opens<'a>>(
+    opener: &mut P,
     name: Option<&'a str>,
-) -> Result<Option<Destination<Written<'t, 'r, 'a, R>>>, Fault<'a>>
-    requires room { opener.old ≡ [] }
-    ensures room { OnOk result (length opener.new ≤ 1) }
+) -> Result<Option<Destination<P::Output>>, Unserved<'a>>
+    requires room { P.opened opener.old ≡ 0 }
+    ensures room { OnOk result (P.opened opener.new ≤ 1) }
     ensures unbegun { IfOk result (λ made. IfSome made (λ file. file.begun ≡ false)) }
-    ensures fresh { IfOk result (λ made. IfSome made (λ file. file.to.inner.failed ≡ 0)) }
+    ensures fresh { IfOk result (λ made. IfSome made (λ file. P.Output.count file.to ≡ 0)) }
 {
     match name {
-        Some(name) => Ok(Some(Destination::new(write_by(opener, terminal, name)?))),
+        Some(name) => Ok(Some(Destination::new(opener.write(name)?))),
         None => Ok(None),
     }
 }
 
 /// Opens the files of `judge`: that of the certificate before the others.
-pub(crate) fn open_judge<'t, 'r, 'a, R: Disk + AllocGlobal>(
-    terminal: &'t Terminal<'r, R>,
+pub(crate) fn open_judge<'a, P: Opens<'a>>(
+    opener: &mut P,
     words: &JudgeArguments<'a>,
-) -> Result<JudgeFiles<Input<'t, 'r, 'a, R>, Written<'t, 'r, 'a, R>>, Fault<'a>>
+) -> Result<JudgeFiles<P::Input, P::Output>, Unserved<'a>>
+    requires { P.opened opener.old ≡ 0 }
     ensures { IfOk result CanJudge }
 {
-    let mut opener = Opener::new(terminal.host());
-    let certificate = write_named(&mut opener, terminal, words.certificate)?;
-    let rows = read_by(&mut opener, terminal, words.rows)?;
-    let soft = read_by(&mut opener, terminal, words.soft)?;
+    let certificate = write_named(opener, words.certificate)?;
+    let rows = opener.read(words.rows)?;
+    let soft = opener.read(words.soft)?;
     Ok(JudgeFiles {
         rows,
         soft,

@@ -1,16 +1,17 @@
 //! The options of the command line in the types of the commands. This is plain code.
 //!
-//! The parser has tested every number: its ranges are those of these types (below). So no refusal here can be met.
+//! The parser has tested every number: its ranges are those of these types (below). So only a mode or a shape can be missing.
 use s2_audit::Demodulation;
 use s2_channel::{EsN0, Strength};
 use s2_commands::{Channel, DemodOptions, RunOptions};
-use s2_console::Fault;
+use s2_compare::Form;
 use s2_link_commands::setup_of;
-use s2_mode::{FaultText, Mode};
+use s2_mode::{Mode, Shape};
 use s2_tuning::{Number, Tuning, Wanted, divisor_by, judging_by, tuning_by};
 use s2_words::{
-    AuditArguments, ChannelArguments, DemodArguments, JudgeArguments, NumberArguments,
-    RunArguments, StrengthArguments, TuningArguments, limits,
+    AuditArguments, ChannelArguments, CodeArguments, CompareArguments, DemodArguments,
+    JudgeArguments, NumberArguments, RunArguments, ShapeArguments, StrengthArguments,
+    TuningArguments, WordsArguments, limits,
 };
 
 const _: () = prove!(limits::MAX_ADDRESSES as usize == s2_rows::MAX_ADDRESSES);
@@ -36,14 +37,12 @@ const _: () = prove!(limits::LEAST_ESN0 == s2_channel::LEAST_ESN0);
 const _: () = prove!(limits::MAX_ESN0 == s2_channel::MAX_ESN0);
 
 /// The channel of two options.
-pub(crate) fn channel_of(words: ChannelArguments) -> Result<Channel, Fault<'static>> {
+pub(crate) fn channel_of(words: ChannelArguments) -> Option<Channel> {
     let strength = match words.strength {
         StrengthArguments::Level(level) => Strength::Level(level),
-        StrengthArguments::EsN0(number) => Strength::EsN0(EsN0::new(number).ok_or(Fault::refused(
-            FaultText::of("no such Es/N0"),
-        ))?),
+        StrengthArguments::EsN0(number) => Strength::EsN0(EsN0::new(number)?),
     };
-    Ok(Channel {
+    Some(Channel {
         seed: words.seed,
         strength,
     })
@@ -57,22 +56,16 @@ fn number_of(words: NumberArguments) -> Number {
 }
 
 /// How the soft values of a report on a mode were made.
-pub(crate) fn demodulation_of(
-    mode: &Mode,
-    words: &AuditArguments<'_>,
-) -> Result<Demodulation, Fault<'static>> {
-    let divisor = divisor_by(mode, words.tuned, number_of(words.divisor)).ok_or(Fault::refused(
-        FaultText::of("no such divisor"),
-    ))?;
-    Ok(Demodulation {
-        divisor,
+pub(crate) fn demodulation_of(mode: &Mode, words: &AuditArguments<'_>) -> Option<Demodulation> {
+    Some(Demodulation {
+        divisor: divisor_by(mode, words.tuned, number_of(words.divisor))?,
         turns: words.turns || words.tuned,
         equalize: words.equalize,
     })
 }
 
 /// The tuning of a receiver of a mode.
-fn tuning_of(mode: &Mode, words: TuningArguments) -> Result<Tuning, Fault<'static>> {
+fn tuning_of(mode: &Mode, words: TuningArguments) -> Option<Tuning> {
     let wanted = Wanted {
         rounds: number_of(words.rounds),
         passes: number_of(words.passes),
@@ -85,33 +78,57 @@ fn tuning_of(mode: &Mode, words: TuningArguments) -> Result<Tuning, Fault<'stati
         turns: words.turns,
         equalize: words.equalize,
     };
-    tuning_by(mode, wanted).ok_or(Fault::refused(FaultText::of("no such tuning")))
+    tuning_by(mode, wanted)
 }
 
 /// The tuning of `judge`.
-pub(crate) fn judging_of(words: &JudgeArguments<'_>) -> Result<Tuning, Fault<'static>> {
-    judging_by(words.passes, words.factor, words.uncertified).ok_or(Fault::refused(FaultText::of(
-        "no such tuning",
-    )))
+pub(crate) fn judging_of(words: &JudgeArguments<'_>) -> Option<Tuning> {
+    judging_by(words.passes, words.factor, words.uncertified)
 }
 
 /// The options of `demod`.
-pub(crate) fn demod_options(words: &DemodArguments<'_>) -> Result<DemodOptions, Fault<'static>> {
+pub(crate) fn demod_options(words: &DemodArguments<'_>) -> Option<DemodOptions> {
     let setup = setup_of(words.link)?;
-    Ok(DemodOptions {
+    Some(DemodOptions {
         tuning: tuning_of(&setup.mode, words.tuning)?,
         notes: words.notes,
     })
 }
 
 /// The options of `run`.
-pub(crate) fn run_options(words: &RunArguments<'_>) -> Result<RunOptions, Fault<'static>> {
+pub(crate) fn run_options(words: &RunArguments<'_>) -> Option<RunOptions> {
     let setup = setup_of(words.link)?;
-    Ok(RunOptions {
+    Some(RunOptions {
         dummy: words.dummy,
         tuning: tuning_of(&setup.mode, words.tuning)?,
         channel: channel_of(words.channel)?,
         seeds: words.seeds,
         notes: words.notes,
     })
+}
+
+/// The shape of three options.
+pub(crate) fn shape_of(words: ShapeArguments) -> Option<Shape> {
+    let [group, groups, q] = [words.group, words.groups, words.q].map(usize::from);
+    Shape::new(group, groups, q)
+}
+
+/// The shape of the code of `judge` and of `compare`.
+pub(crate) fn shape_by(code: CodeArguments) -> Option<Shape> {
+    match code {
+        CodeArguments::Shape(words) => shape_of(words),
+        CodeArguments::Mode { modcod, short } => Some(Mode::of(modcod, short, false)?.shape()),
+    }
+}
+
+/// The form of the words of `compare`, with their code. BBFRAMEs have a mode.
+pub(crate) fn form_of(words: &CompareArguments<'_>) -> Option<Form> {
+    match (words.form, words.code) {
+        (WordsArguments::Bytes, code) => Some(Form::Bytes(shape_by(code)?)),
+        (WordsArguments::Digits, code) => Some(Form::Digits(shape_by(code)?)),
+        (WordsArguments::Bbframes, CodeArguments::Mode { modcod, short }) => {
+            Some(Form::Bbframes(Mode::of(modcod, short, false)?))
+        }
+        (WordsArguments::Bbframes, CodeArguments::Shape(_)) => None,
+    }
 }

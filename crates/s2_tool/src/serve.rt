@@ -1,34 +1,38 @@
 //! Runs the request of the command line. This is plain code: each command has its own contract.
-ghost use Rattle.std.specs.Prelude.{OnErr};
+ghost use Rattle.std.specs.Prelude.{◌≡◌, OnErr};
 ghost use Rattle.s2_mode.specs.Counts.{CanCount};
 ghost use Rattle.s2_console.specs.Screens.{CanNote};
+ghost use Rattle.s2_judging.specs.Files.{CanJudge};
 
 use crate::opening::open_judge;
-use crate::options::{channel_of, demod_options, demodulation_of, judging_of, run_options};
+use crate::options::{
+    channel_of, demod_options, demodulation_of, form_of, judging_of, run_options, shape_by,
+    shape_of,
+};
 use s2_audit::audit_command;
 use s2_commands::{noise_command, rows_command};
-use s2_compare::{Form, compare_command};
+use s2_compare::compare_command;
 use s2_console::{Console, Exit, Fault};
 use s2_evidence::{check_command, check_each_command};
-use s2_files::Disk;
+use s2_files::{Disk, Output};
 use s2_join::join_command;
-use s2_judging::{judge_command, judge_each_command, self_command};
-use s2_link_commands::{LinkRequest, mode_of, setup_of, with_link};
-use s2_mode::{CountedWrite, FaultText, Shape};
+use s2_judging::{JudgeFiles, judge_command, judge_each_command, self_command};
+use s2_link_commands::{LinkRequest, setup_of, with_link};
+use s2_mode::{CountedRead, CountedWrite, FaultText, Mode, Shape};
 use s2_names::modes_command;
 use s2_notes::{has_control, note_audit, note_cause, note_marks, shown};
 use s2_opening::{
-    open_audit, open_compare, open_input, open_inputs, open_join, open_noise, open_scan,
-    screen_beside, show_on, standard_input,
+    FileOpener, Finishes, Opens, Unserved, open_audit, open_compare, open_inputs, open_join,
+    open_noise, open_scan, screen_beside, show_on, standard_input,
 };
 use s2_progress::{Pace, Terminal};
 use s2_scan::scan_command;
 use s2_table::table_command;
+use s2_tuning::Tuning;
 use s2_words::{
     AuditArguments, CheckArguments, CodeArguments, CompareArguments, DemodArguments, JoinArguments,
     JudgeArguments, ModesArguments, NoiseArguments, Request, RowsArguments, RunArguments,
-    ScanArguments, ShapeArguments, TableArguments, Unread, WordsArguments, not_text,
-    parse_arguments,
+    ScanArguments, TableArguments, Unread, not_text, parse_arguments,
 };
 use std::alloc::{AllocError, Global};
 use std::env::FillError;
@@ -125,39 +129,72 @@ pub(crate) fn every_of(request: &Request<'_>) -> u32 {
     }
 }
 
-/// Reports a fault. Control characters of a file's name are escaped.
-fn report<O: CountedWrite, E: CountedWrite>(
+/// The fault of a request that is not served.
+fn fault_of<'a>(unserved: Unserved<'a>) -> Fault<'a> {
+    match unserved {
+        Unserved::Open(name) => Fault::Open(name),
+        Unserved::UsedTwice(name) => Fault::UsedTwice(name),
+        Unserved::NoMemory => Fault::NoMemory,
+        Unserved::Write => Fault::Write,
+        Unserved::NoMode => Fault::refused(FaultText::of("no such mode")),
+        Unserved::NoShape => Fault::refused(FaultText::of("no such shape")),
+        Unserved::OutOfRange => Fault::refused(FaultText::of("a number is out of its range")),
+    }
+}
+
+/// The same about a file, with this name for it.
+fn renamed<'b>(unserved: Unserved<'_>, name: &'b str) -> Unserved<'b> {
+    match unserved {
+        Unserved::UsedTwice(_) => Unserved::UsedTwice(name),
+        _ => Unserved::Open(name),
+    }
+}
+
+/// Reports a fault about a file. Control characters of its name are escaped.
+fn report_shown<O: CountedWrite, E: CountedWrite>(
     alloc: Global,
-    fault: Fault<'_>,
+    unserved: Unserved<'_>,
+    name: &str,
     console: &mut Console<O, E>,
 ) -> Exit
     requires { CanCount console.old.errors_failed }
 {
-    match fault {
-        Fault::Open(name) if has_control(name) => match shown(alloc, name) {
-            Ok(name) => console.report_fault(Fault::Open(name.as_str())),
-            Err(_) => console.report_fault(Fault::NoMemory),
-        },
-        Fault::UsedTwice(name) if has_control(name) => match shown(alloc, name) {
-            Ok(name) => console.report_fault(Fault::UsedTwice(name.as_str())),
-            Err(_) => console.report_fault(Fault::NoMemory),
-        },
-        fault => console.report_fault(fault),
+    match shown(alloc, name) {
+        Ok(name) => console.report_fault(fault_of(renamed(unserved, name.as_str()))),
+        Err(_) => console.report_fault(Fault::NoMemory),
     }
 }
 
-/// The exit of a command. A fault that came before it is reported.
-fn finish<O: CountedWrite, E: CountedWrite>(
+/// Reports a fault that a command does not report itself.
+fn report<O: CountedWrite, E: CountedWrite>(
     alloc: Global,
-    ended: Result<Exit, Fault<'_>>,
+    unserved: Unserved<'_>,
     console: &mut Console<O, E>,
 ) -> Exit
-    requires { OnErr ended (CanCount console.old.errors_failed) }
+    requires { CanCount console.old.errors_failed }
 {
-    match ended {
-        Ok(exit) => exit,
-        Err(fault) => report(alloc, fault, console),
+    match unserved {
+        Unserved::Open(name) | Unserved::UsedTwice(name) if has_control(name) => {
+            report_shown(alloc, unserved, name, console)
+        }
+        _ => console.report_fault(fault_of(unserved)),
     }
+}
+
+/// Reports a fault that a command does not report itself, after a note on its cause.
+fn report_noted<R: Disk + AllocGlobal, O: CountedWrite, E: CountedWrite>(
+    rt: &R,
+    terminal: &Terminal<'_, R>,
+    request: &Request<'_>,
+    unserved: Unserved<'_>,
+    console: &mut Console<O, E>,
+) -> Exit
+    requires { CanCount console.old.errors_failed }
+{
+    if let Unserved::Open(name) = unserved {
+        note_cause(rt, terminal, request, name);
+    }
+    report(rt.alloc(), unserved, console)
 }
 
 /// Runs the command of a request on its files, and reports a fault before that. Notes have the cause of a fault, if the
@@ -172,248 +209,260 @@ pub(crate) fn run_request<R: Disk + Clock + AllocGlobal, O: CountedWrite, E: Cou
     requires console { CanNote console.old }
     requires notes { CanCount (E.count notes.old) }
 {
-    let ended = serve_request(rt, terminal, request, console, notes);
-    note_fault(rt, terminal, request, &ended);
-    let exit = finish(rt.alloc(), ended, console);
+    let exit = match serve_files(terminal, request, console, notes) {
+        Ok(exit) => exit,
+        Err(unserved) => report_noted(rt, terminal, request, unserved, console),
+    };
     if exit == Exit::Fault {
         note_marks(rt, terminal, request);
     }
     exit
 }
 
-/// Notes the cause of a fault that came before a command.
-fn note_fault<R: Disk + AllocGlobal>(
-    rt: &R,
-    terminal: &Terminal<'_, R>,
-    request: &Request<'_>,
-    ended: &Result<Exit, Fault<'_>>,
-) {
-    if let Err(Fault::Open(name)) = ended {
-        note_cause(rt, terminal, request, name);
-    }
-}
-
-/// Runs the command of a request on its files, or returns the fault before that.
-fn serve_request<'a, R: Disk + Clock + AllocGlobal, O: CountedWrite, E: CountedWrite>(
-    rt: &R,
+/// Runs the command of a request on its files, or returns why that was not done or did not end well.
+fn serve_files<'a, R: Disk + Clock + AllocGlobal, O: CountedWrite, E: CountedWrite>(
     terminal: &Terminal<'_, R>,
     request: &Request<'a>,
     console: &mut Console<O, E>,
     notes: &mut E,
-) -> Result<Exit, Fault<'a>>
+) -> Result<Exit, Unserved<'a>>
     requires console { CanNote console.old }
     requires notes { CanCount (E.count notes.old) }
     ensures { OnErr result (CanCount console.new.errors_failed) }
 {
+    let mut opener = FileOpener::new(terminal);
+    serve_request(&mut opener, terminal, request, console, notes)
+}
+
+/// The same with an opener.
+fn serve_request<'a, P: Opens<'a>, R: Disk + Clock + AllocGlobal, O: CountedWrite, E: CountedWrite>(
+    opener: &mut P,
+    terminal: &Terminal<'_, R>,
+    request: &Request<'a>,
+    console: &mut Console<O, E>,
+    notes: &mut E,
+) -> Result<Exit, Unserved<'a>>
+    requires opener { P.opened opener.old ≡ 0 }
+    requires console { CanNote console.old }
+    requires notes { CanCount (E.count notes.old) }
+    ensures { OnErr result (CanCount console.new.errors_failed) }
+{
+    let alloc = terminal.host().alloc();
     match request {
-        Request::Demo => serve_own(rt, terminal, console),
-        Request::Modes(words) => serve_modes(rt, words, console),
-        Request::Rows(words) => serve_rows(rt, words, console),
-        Request::Table(words) => serve_table(rt, terminal, words, console),
-        Request::Judge(words) => serve_judge(rt, terminal, words, console),
-        Request::Check(words) => serve_check(rt, terminal, words, console),
-        Request::Noise(words) => serve_noise(terminal, words, console),
-        Request::Scan(words) => serve_scan(rt, terminal, words, console),
-        Request::Join(words) => serve_join(rt, terminal, words, console),
-        Request::Audit(words) => serve_audit(rt, terminal, words, console),
-        Request::Compare(words) => serve_compare(rt, terminal, words, console),
-        Request::Mod(words) => with_link(rt, terminal, LinkRequest::Mod(words), console, notes),
-        Request::Demod(words) => serve_demod(rt, terminal, words, console, notes),
-        Request::Run(words) => serve_run(rt, terminal, words, console, notes),
+        Request::Demo => serve_own(terminal, console),
+        Request::Modes(words) => serve_modes(alloc, words, console),
+        Request::Rows(words) => serve_rows(alloc, words, console),
+        Request::Table(words) => serve_table(opener, alloc, words, console),
+        Request::Judge(words) => serve_judge(opener, alloc, words, console),
+        Request::Check(words) => serve_check(opener, alloc, words, console),
+        Request::Noise(words) => serve_noise(opener, terminal, words, console),
+        Request::Scan(words) => serve_scan(opener, terminal, words, console),
+        Request::Join(words) => serve_join(opener, alloc, words, console),
+        Request::Audit(words) => serve_audit(opener, terminal, words, console),
+        Request::Compare(words) => serve_compare(opener, alloc, words, console),
+        Request::Mod(words) => with_link(opener, terminal, LinkRequest::Mod(words), console, notes),
+        Request::Demod(words) => serve_demod(opener, terminal, words, console, notes),
+        Request::Run(words) => serve_run(opener, terminal, words, console, notes),
     }
 }
 
 /// The program without arguments.
 fn serve_own<R: Disk + AllocGlobal, O: CountedWrite, E: CountedWrite>(
-    rt: &R,
     terminal: &Terminal<'_, R>,
     console: &mut Console<O, E>,
-) -> Result<Exit, Fault<'static>>
+) -> Result<Exit, Unserved<'static>>
     requires { CanNote console.old }
     ensures { OnErr result (CanCount console.new.errors_failed) }
 {
     let mut input = standard_input(terminal);
-    Ok(self_command(rt.alloc(), &mut input, console))
+    let alloc = terminal.host().alloc();
+    Ok(self_command(alloc, &mut input, console))
 }
 
-/// The shape of three options.
-fn shape_of(words: ShapeArguments) -> Result<Shape, Fault<'static>> {
-    let [group, groups, q] = [words.group, words.groups, words.q].map(usize::from);
-    Shape::new(group, groups, q).ok_or(Fault::refused(FaultText::of("no such shape")))
-}
-
-/// The shape of the code of `judge`.
-fn shape_by(code: CodeArguments) -> Result<Shape, Fault<'static>> {
+/// Why there is no such code.
+fn no_code<'a>(code: CodeArguments) -> Unserved<'a> {
     match code {
-        CodeArguments::Shape(words) => shape_of(words),
-        CodeArguments::Mode { modcod, short } => Ok(mode_of(modcod, short, false)?.shape()),
+        CodeArguments::Shape(_) => Unserved::NoShape,
+        CodeArguments::Mode {
+            modcod: _,
+            short: _,
+        } => Unserved::NoMode,
     }
 }
 
 /// `demod`.
-fn serve_demod<'a, R: Disk + Clock + AllocGlobal, O: CountedWrite, E: CountedWrite>(
-    rt: &R,
+fn serve_demod<'a, P: Opens<'a>, R: Disk + Clock + AllocGlobal, O: CountedWrite, E: CountedWrite>(
+    opener: &mut P,
     terminal: &Terminal<'_, R>,
     words: &DemodArguments<'a>,
     console: &mut Console<O, E>,
     notes: &mut E,
-) -> Result<Exit, Fault<'a>>
+) -> Result<Exit, Unserved<'a>>
+    requires opener { P.opened opener.old ≡ 0 }
     requires console { CanNote console.old }
     requires notes { CanCount (E.count notes.old) }
     ensures { OnErr result (CanCount console.new.errors_failed) }
 {
-    let options = demod_options(words)?;
+    let options = demod_options(words).ok_or(Unserved::NoMode)?;
     let request = LinkRequest::Demod(words, &options);
-    with_link(rt, terminal, request, console, notes)
+    with_link(opener, terminal, request, console, notes)
 }
 
 /// `run`.
-fn serve_run<'a, R: Disk + Clock + AllocGlobal, O: CountedWrite, E: CountedWrite>(
-    rt: &R,
+fn serve_run<'a, P: Opens<'a>, R: Disk + Clock + AllocGlobal, O: CountedWrite, E: CountedWrite>(
+    opener: &mut P,
     terminal: &Terminal<'_, R>,
     words: &RunArguments<'a>,
     console: &mut Console<O, E>,
     notes: &mut E,
-) -> Result<Exit, Fault<'a>>
+) -> Result<Exit, Unserved<'a>>
+    requires opener { P.opened opener.old ≡ 0 }
     requires console { CanNote console.old }
     requires notes { CanCount (E.count notes.old) }
     ensures { OnErr result (CanCount console.new.errors_failed) }
 {
-    let options = run_options(words)?;
+    let options = run_options(words).ok_or(Unserved::NoMode)?;
     let request = LinkRequest::Run(words, &options);
-    with_link(rt, terminal, request, console, notes)
+    with_link(opener, terminal, request, console, notes)
 }
 
 /// `modes`.
-fn serve_modes<R: Disk + AllocGlobal, O: CountedWrite, E: CountedWrite>(
-    rt: &R,
+fn serve_modes<O: CountedWrite, E: CountedWrite>(
+    alloc: Global,
     words: &ModesArguments,
     console: &mut Console<O, E>,
-) -> Result<Exit, Fault<'static>>
+) -> Result<Exit, Unserved<'static>>
     requires { CanNote console.old }
     ensures { OnErr result (CanCount console.new.errors_failed) }
 {
     let mode = match words.mode {
-        Some((modcod, short)) => Some(mode_of(modcod, short, false)?),
+        Some((modcod, short)) => { Some(Mode::of(modcod, short, false).ok_or(Unserved::NoMode)?) }
         None => None,
     };
-    Ok(modes_command(rt.alloc(), &words.rate, &mode, console))
+    Ok(modes_command(alloc, &words.rate, &mode, console))
 }
 
 /// `rows`.
-fn serve_rows<R: Disk + AllocGlobal, O: CountedWrite, E: CountedWrite>(
-    rt: &R,
+fn serve_rows<O: CountedWrite, E: CountedWrite>(
+    alloc: Global,
     words: &RowsArguments,
     console: &mut Console<O, E>,
-) -> Result<Exit, Fault<'static>>
+) -> Result<Exit, Unserved<'static>>
     requires { CanNote console.old }
     ensures { OnErr result (CanCount console.new.errors_failed) }
 {
-    let shape = shape_of(words.shape)?;
+    let shape = shape_of(words.shape).ok_or(Unserved::NoShape)?;
     let weight = usize::from(words.weight);
-    Ok(rows_command(rt.alloc(), shape, weight, words.seed, console))
+    Ok(rows_command(alloc, shape, weight, words.seed, console))
 }
 
 /// `table`.
-fn serve_table<'a, R: Disk + AllocGlobal, O: CountedWrite, E: CountedWrite>(
-    rt: &R,
-    terminal: &Terminal<'_, R>,
+fn serve_table<'a, P: Opens<'a>, O: CountedWrite, E: CountedWrite>(
+    opener: &mut P,
+    alloc: Global,
     words: &TableArguments<'a>,
     console: &mut Console<O, E>,
-) -> Result<Exit, Fault<'a>>
-    requires { CanNote console.old }
+) -> Result<Exit, Unserved<'a>>
+    requires opener { P.opened opener.old ≡ 0 }
+    requires console { CanNote console.old }
     ensures { OnErr result (CanCount console.new.errors_failed) }
 {
-    let mode = mode_of(words.modcod, words.short, false)?;
-    let mut rows = open_input(terminal, words.rows)?;
-    Ok(table_command(rt.alloc(), &mode, words.quiet, &mut rows, console))
+    let mode = Mode::of(words.modcod, words.short, false).ok_or(Unserved::NoMode)?;
+    let mut rows = opener.read(words.rows)?;
+    Ok(table_command(alloc, &mode, words.quiet, &mut rows, console))
+}
+
+/// Runs `judge` on its files.
+fn judge_files<R: CountedRead, C: Output, O: CountedWrite, E: CountedWrite>(
+    alloc: Global,
+    shape: Shape,
+    tuning: Tuning,
+    words: &JudgeArguments<'_>,
+    files: &mut JudgeFiles<R, C>,
+    console: &mut Console<O, E>,
+) -> Exit
+    requires files { CanJudge files.old }
+    requires console { CanNote console.old }
+{
+    let (hard, quiet) = (words.hard, words.quiet);
+    if words.each {
+        judge_each_command(alloc, shape, hard, quiet, tuning, files, console)
+    } else {
+        judge_command(alloc, shape, hard, quiet, tuning, files, console)
+    }
 }
 
 /// `judge`. The certificate's file is opened before the others.
-fn serve_judge<'a, R: Disk + AllocGlobal, O: CountedWrite, E: CountedWrite>(
-    rt: &R,
-    terminal: &Terminal<'_, R>,
+fn serve_judge<'a, P: Opens<'a>, O: CountedWrite, E: CountedWrite>(
+    opener: &mut P,
+    alloc: Global,
     words: &JudgeArguments<'a>,
     console: &mut Console<O, E>,
-) -> Result<Exit, Fault<'a>>
-    requires { CanNote console.old }
+) -> Result<Exit, Unserved<'a>>
+    requires opener { P.opened opener.old ≡ 0 }
+    requires console { CanNote console.old }
     ensures { OnErr result (CanCount console.new.errors_failed) }
 {
-    let shape = shape_by(words.code)?;
-    let tuning = judging_of(words)?;
-    let mut files = open_judge(terminal, words)?;
-    if words.each {
-        return Ok(judge_each_command(
-            rt.alloc(),
-            shape,
-            words.hard,
-            words.quiet,
-            tuning,
-            &mut files,
-            console,
-        ));
+    let shape = shape_by(words.code).ok_or(no_code(words.code))?;
+    let tuning = judging_of(words).ok_or(Unserved::OutOfRange)?;
+    let mut files = open_judge(opener, words)?;
+    Ok(judge_files(alloc, shape, tuning, words, &mut files, console))
+}
+
+/// Runs `check` on its files.
+fn check_files<R: CountedRead, O: CountedWrite, E: CountedWrite>(
+    alloc: Global,
+    each: bool,
+    rows: &mut R,
+    certificate: &mut R,
+    console: &mut Console<O, E>,
+) -> Exit
+    requires rows { CanCount (R.count rows.old) }
+    requires certificate { CanCount (R.count certificate.old) }
+    requires console { CanNote console.old }
+{
+    if each {
+        check_each_command(alloc, rows, certificate, console)
+    } else {
+        check_command(alloc, rows, certificate, console)
     }
-    Ok(judge_command(
-        rt.alloc(),
-        shape,
-        words.hard,
-        words.quiet,
-        tuning,
-        &mut files,
-        console,
-    ))
 }
 
 /// `check`.
-fn serve_check<'a, R: Disk + AllocGlobal, O: CountedWrite, E: CountedWrite>(
-    rt: &R,
-    terminal: &Terminal<'_, R>,
+fn serve_check<'a, P: Opens<'a>, O: CountedWrite, E: CountedWrite>(
+    opener: &mut P,
+    alloc: Global,
     words: &CheckArguments<'a>,
     console: &mut Console<O, E>,
-) -> Result<Exit, Fault<'a>>
-    requires { CanNote console.old }
+) -> Result<Exit, Unserved<'a>>
+    requires opener { P.opened opener.old ≡ 0 }
+    requires console { CanNote console.old }
     ensures { OnErr result (CanCount console.new.errors_failed) }
 {
-    let (mut rows, mut certificate) = open_inputs(terminal, words.rows, words.certificate)?;
-    if words.each {
-        return Ok(check_each_command(rt.alloc(), &mut rows, &mut certificate, console));
-    }
-    Ok(check_command(rt.alloc(), &mut rows, &mut certificate, console))
-}
-
-/// The form of the words of `compare`, with their code. BBFRAMEs have a mode.
-fn form_of(words: &CompareArguments<'_>) -> Result<Form, Fault<'static>> {
-    match (words.form, words.code) {
-        (WordsArguments::Bytes, code) => Ok(Form::Bytes(shape_by(code)?)),
-        (WordsArguments::Digits, code) => Ok(Form::Digits(shape_by(code)?)),
-        (WordsArguments::Bbframes, CodeArguments::Mode { modcod, short }) => {
-            Ok(Form::Bbframes(mode_of(modcod, short, false)?))
-        }
-        (WordsArguments::Bbframes, CodeArguments::Shape(_)) => {
-            Err(Fault::refused(FaultText::of("no such mode")))
-        }
-    }
+    let (mut rows, mut certificate) = open_inputs(opener, words.rows, words.certificate)?;
+    Ok(check_files(alloc, words.each, &mut rows, &mut certificate, console))
 }
 
 /// `compare`.
-fn serve_compare<'a, R: Disk + AllocGlobal, O: CountedWrite, E: CountedWrite>(
-    rt: &R,
-    terminal: &Terminal<'_, R>,
+fn serve_compare<'a, P: Opens<'a>, O: CountedWrite, E: CountedWrite>(
+    opener: &mut P,
+    alloc: Global,
     words: &CompareArguments<'a>,
     console: &mut Console<O, E>,
-) -> Result<Exit, Fault<'a>>
-    requires { CanNote console.old }
+) -> Result<Exit, Unserved<'a>>
+    requires opener { P.opened opener.old ≡ 0 }
+    requires console { CanNote console.old }
     ensures { OnErr result (CanCount console.new.errors_failed) }
 {
-    let form = form_of(words)?;
+    let form = form_of(words).ok_or(no_code(words.code))?;
     let (mut rows, mut certificates, mut device) = open_compare(
-        terminal,
+        opener,
         words.rows,
         words.certificates,
         words.words,
     )?;
     Ok(compare_command(
-        rt.alloc(),
+        alloc,
         form,
         &mut rows,
         &mut certificates,
@@ -424,72 +473,82 @@ fn serve_compare<'a, R: Disk + AllocGlobal, O: CountedWrite, E: CountedWrite>(
 
 /// `noise`. The rest of the buffer is written before the command has ended well; after a failed write nothing
 /// more is.
-fn serve_noise<'a, R: Disk + Clock + AllocGlobal, O: CountedWrite, E: CountedWrite>(
+fn serve_noise<'a, P: Opens<'a>, R: Disk + Clock + AllocGlobal, O: CountedWrite, E: CountedWrite>(
+    opener: &mut P,
     terminal: &Terminal<'_, R>,
     words: &NoiseArguments<'a>,
     console: &mut Console<O, E>,
-) -> Result<Exit, Fault<'a>>
-    requires { CanNote console.old }
+) -> Result<Exit, Unserved<'a>>
+    requires opener { P.opened opener.old ≡ 0 }
+    requires console { CanNote console.old }
     ensures { OnErr result (CanCount console.new.errors_failed) }
 {
-    let channel = channel_of(words.channel)?;
+    let channel = channel_of(words.channel).ok_or(Unserved::OutOfRange)?;
     let show = show_on(terminal, Pace::AddingNoise, words.progress);
-    let (mut from, mut to) = open_noise(terminal, &show, words.from, words.to)?;
+    let (mut from, mut to) = open_noise(opener, &show, words)?;
     let exit = noise_command(channel, &mut from, &mut to, console);
     show.finish();
     match to.into_inner().into_inner().finish() {
-        Err(_) if exit == Exit::Fine => Err(Fault::Write),
+        Err(_) if exit == Exit::Fine => Err(Unserved::Write),
         _ => Ok(exit),
     }
 }
 
 /// `scan`.
-fn serve_scan<'a, R: Disk + Clock + AllocGlobal, O: CountedWrite, E: CountedWrite>(
-    rt: &R,
+fn serve_scan<'a, P: Opens<'a>, R: Disk + Clock + AllocGlobal, O: CountedWrite, E: CountedWrite>(
+    opener: &mut P,
     terminal: &Terminal<'_, R>,
     words: &ScanArguments<'a>,
     console: &mut Console<O, E>,
-) -> Result<Exit, Fault<'a>>
-    requires { CanNote console.old }
+) -> Result<Exit, Unserved<'a>>
+    requires opener { P.opened opener.old ≡ 0 }
+    requires console { CanNote console.old }
     ensures { OnErr result (CanCount console.new.errors_failed) }
 {
     let show = show_on(terminal, Pace::Scanning, words.progress);
-    let mut symbols = open_scan(terminal, &show, words)?;
-    let exit = scan_command(rt.alloc(), words.symbols, &mut symbols, console);
+    let mut symbols = open_scan(opener, &show, words)?;
+    let exit = scan_command(
+        terminal.host().alloc(),
+        words.symbols,
+        &mut symbols,
+        console,
+    );
     show.finish();
     Ok(exit)
 }
 
 /// `join`.
-fn serve_join<'a, R: Disk + AllocGlobal, O: CountedWrite, E: CountedWrite>(
-    rt: &R,
-    terminal: &Terminal<'_, R>,
+fn serve_join<'a, P: Opens<'a>, O: CountedWrite, E: CountedWrite>(
+    opener: &mut P,
+    alloc: Global,
     words: &JoinArguments<'a>,
     console: &mut Console<O, E>,
-) -> Result<Exit, Fault<'a>>
-    requires { CanNote console.old }
+) -> Result<Exit, Unserved<'a>>
+    requires opener { P.opened opener.old ≡ 0 }
+    requires console { CanNote console.old }
     ensures { OnErr result (CanCount console.new.errors_failed) }
 {
-    let mode = mode_of(words.modcod, words.short, false)?;
-    let (mut bbframes, mut packets) = open_join(terminal, words)?;
-    Ok(join_command(rt.alloc(), mode, &mut bbframes, &mut packets, console))
+    let mode = Mode::of(words.modcod, words.short, false).ok_or(Unserved::NoMode)?;
+    let (mut bbframes, mut packets) = open_join(opener, words)?;
+    Ok(join_command(alloc, mode, &mut bbframes, &mut packets, console))
 }
 
 /// `audit`. If it is refused, a note names the likely causes.
-fn serve_audit<'a, R: Disk + AllocGlobal, O: CountedWrite, E: CountedWrite>(
-    rt: &R,
+fn serve_audit<'a, P: Opens<'a>, R: Disk + AllocGlobal, O: CountedWrite, E: CountedWrite>(
+    opener: &mut P,
     terminal: &Terminal<'_, R>,
     words: &AuditArguments<'a>,
     console: &mut Console<O, E>,
-) -> Result<Exit, Fault<'a>>
-    requires { CanNote console.old }
+) -> Result<Exit, Unserved<'a>>
+    requires opener { P.opened opener.old ≡ 0 }
+    requires console { CanNote console.old }
     ensures { OnErr result (CanCount console.new.errors_failed) }
 {
-    let setup = setup_of(words.link)?;
-    let how = demodulation_of(&setup.mode, words)?;
-    let (mut rows, mut symbols, mut report, mut certificates) = open_audit(terminal, words)?;
+    let setup = setup_of(words.link).ok_or(Unserved::NoMode)?;
+    let how = demodulation_of(&setup.mode, words).ok_or(Unserved::OutOfRange)?;
+    let (mut rows, mut symbols, mut report, mut certificates) = open_audit(opener, words)?;
     let exit = audit_command(
-        rt.alloc(),
+        terminal.host().alloc(),
         setup,
         how,
         &mut rows,
