@@ -245,7 +245,7 @@ pub fn with_link<'a, P: Opens<'a>, R: Disk + Clock + AllocGlobal, O: CountedWrit
 {
     let words = file_words(request);
     let alloc = terminal.host().alloc();
-    let setup = setup_of(words.link).ok_or(Unserved::OutOfRange)?;
+    let setup = setup_of(words.link).ok_or(Unserved::NoMode)?;
     let pace = pace_of(request, &setup.mode);
     let show = show_of(terminal, pace, words.progress, words.notes_gaps);
     let unseen = Show::new(terminal, pace, false);

@@ -1,6 +1,7 @@
 //! The setup of a link's options.
 //!
-//! The parser has tested every number: its ranges are those of these types. So there is always a setup.
+//! The parser has tested every number: its ranges are those of these types. So only the mode can be missing, since not each
+//! MODCOD has short frames.
 use s2_link::{LinkSetup, RollOff};
 use s2_mode::Mode;
 use s2_scramble::ScramblingNumber;

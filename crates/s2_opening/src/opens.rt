@@ -14,6 +14,10 @@ pub enum Unserved<'a> {
     NoMemory,
     /// The rest of an output cannot be written.
     Write,
+    /// The standard has no mode with these numbers.
+    NoMode,
+    /// No code has a shape with these numbers.
+    NoShape,
     /// A number of the command line is out of its range. The parser has refused such numbers.
     OutOfRange,
 }

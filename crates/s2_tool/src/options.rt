@@ -1,6 +1,6 @@
 //! The options of the command line in the types of the commands. This is plain code.
 //!
-//! The parser has tested every number: its ranges are those of these types (below). So there is always a value.
+//! The parser has tested every number: its ranges are those of these types (below). So only a mode or a shape can be missing.
 use s2_audit::Demodulation;
 use s2_channel::{EsN0, Strength};
 use s2_commands::{Channel, DemodOptions, RunOptions};

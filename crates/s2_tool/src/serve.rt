@@ -30,7 +30,7 @@ use s2_scan::scan_command;
 use s2_table::table_command;
 use s2_tuning::Tuning;
 use s2_words::{
-    AuditArguments, CheckArguments, CompareArguments, DemodArguments, JoinArguments,
+    AuditArguments, CheckArguments, CodeArguments, CompareArguments, DemodArguments, JoinArguments,
     JudgeArguments, ModesArguments, NoiseArguments, Request, RowsArguments, RunArguments,
     ScanArguments, TableArguments, Unread, not_text, parse_arguments,
 };
@@ -136,6 +136,8 @@ fn fault_of<'a>(unserved: Unserved<'a>) -> Fault<'a> {
         Unserved::UsedTwice(name) => Fault::UsedTwice(name),
         Unserved::NoMemory => Fault::NoMemory,
         Unserved::Write => Fault::Write,
+        Unserved::NoMode => Fault::refused(FaultText::of("no such mode")),
+        Unserved::NoShape => Fault::refused(FaultText::of("no such shape")),
         Unserved::OutOfRange => Fault::refused(FaultText::of("a number is out of its range")),
     }
 }
@@ -277,6 +279,17 @@ fn serve_own<R: Disk + AllocGlobal, O: CountedWrite, E: CountedWrite>(
     Ok(self_command(alloc, &mut input, console))
 }
 
+/// Why there is no such code.
+fn no_code<'a>(code: CodeArguments) -> Unserved<'a> {
+    match code {
+        CodeArguments::Shape(_) => Unserved::NoShape,
+        CodeArguments::Mode {
+            modcod: _,
+            short: _,
+        } => Unserved::NoMode,
+    }
+}
+
 /// `demod`.
 fn serve_demod<'a, P: Opens<'a>, R: Disk + Clock + AllocGlobal, O: CountedWrite, E: CountedWrite>(
     opener: &mut P,
@@ -290,7 +303,7 @@ fn serve_demod<'a, P: Opens<'a>, R: Disk + Clock + AllocGlobal, O: CountedWrite,
     requires notes { CanCount (E.count notes.old) }
     ensures { OnErr result (CanCount console.new.errors_failed) }
 {
-    let options = demod_options(words).ok_or(Unserved::OutOfRange)?;
+    let options = demod_options(words).ok_or(Unserved::NoMode)?;
     let request = LinkRequest::Demod(words, &options);
     with_link(opener, terminal, request, console, notes)
 }
@@ -308,7 +321,7 @@ fn serve_run<'a, P: Opens<'a>, R: Disk + Clock + AllocGlobal, O: CountedWrite, E
     requires notes { CanCount (E.count notes.old) }
     ensures { OnErr result (CanCount console.new.errors_failed) }
 {
-    let options = run_options(words).ok_or(Unserved::OutOfRange)?;
+    let options = run_options(words).ok_or(Unserved::NoMode)?;
     let request = LinkRequest::Run(words, &options);
     with_link(opener, terminal, request, console, notes)
 }
@@ -323,9 +336,7 @@ fn serve_modes<O: CountedWrite, E: CountedWrite>(
     ensures { OnErr result (CanCount console.new.errors_failed) }
 {
     let mode = match words.mode {
-        Some((modcod, short)) => {
-            Some(Mode::of(modcod, short, false).ok_or(Unserved::OutOfRange)?)
-        }
+        Some((modcod, short)) => { Some(Mode::of(modcod, short, false).ok_or(Unserved::NoMode)?) }
         None => None,
     };
     Ok(modes_command(alloc, &words.rate, &mode, console))
@@ -340,7 +351,7 @@ fn serve_rows<O: CountedWrite, E: CountedWrite>(
     requires { CanNote console.old }
     ensures { OnErr result (CanCount console.new.errors_failed) }
 {
-    let shape = shape_of(words.shape).ok_or(Unserved::OutOfRange)?;
+    let shape = shape_of(words.shape).ok_or(Unserved::NoShape)?;
     let weight = usize::from(words.weight);
     Ok(rows_command(alloc, shape, weight, words.seed, console))
 }
@@ -356,7 +367,7 @@ fn serve_table<'a, P: Opens<'a>, O: CountedWrite, E: CountedWrite>(
     requires console { CanNote console.old }
     ensures { OnErr result (CanCount console.new.errors_failed) }
 {
-    let mode = Mode::of(words.modcod, words.short, false).ok_or(Unserved::OutOfRange)?;
+    let mode = Mode::of(words.modcod, words.short, false).ok_or(Unserved::NoMode)?;
     let mut rows = opener.read(words.rows)?;
     Ok(table_command(alloc, &mode, words.quiet, &mut rows, console))
 }
@@ -392,7 +403,7 @@ fn serve_judge<'a, P: Opens<'a>, O: CountedWrite, E: CountedWrite>(
     requires console { CanNote console.old }
     ensures { OnErr result (CanCount console.new.errors_failed) }
 {
-    let shape = shape_by(words.code).ok_or(Unserved::OutOfRange)?;
+    let shape = shape_by(words.code).ok_or(no_code(words.code))?;
     let tuning = judging_of(words).ok_or(Unserved::OutOfRange)?;
     let mut files = open_judge(opener, words)?;
     Ok(judge_files(alloc, shape, tuning, words, &mut files, console))
@@ -443,7 +454,7 @@ fn serve_compare<'a, P: Opens<'a>, O: CountedWrite, E: CountedWrite>(
     requires console { CanNote console.old }
     ensures { OnErr result (CanCount console.new.errors_failed) }
 {
-    let form = form_of(words).ok_or(Unserved::OutOfRange)?;
+    let form = form_of(words).ok_or(no_code(words.code))?;
     let (mut rows, mut certificates, mut device) = open_compare(
         opener,
         words.rows,
@@ -517,7 +528,7 @@ fn serve_join<'a, P: Opens<'a>, O: CountedWrite, E: CountedWrite>(
     requires console { CanNote console.old }
     ensures { OnErr result (CanCount console.new.errors_failed) }
 {
-    let mode = Mode::of(words.modcod, words.short, false).ok_or(Unserved::OutOfRange)?;
+    let mode = Mode::of(words.modcod, words.short, false).ok_or(Unserved::NoMode)?;
     let (mut bbframes, mut packets) = open_join(opener, words)?;
     Ok(join_command(alloc, mode, &mut bbframes, &mut packets, console))
 }
@@ -533,7 +544,7 @@ fn serve_audit<'a, P: Opens<'a>, R: Disk + AllocGlobal, O: CountedWrite, E: Coun
     requires console { CanNote console.old }
     ensures { OnErr result (CanCount console.new.errors_failed) }
 {
-    let setup = setup_of(words.link).ok_or(Unserved::OutOfRange)?;
+    let setup = setup_of(words.link).ok_or(Unserved::NoMode)?;
     let how = demodulation_of(&setup.mode, words).ok_or(Unserved::OutOfRange)?;
     let (mut rows, mut symbols, mut report, mut certificates) = open_audit(opener, words)?;
     let exit = audit_command(
