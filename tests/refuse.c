@@ -2,9 +2,10 @@
 
    A growth is a call of malloc, calloc, realloc, aligned_alloc or posix_memalign; they count from 1, and the one of the number
    REFUSE_AT is refused, and where REFUSE_ON is set all that follow. As it is refused the file REFUSE_TOLD is made, so that who
-   started the program knows. */
+   started the program knows. When the program ends, the number of growths is written to the file REFUSE_COUNT, if it is set. */
 #include <errno.h>
 #include <fcntl.h>
+#include <stdio.h>
 #include <stdlib.h>
 #include <unistd.h>
 
@@ -21,6 +22,18 @@ __attribute__((constructor)) static void begin(void) {
     growths = 0;
     refused = at ? strtoul(at, 0, 10) : 0;
     on = getenv("REFUSE_ON") != 0;
+}
+
+__attribute__((destructor)) static void count(void) {
+    char text[40];
+    int size = snprintf(text, sizeof text, "%lu", growths);
+    const char *to = getenv("REFUSE_COUNT");
+    int file = to ? open(to, O_WRONLY | O_CREAT | O_TRUNC, 0644) : -1;
+    if (file >= 0) {
+        if (write(file, text, size) != size)
+            _exit(74);
+        close(file);
+    }
 }
 
 static int is_refused(void) {

@@ -2,6 +2,7 @@
 
 NUMBER is the scrambling number. It prints the first symbols of the header and of the first slot, the last symbol, and a sum of all bytes
 weighted by their positions. SYMBOLS becomes a symbol file of the frame, amplitude 700."""
+import functools
 import struct
 import sys
 
@@ -45,13 +46,18 @@ def recurrence(start, taps):
     return bits
 
 
+@functools.cache
+def sequences():
+    """x and y of 5.5.4."""
+    return recurrence([1] + 17 * [0], [7, 0]), recurrence(18 * [1], [10, 7, 5, 0])
+
+
+@functools.cache
 def quarter_turns(number, count):
     """R(0) .. of 5.5.4."""
-    x = recurrence([1] + 17 * [0], [7, 0])
-    y = recurrence(18 * [1], [10, 7, 5, 0])
-    period = 2**18 - 1
-    z = [x[(place + number) % period] ^ y[place] for place in range(period)]
-    return [2 * z[(place + 131072) % period] + z[place] for place in range(count)]
+    (x, y), period = sequences(), 2**18 - 1
+    z = [[x[(place + number) % period] ^ y[place % period] for place in range(start, start + count)] for start in (0, 131072)]
+    return [2 * later + now for now, later in zip(*z)]
 
 
 def dummy_frame(number, frame_type=0):

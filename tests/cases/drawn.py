@@ -1,4 +1,6 @@
 """Made rows and noise, computed from their seeds independently of the program, as docs/formats.md describes them."""
+import functools
+import struct
 from decimal import Decimal
 
 
@@ -45,20 +47,25 @@ def made_rows(group, groups, q, weight, seed):
 
 def moved(symbols, gains):
     """The bytes of symbols whose components have these gains, in turn."""
-    made = b""
-    for at in range(0, len(symbols) // 4 * 4, 2):
-        value = int.from_bytes(symbols[at : at + 2], "big", signed=True) + next(gains)
-        made += max(-32768, min(32767, value)).to_bytes(2, "big", signed=True)
-    return made
+    components = struct.unpack(f">{len(symbols) // 4 * 2}h", symbols[: len(symbols) // 4 * 4])
+    return struct.pack(f">{len(components)}h", *(max(-32768, min(32767, value + gain)) for value, gain in zip(components, gains)))
 
 
 def differences(seed, words):
     """Sums of the bytes of a number of words of a generator, less their mean."""
     generator = Pcg32(seed)
+    state, gain, most = generator.state, generator.gain, 2**64 - 1
     while True:
-        yield sum(sum(generator.next_word().to_bytes(4, "big")) for _ in range(words)) - 510 * words
+        total = -510 * words
+        for _ in range(words):
+            # the next word, before its rotation, twice
+            word = ((state >> 18 ^ state) >> 27 & 0xFFFFFFFF) * 0x100000001 >> (state >> 59)
+            total += (word & 255) + (word >> 8 & 255) + (word >> 16 & 255) + (word >> 24 & 255)
+            state = state * Pcg32.MULTIPLIER + gain & most
+        yield total
 
 
+@functools.cache
 def spoilt(symbols, seed, level):
     """The bytes of symbols with the noise of a level."""
     return moved(symbols, (abs(it) * level // 256 * (1 if it >= 0 else -1) for it in differences(seed, 2)))
@@ -73,6 +80,7 @@ def amplitude_of(decibels):
     return amplitude
 
 
+@functools.cache
 def gaussian(symbols, seed, decibels):
     """The bytes of symbols with Gaussian noise of an Es/N0, given as on the command line."""
     amplitude = amplitude_of(decibels)

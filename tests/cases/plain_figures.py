@@ -1,9 +1,8 @@
 """The figures of a frame, computed independently from its symbols, its soft values and its decided word: docs/formats.md describes them, and
 EN 302 307-1 the frame (5.3.3, 5.4, 5.5)."""
-import functools
 from dataclasses import dataclass
 
-from dummy import bpsk, header, recurrence
+from dummy import bpsk, header, quarter_turns
 
 HEADER, SLOT, PILOTS, BETWEEN, DIAGONAL, AXIS = 90, 90, 36, 16, 700, 990
 QPSK = [(i, q) for i in (DIAGONAL, -DIAGONAL) for q in (DIAGONAL, -DIAGONAL)]
@@ -37,19 +36,6 @@ class Mode:
 
     def size(self):
         return self.known() + self.payload()
-
-
-@functools.cache
-def sequences():
-    """The two sequences of 5.5.4, whose sums scramble the symbols after a header."""
-    return recurrence([1] + 17 * [0], [7, 0]), recurrence(18 * [1], [10, 7, 5, 0])
-
-
-def quarter_turns(number, count):
-    """The rotation of each symbol after a header, in quarters."""
-    x, y = sequences()
-    z = [x[(at + number) % len(x)] ^ y[at % len(y)] for start in (0, 131072) for at in range(start, start + count)]
-    return [low + 2 * high for low, high in zip(z[:count], z[count:])]
 
 
 def correlated(part, pairs):
