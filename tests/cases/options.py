@@ -3,7 +3,7 @@
 import re
 from dataclasses import dataclass, field
 
-from cases import audit, comparing, equalized, figured, links, listing, progress, records, rotations
+from cases import audit, comparing, equalized, figured, links, listing, progress, records, rotations, slips
 from cases.common import (
     ANY, FINE, LINK, NO, PACKET, PAIR, SLIPPED, STORED, STORED_CERTIFICATE, STORED_MOVED, TOY, TWO, UNDECODED, WANTED, Case, Rule, digest, ending, noted,
 )  # fmt: skip
@@ -309,6 +309,11 @@ def demod_effects(two, pilots):
     both_frames = received(TWO.replace("8190 sole fixed 0", "8190 sole fixed 0 turn 1"))
     ends = {"": UNFOUND, "--turns": both_frames, "--turns --lock 40": both_frames}
     yield Effect("--turns", f"demod {LINK} {{}} made in out", ends, {"reads": {"in": rotated}})
+    # three frames, of which the first lacks a symbol: without the option the second is not found
+    slipped = slips.without(two[: len(two) // 2] + two, slips.MIDDLE)
+    both_places = [slips.FRAME - 1, 2 * slips.FRAME - 1]
+    far, near = ({"code": NO, "out": slips.delivers(places, 0), "errors": ANY, "writes": {"out": ANY}} for places in (both_places[1:], both_places))
+    yield Effect("--resync", f"demod {LINK} {{}} made in out", {"": far, "--resync": near, "--resync --turns": near}, {"reads": {"in": slipped}})
     # frames with three times their amplitude: equalized, their soft values are those of frames with the usual one
     usual, other = (ended(TWO, out=2 * PACKET, record=values) for values in (records.records(two)["--values"], ANY))
     ends = {"": other, "--equalize": usual, "--equalize --turns": usual}

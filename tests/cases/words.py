@@ -385,6 +385,7 @@ WORDS = [
     ("audit", "--tuned", "if the report was made with --tuned; --divisor overrides it"),
     *((name, "five sync bytes at distance D begin at byte B", "if the first or second is refused, and what to try") for name in ("mod", "run")),
     *((name, "--resync", "continue at the next place with five sync bytes at distance 188; count the bytes left out") for name in ("mod", "run")),
+    *((name, "--resync", "search its symbols again for a header that is followed by another one frame later") for name in ("demod", "run")),
     ("mod", "N bytes left out in M places", "a wrong sync byte and the bytes after it, up to the next five sync bytes"),
     ("run", "N bytes left out in M places", "a wrong sync byte and the bytes after it, up to the next five; the exit is 2"),
     ("mod", "2", "with --resync: bytes were left out"),

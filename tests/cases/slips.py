@@ -1,0 +1,67 @@
+"""Streams that lack a symbol or have one too many, as after slips of a symbol clock, received with and without `--resync`. Each frame but the one
+with the slip must arrive at its place."""
+import struct
+
+from cases.common import ANY, LINK, NO, Case, Rule
+from cases.plain_receiver import FRAME, HEADER
+from cases.rotations import frames_of
+from cases.wrong_symbols import numbered
+
+# As many frames as these packets need.
+PACKETS = numbered(6)
+# The symbol of a frame at which it has the slip.
+MIDDLE = FRAME // 2
+
+
+def without(symbols, place):
+    return symbols[: 4 * place] + symbols[4 * (place + 1) :]
+
+
+def with_one_more(symbols, place):
+    return symbols[: 4 * place] + struct.pack(">hh", 700, -700) + symbols[4 * place :]
+
+
+def forged(symbols, place):
+    """The symbols with the header of the first frame at a place inside another one, where no frame begins."""
+    return symbols[: 4 * place] + symbols[: 4 * HEADER] + symbols[4 * (place + HEADER) :]
+
+
+def delivers(places, lost):
+    """Holds for a report in which exactly the frames at these places are delivered, each sole, and a frame at the place `lost` is not."""
+
+    def told(got):
+        lines = {int(words[3]): " ".join(words[4:]) for words in frames_of(got)}
+        outcome = lines.pop(lost, "lost").split()[-1]
+        return outcome == "lost" and sorted(lines) == places and set(lines.values()) == {"sole fixed 0"}
+
+    return Rule(f"..{places}..", told)
+
+
+def received(symbols, places, lost, options="--resync"):
+    return Case(f"demod {LINK} {options} made in out", NO, delivers(places, lost), ANY, reads={"in": symbols}, writes={"out": ANY})
+
+
+def slip(five, at, is_missing):
+    """A stream with a slip in one frame, and the places of the others."""
+    place = FRAME * at + MIDDLE
+    symbols = without(five, place) if is_missing else with_one_more(five, place)
+    moved = -1 if is_missing else 1
+    return symbols, [FRAME * other + (moved if other > at else 0) for other in range(len(five) // (4 * FRAME)) if other != at]
+
+
+def cases(made_by):
+    """The cases, on symbols that a function makes of the words of `mod` and of packets."""
+    five = made_by(f"mod {LINK} made in out", {"in": PACKETS})
+    for is_missing in (True, False):
+        for at in range(len(five) // (4 * FRAME)):
+            symbols, places = slip(five, at, is_missing)
+            yield received(symbols, places, FRAME * at)
+            # a header that no frame follows does not count
+            yield received(forged(symbols, FRAME * at + FRAME // 4), places, FRAME * at)
+    # without the option a missing symbol also costs the frame after it, and an additional one does not
+    symbols, places = slip(five, 1, True)
+    yield received(symbols, [it for it in places if it != 2 * FRAME - 1], FRAME, "")
+    yield received(*slip(five, 1, False), FRAME, "")
+    # nothing is searched again where no frame is lost
+    for options in ("", "--resync"):
+        yield Case(f"demod {LINK} {options} made in out", 0, ANY, reads={"in": five}, writes={"out": PACKETS})
