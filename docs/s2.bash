@@ -12,7 +12,7 @@ _s2() {
     --modcod|--number|--ro|--rounds|--passes|--factor|--lock|--every|--first|--dummy|--seed|--seeds|--level|--esn0|--rate|--group|--groups|--q|--weight) return ;;
   esac
   case "${COMP_WORDS[1]}" in
-    demod) words="--modcod --short --pilots --number --ro --rounds --passes --uncertified --divisor --factor --lock --turns --equalize --tuned --figures --every --exit-by --strict --quiet --progress --certificates --values --codewords --bbframes --help" ;;
+    demod) words="--modcod --short --pilots --number --ro --rounds --passes --uncertified --divisor --factor --lock --turns --resync --equalize --tuned --figures --every --exit-by --strict --quiet --progress --certificates --values --codewords --bbframes --help" ;;
     scan) words="--first --quiet --progress --help" ;;
     mod) words="--modcod --short --pilots --number --ro --dummy --resync --quiet --progress --codewords --bbframes --help" ;;
     run) words="--modcod --short --pilots --number --ro --dummy --resync --rounds --passes --uncertified --divisor --factor --lock --turns --equalize --tuned --seed --seeds --level --esn0 --figures --every --exit-by --strict --quiet --progress --certificates --values --codewords --bbframes --help" ;;

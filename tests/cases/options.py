@@ -309,7 +309,7 @@ def demod_effects(two, pilots):
     both_frames = received(TWO.replace("8190 sole fixed 0", "8190 sole fixed 0 turn 1"))
     ends = {"": UNFOUND, "--turns": both_frames, "--turns --lock 40": both_frames}
     yield Effect("--turns", f"demod {LINK} {{}} made in out", ends, {"reads": {"in": rotated}})
-    # three frames, of which the first lacks a symbol: without the option the second is not found
+    # three frames; the first lacks a symbol, so without the option the second is not found
     slipped = slips.without(two[: len(two) // 2] + two, slips.MIDDLE)
     both_places = [slips.FRAME - 1, 2 * slips.FRAME - 1]
     far, near = ({"code": NO, "out": slips.delivers(places, 0), "errors": ANY, "writes": {"out": ANY}} for places in (both_places[1:], both_places))

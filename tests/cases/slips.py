@@ -7,7 +7,7 @@ from cases.plain_receiver import FRAME, HEADER
 from cases.rotations import frames_of
 from cases.wrong_symbols import numbered
 
-# As many frames as these packets need.
+# The packets of all streams here.
 PACKETS = numbered(6)
 # The symbol of a frame at which it has the slip.
 MIDDLE = FRAME // 2
@@ -22,7 +22,7 @@ def with_one_more(symbols, place):
 
 
 def forged(symbols, place):
-    """The symbols with the header of the first frame at a place inside another one, where no frame begins."""
+    """The symbols with the header of the first frame at a place inside another one. No frame begins there."""
     return symbols[: 4 * place] + symbols[: 4 * HEADER] + symbols[4 * (place + HEADER) :]
 
 
@@ -62,6 +62,6 @@ def cases(made_by):
     symbols, places = slip(five, 1, True)
     yield received(symbols, [it for it in places if it != 2 * FRAME - 1], FRAME, "")
     yield received(*slip(five, 1, False), FRAME, "")
-    # nothing is searched again where no frame is lost
+    # without a lost frame nothing is searched again
     for options in ("", "--resync"):
         yield Case(f"demod {LINK} {options} made in out", 0, ANY, reads={"in": five}, writes={"out": PACKETS})
