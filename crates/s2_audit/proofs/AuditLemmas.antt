@@ -18,22 +18,23 @@ use Rattle.s2_check.specs.Verdicts.{is_certified}
 use Rattle.s2_check.specs.declared.verdict.Verdict.{Verdict}
 use Rattle.s2_rows.specs.Rows.{Rows}
 use Rattle.s2_audit.specs.declared.counts.Counts.{Counts}
-use Rattle.s2_audit.specs.declared.entry.Frame.{Frame}
-use Rattle.s2_audit.specs.declared.entry.Entry.{Entry}
-use Rattle.s2_audit.specs.declared.entry.Entry.TheVariants as entries
+use Rattle.s2_report.specs.declared.entry.Frame.{Frame}
+use Rattle.s2_report.specs.declared.entry.Entry.{Entry}
+use Rattle.s2_report.specs.declared.entry.Entry.TheVariants as entries
 use Rattle.s2_audit.specs.declared.judging.Finding.{Finding}
 use Rattle.s2_audit.specs.declared.judging.Finding.TheVariants.{Shown, Failed}
 use Rattle.s2_audit.specs.declared.outcome.Outcome.{Outcome}
 use Rattle.s2_audit.specs.declared.outcome.Outcome.TheVariants as outcomes
-use Rattle.s2_console.specs.declared.exit.Exit.{Exit}
-use Rattle.s2_console.specs.declared.fault.Fault.{Fault}
-use Rattle.s2_console.specs.declared.fault.Fault.TheVariants as faults
+use Rattle.s2_io.specs.declared.exit.Exit.{Exit}
+use Rattle.s2_io.specs.declared.fault.Fault.{Fault}
+use Rattle.s2_io.specs.declared.fault.Fault.TheVariants as faults
 use Rattle.s2_mode.specs.Mode.{symbols_in}
 use Rattle.s2_audit.specs.Auditors.{Terms, ReadsFrame, frame_soft}
-use Rattle.s2_audit.specs.Entries.{certified_in, certified_of, counted, counted_with, counts_of, entry_in, is_frame, is_most_likely, is_sole, text_of, IsLine}
+use Rattle.s2_report.specs.Entries.{entry_in, text_of, IsLine}
+use Rattle.s2_audit.specs.Entries.{certified_in, certified_of, counted, counted_with, counts_of, is_frame, is_most_likely, is_sole}
 use Rattle.s2_audit.specs.Limits.{frame_bytes, max_lines}
 use Rattle.s2_audit.specs.Lines.{shown_line}
-use Rattle.s2_audit.specs.Reading.{GivesEntry, NextEntry}
+use Rattle.s2_report.specs.Reading.{GivesEntry, NextEntry}
 use Rattle.s2_audit.specs.Showing.{Finds, FindsFile, FindsParsed}
 use Rattle.s2_audit.specs.Outcomes.{Evidence, EndOutcome, EntryOutcome, FrameOutcome, Judges, LineOutcome, SilentOutcome, Standing, HasOutcome, standing}
 use Rattle.s2_audit.specs.Auditing.{Audits, AuditsToEnd, Checked, IsAt, IsChecked, IsReadable, LieApart, LineIs, PrintsOutcome, ReachesLimit, Shows, last_of, line_of, outcome_exit, outcome_text}

@@ -4,9 +4,9 @@ use Rattle.std.specs.Prelude.{Some}
 use Rattle.s2_mode.specs.Mode.{shape_in}
 use Rattle.s2_mode.specs.Shape.{Shape}
 use Rattle.s2_rows.specs.Rows.{Rows}
-use Rattle.s2_console.specs.declared.exit.Exit.{Exit}
-use Rattle.s2_console.specs.declared.fault.Fault.{Fault}
-use Rattle.s2_console.specs.declared.fault.Fault.TheVariants as faults
+use Rattle.s2_io.specs.declared.exit.Exit.{Exit}
+use Rattle.s2_io.specs.declared.fault.Fault.{Fault}
+use Rattle.s2_io.specs.declared.fault.Fault.TheVariants as faults
 use Rattle.s2_link.specs.Link.{Link, link_of}
 use Rattle.s2_link.specs.declared.setup.Setup.{Setup}
 use Rattle.s2_inputs.specs.Inputs.{rows_in}
@@ -14,9 +14,9 @@ use Rattle.s2_audit.specs.declared.demodulation.Demodulation.{Demodulation}
 use Rattle.s2_audit.specs.Auditing.{ReachesLimit}
 use Rattle.s2_audit.specs.Commands.{AuditExits, AuditRuns, AuditsLink, Causes, Files}
 use Rattle.std.specs.Io.KnownBytes.{Appends}
-use Rattle.s2_console.specs.Faults.{fault_line}
-use Rattle.s2_console.specs.Exits.{Complains, exit_of}
-use Rattle.s2_console.specs.Screens.{Screen}
+use Rattle.s2_io.specs.Faults.{fault_line}
+use Rattle.s2_io.specs.Exits.{Complains, exit_of}
+use Rattle.s2_io.specs.Screens.{Screen}
 
 pub on_rows : (setup : Setup) (how : Demodulation) (old new : Files) (o o' : Option (List ℕ)) (result : Result Exit Fault) (shape : Shape) (link : Link) (rows : Rows)
     → shape ≡ shape_in setup.mode → link ≡ link_of setup rows → IfSome old.rows (λ xs. rows_in shape xs ≡ Ok rows)

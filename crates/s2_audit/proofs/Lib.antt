@@ -1,5 +1,3 @@
-pub mod NumberLemmas
-pub mod EntryLemmas
 pub mod ReadingLemmas
 pub mod ValueLemmas
 pub mod AuditorLemmas

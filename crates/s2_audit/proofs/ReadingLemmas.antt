@@ -1,13 +1,9 @@
--- What is read of a report and of a recording, byte by byte and symbol by symbol.
-use Rattle.std.proofs.Common.{◌≡◌, ℕ, ◌+◌, ◌*◌, ◌<◌, ◌≤◌, ◌==◌, Bool, true, false, List, [], ◌∷◌, ◌++◌, All, Option, Some, None, length, take, refl, sym, ap, subst, ◌∙◌, append-nil, length-append, arith, inl, inr, Result, Ok, Err, IfOk}
+-- What is read of a recording, byte by byte and symbol by symbol.
+use Rattle.std.proofs.Common.{◌≡◌, ℕ, ◌+◌, ◌*◌, ◌<◌, ◌≤◌, Bool, true, false, List, [], ◌++◌, Option, length, take, sym, subst, ◌∙◌, length-append, arith, Result, Ok, Err, IfOk}
 use Rattle.std.specs.Io.KnownBytes.{Consumes, IsAtEnd}
 use Rattle.std.proofs.KnownBytes.{Consumes-nil, Consumes-trans}
 use Rattle.std.proofs.lemmas.List.{length-take-le, take_all}
-use Rattle.std.proofs.lemmas.List.Elements.{All-nil, All-push}
-use Rattle.s2_rows.specs.Text.{is_line_feed}
-use Rattle.s2_audit.specs.Entries.{IsLine}
-use Rattle.s2_audit.specs.Limits.{line_bytes}
-use Rattle.s2_audit.specs.Reading.{EndsBefore, GivesByte, GivesLine, ReadsAt, SkipsBytes}
+use Rattle.s2_audit.specs.Reading.{EndsBefore, ReadsAt, SkipsBytes}
 
 -- ---- skipped bytes
 
@@ -34,29 +30,6 @@ module _ (n m : ℕ) (a b c : Option (List ℕ)) where
   -- the first bytes of a buffer, after others
   pub skip_front : {F : Type 0} (k total : ℕ) (buf : List ℕ) (went : Result Bool F) → k ≤ length buf → k ≡ m → total ≡ n + m → SkipsBytes n a b true → IfOk went (SkipsBytes (length (take k buf)) b c) → IfOk went (SkipsBytes total a c)
   skip_front k total buf went most is whole first last = skip_last total went whole first (subst (λ l. IfOk went (SkipsBytes l b c)) (length-take-le k buf most ∙ is) last)
-
--- ---- a line
-
--- these bytes of a line so far
-pub record LineSoFar (a b : Option (List ℕ)) (line : List ℕ) : Type 0 where
-  pub whole : IsLine line
-  pub read : Consumes a b line
-
-pub line_none : (a : Option (List ℕ)) (line : List ℕ) → line ≡ [] → LineSoFar a a line
-line_none a line e = subst (LineSoFar a a) (sym e) (record { whole = All-nil (λ b. is_line_feed b ≡ false); read = Consumes-nil a })
-
-pub line_more : (a b c : Option (List ℕ)) (line line' : List ℕ) (byte : ℕ) → LineSoFar a b line → GivesByte b c (Some byte) → is_line_feed byte ≡ false → line' ≡ line ++ byte ∷ [] → LineSoFar a c line'
-line_more a b c line line' byte so next other is =
-    subst (LineSoFar a c) (sym is) (record { whole = All-push (λ b. is_line_feed b ≡ false) line byte so.whole other; read = Consumes-trans a b c line (byte ∷ []) so.read next })
-
-pub line_ended : (a b c : Option (List ℕ)) (line : List ℕ) (byte : ℕ) → LineSoFar a b line → GivesByte b c (Some byte) → byte ≡ 10 → GivesLine a c line true
-line_ended a b c line byte so next is = (so.whole, Consumes-trans a b c line (10 ∷ []) so.read (subst (λ x. Consumes b c (x ∷ [])) is next))
-
-pub line_cut : (a b c : Option (List ℕ)) (line : List ℕ) → LineSoFar a b line → GivesByte b c None → GivesLine a c line false
-line_cut a b c line so (next, end) = (so.whole, subst (Consumes a c) (append-nil line) (Consumes-trans a b c line [] so.read next), inl end)
-
-pub line_long : (a b : Option (List ℕ)) (line : List ℕ) → LineSoFar a b line → line_bytes < length line → GivesLine a b line false
-line_long a b line so long = (so.whole, so.read, inr long)
 
 -- ---- a frame's bytes after skipped symbols
 

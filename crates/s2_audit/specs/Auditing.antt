@@ -13,14 +13,15 @@ use Rattle.s2_check.specs.Cost.{cost}
 use Rattle.s2_check.specs.Strict.{IsStrict}
 use Rattle.s2_check.specs.declared.verdict.Verdict.{Verdict}
 use Rattle.s2_check.specs.declared.verdict.Verdict.TheVariants.{Sole}
-use Rattle.s2_console.specs.declared.exit.Exit.{Exit}
-use Rattle.s2_console.specs.declared.fault.Fault.{Fault}
-use Rattle.s2_console.specs.declared.fault.Fault.TheVariants as faults
-use Rattle.s2_audit.specs.declared.entry.Frame.{Frame}
+use Rattle.s2_io.specs.declared.exit.Exit.{Exit}
+use Rattle.s2_io.specs.declared.fault.Fault.{Fault}
+use Rattle.s2_io.specs.declared.fault.Fault.TheVariants as faults
+use Rattle.s2_report.specs.declared.entry.Frame.{Frame}
 use Rattle.s2_audit.specs.declared.outcome.Outcome.{Outcome}
 use Rattle.s2_audit.specs.declared.outcome.Outcome.TheVariants as outcomes
 use Rattle.s2_audit.specs.Auditors.{Terms, frame_soft}
-use Rattle.s2_audit.specs.Entries.{certified_in, counts_of, entry_in, text_of, IsLine}
+use Rattle.s2_report.specs.Entries.{entry_in, text_of, IsLine}
+use Rattle.s2_audit.specs.Entries.{certified_in, counts_of}
 use Rattle.s2_audit.specs.Limits.{certificate_bytes, frame_bytes, max_lines}
 use Rattle.s2_audit.specs.Lines.{shown_line}
 use Rattle.s2_audit.specs.Outcomes.{Evidence, Standing, HasOutcome, standing}

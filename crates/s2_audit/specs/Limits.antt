@@ -1,11 +1,7 @@
--- The limits of an audit, and the size of a certificate in its file (own).
+-- The limit of an audit, and the size of a certificate in its file (own).
 use Rattle.std.specs.Prelude.{◌≡◌, ℕ, ◌+◌, ◌*◌, ◌/◌, ◌^◌}
 use Rattle.s2_mode.specs.Mode.{Mode, n_of, q_of, symbols_in}
-use Rattle.s2_audit.specs.declared.limits.TheConstants.{LINE_BYTES, MAX_LINES}
-
--- the maximum length of a report line in bytes, without its LF
-abbrev pub line_bytes : ℕ
-line_bytes = 511
+use Rattle.s2_audit.specs.declared.limits.TheConstants.{MAX_LINES}
 
 -- the maximum number of lines of a report
 abbrev pub max_lines : ℕ
@@ -20,7 +16,6 @@ frame_bytes m = 4 * symbols_in m
 abbrev pub certificate_bytes : Mode → ℕ
 certificate_bytes m = 13 + 2 * n_of m + (n_of m + 7) / 8 + 6 * (360 * q_of m)
 
--- the numbers that the code works with are these
+-- the limit that the code tests is this
 pub record LimitsLaw : Type 0 where
-  pub line : LINE_BYTES ≡ line_bytes
   pub lines : MAX_LINES ≡ max_lines

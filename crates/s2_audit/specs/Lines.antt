@@ -3,7 +3,7 @@ use Rattle.std.specs.Prelude.{ℕ, ℤ, List, ◌++◌, codes, decimal}
 use Rattle.std.specs.Fmt.{signed_decimal}
 use Rattle.s2_check.specs.Verdicts.{verdict_word}
 use Rattle.s2_audit.specs.declared.counts.Counts.{Counts}
-use Rattle.s2_audit.specs.declared.entry.Frame.{Frame}
+use Rattle.s2_report.specs.declared.entry.Frame.{Frame}
 use Rattle.s2_audit.specs.declared.judging.Reason.{Reason}
 use Rattle.s2_audit.specs.Showing.{reason_text}
 

@@ -3,13 +3,14 @@ use Rattle.std.specs.Prelude.{◌≡◌, ◌⊎◌, ℕ, ◌+◌, ◌<◌, ℤ, 
 use Rattle.std.specs.Io.KnownBytes.{Consumes, IsAtEnd}
 use Rattle.s2_mode.specs.Mode.{symbols_in}
 use Rattle.s2_check.specs.Verdicts.{is_certified}
-use Rattle.s2_console.specs.declared.exit.Exit.TheVariants as exits
-use Rattle.s2_console.specs.declared.fault.Fault.{Fault}
-use Rattle.s2_console.specs.declared.fault.Fault.TheVariants as faults
+use Rattle.s2_io.specs.declared.exit.Exit.TheVariants as exits
+use Rattle.s2_io.specs.declared.fault.Fault.{Fault}
+use Rattle.s2_io.specs.declared.fault.Fault.TheVariants as faults
 use Rattle.s2_audit.specs.declared.counts.Counts.{Counts}
-use Rattle.s2_audit.specs.declared.entry.Frame.{Frame}
-use Rattle.s2_audit.specs.declared.entry.Entry.{Entry}
-use Rattle.s2_audit.specs.declared.entry.Entry.TheVariants as entries
+use Rattle.s2_report.specs.declared.entry.Frame.{Frame}
+use Rattle.s2_report.specs.declared.entry.Entry.{Entry}
+use Rattle.s2_report.specs.declared.entry.Entry.TheVariants as entries
+use Rattle.s2_report.specs.Reading.{GivesEntry, IsUnreadable, line_fault}
 use Rattle.s2_audit.specs.declared.judging.Reason.{Reason}
 use Rattle.s2_audit.specs.declared.judging.Reason.TheVariants as reasons
 use Rattle.s2_audit.specs.declared.judging.Finding.{Finding}
@@ -20,7 +21,6 @@ use Rattle.s2_audit.specs.Auditors.{Terms, ReadsFrame, LacksFrame, frame_soft}
 use Rattle.s2_audit.specs.Entries.{counted_with}
 use Rattle.s2_audit.specs.Limits.{certificate_bytes}
 use Rattle.s2_audit.specs.Lines.{end_line, failed_line, left_over_line, shown_line}
-use Rattle.s2_audit.specs.Reading.{GivesEntry, IsUnreadable, line_fault}
 use Rattle.s2_audit.specs.Showing.{Finds}
 
 -- The symbols of a frame were read. This is found of a certificate, for their soft values

@@ -8,9 +8,9 @@ use crate::auditor::Auditor;
 use crate::counts::Counts;
 use crate::limits::MAX_LINES;
 use crate::outcome::{Outcome, count_entry, end_outcome, entry_outcome};
-use crate::report::next_entry;
-use s2_console::{Exit, Fault};
+use s2_io::{Exit, Fault};
 use s2_mode::{CountedRead, CountedWrite, write_full};
+use s2_report::next_entry;
 use std::alloc::Global;
 
 /// Audits the line with this number: reads it, and for a certified frame its certificate and its symbols.

@@ -1,7 +1,7 @@
 //! `audit`: checks the certificates of a receiver's report.
 ghost use Rattle.std.specs.Prelude.{◌≡◌, ◌≢◌, ◌⊎◌, ◌+◌, Err};
 ghost use Rattle.s2_mode.specs.Counts.{CanCount};
-ghost use Rattle.s2_console.specs.Screens.{CanShow};
+ghost use Rattle.s2_io.specs.Screens.{CanShow};
 ghost use Rattle.s2_link.specs.Link.{setup_of};
 ghost use Rattle.s2_audit.specs.Commands.{AuditExits, AuditRuns, AuditsLink, files_by};
 ghost use Rattle.s2_audit.specs.Outcomes.{evidence_by};
@@ -10,8 +10,8 @@ ghost use Rattle.s2_audit.specs.Auditing.{ReachesLimit};
 use crate::auditing::audit_lines;
 use crate::auditor::Auditor;
 use crate::demodulation::Demodulation;
-use s2_console::{Console, Exit, Fault};
 use s2_inputs::read_matrix;
+use s2_io::{Console, Exit, Fault};
 use s2_link::{Link, LinkSetup};
 use s2_mode::{CountedRead, CountedWrite};
 use std::alloc::Global;

@@ -5,7 +5,7 @@ ghost use Rattle.s2_check.specs.CertificateFiles.{Suits, view_of};
 ghost use Rattle.s2_audit.specs.Showing.{Finds, FindsFile, FindsView, reason_text};
 
 use s2_check::{Answer, CertFault, CertView, Certificate, Verdict, examine};
-use s2_console::Fault;
+use s2_io::Fault;
 use s2_matrix::Matrix;
 use std::alloc::Global;
 

@@ -1,7 +1,7 @@
 //! Laws, as contracts of functions with an empty body.
 ghost use Rattle.s2_audit.specs.Limits.{LimitsLaw};
 
-/// The numbers that the code works with are those of the definitions.
+/// The limit of lines, [`crate::MAX_LINES`], is that of the definitions.
 pub fn limits()
     ensures { LimitsLaw }
 {}

@@ -18,14 +18,11 @@ mod auditor;
 mod command;
 mod counts;
 mod demodulation;
-mod entry;
 mod judging;
 pub mod laws;
 mod limits;
 mod lines;
-mod number;
 mod outcome;
-mod report;
 
 pub use command::audit_command;
 pub use demodulation::Demodulation;

@@ -3,9 +3,9 @@ ghost use Rattle.std.specs.Prelude.{◌≡◌, ◌≤◌, ◌+◌, ◌++◌, len
 ghost use Rattle.s2_audit.specs.Lines.{end_line, failed_line, frame_words, left_over_line, shown_line};
 
 use crate::counts::Counts;
-use crate::entry::Frame;
 use crate::judging::Reason;
-use s2_console::Line;
+use s2_io::Line;
+use s2_report::Frame;
 
 /// The first words of a frame's line.
 #[tactic(auto, unfolding(crate::specs::Lines::frame_words))]

@@ -3,17 +3,17 @@ ghost use Rattle.std.specs.Prelude.{◌≡◌, ◌≢◌, ◌+◌, ◌^◌, ◌<
 ghost use Rattle.s2_mode.specs.Counts.{CanCount};
 ghost use Rattle.s2_mode.specs.Limits.{max_symbols};
 ghost use Rattle.s2_check.specs.Verdicts.{is_certified};
-ghost use Rattle.s2_audit.specs.Entries.{counted_with, IsSmallEntry};
+ghost use Rattle.s2_report.specs.Entries.{IsSmallEntry};
+ghost use Rattle.s2_audit.specs.Entries.{counted_with};
 ghost use Rattle.s2_audit.specs.Outcomes.{AuditsFrame, EndOutcome, EntryOutcome, FindsByBlock, FrameOutcome, Says, HasOutcome, cut_fault, evidence_by};
 
 use crate::auditor::Auditor;
 use crate::counts::Counts;
-use crate::entry::{Entry, Frame};
 use crate::judging::{Finding, Reason};
 use crate::lines::{end_line, failed_line, left_over_line, shown_line};
-use crate::report::{next_entry, read_byte};
-use s2_console::{Exit, Fault, Line, Printed};
+use s2_io::{Exit, Fault, Line, Printed};
 use s2_mode::{CountedRead, FaultText};
+use s2_report::{Entry, Frame, next_entry, read_byte};
 use std::alloc::Global;
 
 /// What the audit prints for one report line: nothing, the line of a proved frame, or the final line with the exit

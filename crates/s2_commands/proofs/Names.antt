@@ -5,14 +5,14 @@ pub use Rattle.std.proofs.lemmas.Result.{err_from_is_err_and}
 pub use Rattle.std.specs.Io.KnownBytes.{Appends}
 pub use Rattle.s2_mode.specs.Mode.{Mode, shape_in}
 pub use Rattle.s2_mode.specs.Streams.{NoneFailed, OneFailed, Streams, streams_by}
-pub use Rattle.s2_console.proofs.CommandLemmas.{told}
-pub use Rattle.s2_console.specs.Exits.{Follows, exit_of}
-pub use Rattle.s2_console.specs.Faults.{fault_line}
-pub use Rattle.s2_console.specs.Files.{Files, reporting}
-pub use Rattle.s2_console.specs.Notes.{Remarks, NotesLost}
-pub use Rattle.s2_console.specs.Screens.{Screen}
-pub use Rattle.s2_console.specs.declared.exit.Exit.{Exit}
-pub use Rattle.s2_console.specs.declared.fault.Fault.{Fault}
+pub use Rattle.s2_io.proofs.CommandLemmas.{told}
+pub use Rattle.s2_io.specs.Exits.{Follows, exit_of}
+pub use Rattle.s2_io.specs.Faults.{fault_line}
+pub use Rattle.s2_io.specs.Files.{Files, reporting}
+pub use Rattle.s2_io.specs.Notes.{Remarks, NotesLost}
+pub use Rattle.s2_io.specs.Screens.{Screen}
+pub use Rattle.s2_io.specs.declared.exit.Exit.{Exit}
+pub use Rattle.s2_io.specs.declared.fault.Fault.{Fault}
 pub use Rattle.s2_rows.specs.Rows.{Rows}
 pub use Rattle.s2_link.specs.Link.{Link, link_of, setup_of}
 pub use Rattle.s2_link.specs.declared.setup.Setup.{Setup}
@@ -48,6 +48,6 @@ pub use Rattle.s2_send.specs.declared.outcome.SendFault.{SendFault}
 pub use Rattle.s2_table.specs.Wanted.{fault_note}
 pub use Rattle.std.specs.Prelude.{if◌then◌else◌, IsErrOf, OnOk, drop, codes, decimal}
 pub use Rattle.s2_commands.specs.Sending.{Concludes, Modulates, SendsBy, transmitter_on}
-pub use Rattle.s2_console.specs.declared.fault.Fault.TheVariants as faults
+pub use Rattle.s2_io.specs.declared.fault.Fault.TheVariants as faults
 pub use Rattle.s2_mode.specs.declared.stream_fault.StreamFault.TheVariants as stream_faults
 pub use Rattle.s2_send.specs.declared.outcome.SendFault.TheVariants as refusals

@@ -6,13 +6,13 @@ use Rattle.s2_mode.specs.Symbols.{symbols_of}
 use Rattle.s2_channel.specs.Noise.{noisy, PassesOn, PassesPart}
 use Rattle.s2_channel.specs.Pcg.{pcg32_of_seed}
 use Rattle.s2_channel.specs.Pcg32Seed.{pcg32_seed}
-use Rattle.s2_console.specs.declared.exit.Exit.{Exit}
-use Rattle.s2_console.specs.declared.exit.Exit.TheVariants as exits
-use Rattle.s2_console.specs.declared.fault.Fault.{Fault}
-use Rattle.s2_console.specs.declared.fault.Fault.TheVariants as faults
-use Rattle.s2_console.specs.Exits.{exit_of, Complains}
-use Rattle.s2_console.specs.Files.{piped}
-use Rattle.s2_console.specs.Screens.{Screen}
+use Rattle.s2_io.specs.declared.exit.Exit.{Exit}
+use Rattle.s2_io.specs.declared.exit.Exit.TheVariants as exits
+use Rattle.s2_io.specs.declared.fault.Fault.{Fault}
+use Rattle.s2_io.specs.declared.fault.Fault.TheVariants as faults
+use Rattle.s2_io.specs.Exits.{exit_of, Complains}
+use Rattle.s2_io.specs.Files.{piped}
+use Rattle.s2_io.specs.Screens.{Screen}
 use Rattle.s2_commands.specs.declared.choices.Channel.{Channel}
 use Rattle.s2_commands.specs.Links.{Begins, Causes}
 

@@ -2,8 +2,8 @@
 use Rattle.std.specs.Prelude.{◌≡◌, ◌⊎◌, ℕ, Bool, true, Result, Err}
 use Rattle.s2_mode.specs.Streams.{Streams}
 use Rattle.s2_receive.specs.Sinks.{OnlyFailedWith}
-use Rattle.s2_console.specs.declared.fault.Fault.{Fault}
-use Rattle.s2_console.specs.declared.fault.Fault.TheVariants as faults
+use Rattle.s2_io.specs.declared.fault.Fault.{Fault}
+use Rattle.s2_io.specs.declared.fault.Fault.TheVariants as faults
 use Rattle.s2_commands.specs.Links.{CannotBegin}
 
 -- the streams of a command, and its sinks, which take each frame

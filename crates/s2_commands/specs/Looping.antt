@@ -12,13 +12,13 @@ use Rattle.s2_receive.specs.Receiving.{Rules}
 use Rattle.s2_receive.specs.Sinks.{Taking}
 use Rattle.s2_receive.specs.declared.report.Received.{Received}
 use Rattle.s2_modem.specs.Reception.{link_rules}
-use Rattle.s2_console.specs.declared.exit.Exit.{Exit}
-use Rattle.s2_console.specs.declared.exit.Exit.TheVariants as exits
-use Rattle.s2_console.specs.declared.fault.Fault.{Fault}
-use Rattle.s2_console.specs.declared.fault.Fault.TheVariants as faults
-use Rattle.s2_console.specs.Notes.{Remarks}
-use Rattle.s2_console.specs.Files.{Files, reporting}
-use Rattle.s2_console.specs.Screens.{Screen}
+use Rattle.s2_io.specs.declared.exit.Exit.{Exit}
+use Rattle.s2_io.specs.declared.exit.Exit.TheVariants as exits
+use Rattle.s2_io.specs.declared.fault.Fault.{Fault}
+use Rattle.s2_io.specs.declared.fault.Fault.TheVariants as faults
+use Rattle.s2_io.specs.Notes.{Remarks}
+use Rattle.s2_io.specs.Files.{Files, reporting}
+use Rattle.s2_io.specs.Screens.{Screen}
 use Rattle.s2_commands.specs.declared.choices.Channel.{Channel}
 use Rattle.s2_words.specs.declared.request.NoteArguments.{NoteArguments}
 use Rattle.s2_commands.specs.declared.choices.RunOptions.{RunOptions}

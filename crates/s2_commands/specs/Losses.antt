@@ -4,19 +4,19 @@ use Rattle.s2_mode.specs.Limits.{header_symbols}
 use Rattle.s2_mode.specs.Mode.{Mode, symbols_in}
 use Rattle.s2_names.specs.Names.{mode_words}
 use Rattle.s2_receive.specs.declared.report.Received.{Received}
-use Rattle.s2_receive.specs.declared.report.Totals.{Totals}
+use Rattle.s2_report.specs.declared.totals.Totals.{Totals}
 use Rattle.s2_scan.specs.Lines.{gain_of, is_usual}
 use Rattle.s2_scan.specs.Strength.{amplitude_by}
 use Rattle.s2_words.specs.declared.request.ExitBy.{ExitBy}
 use Rattle.s2_words.specs.declared.request.ExitBy.TheVariants as deciders
 use Rattle.s2_words.specs.declared.request.NoteArguments.{NoteArguments}
 use Rattle.s2_table.specs.Wanted.{fault_note}
-use Rattle.s2_console.specs.declared.exit.Exit.{Exit}
-use Rattle.s2_console.specs.declared.exit.Exit.TheVariants as exits
-use Rattle.s2_console.specs.declared.fault.Fault.{Fault}
-use Rattle.s2_console.specs.Exits.{exit_of}
-use Rattle.s2_console.specs.Notes.{Remarks, NotesLost}
-use Rattle.s2_console.specs.Screens.{Screen}
+use Rattle.s2_io.specs.declared.exit.Exit.{Exit}
+use Rattle.s2_io.specs.declared.exit.Exit.TheVariants as exits
+use Rattle.s2_io.specs.declared.fault.Fault.{Fault}
+use Rattle.s2_io.specs.Exits.{exit_of}
+use Rattle.s2_io.specs.Notes.{Remarks, NotesLost}
+use Rattle.s2_io.specs.Screens.{Screen}
 
 -- no frame was found, nor a cut one, in enough symbols for a header
 abbrev pub no_sync : Received → Bool

@@ -5,12 +5,12 @@ use Rattle.s2_rows.specs.FaultTexts.{make_fault_text}
 use Rattle.s2_rows.specs.declared.make.MakeFault.TheVariants as making
 use Rattle.s2_rows.specs.MadeRows.{is_weight, made_rows}
 use Rattle.s2_rows.specs.RowTexts.{rows_text}
-use Rattle.s2_console.specs.declared.exit.Exit.{Exit}
-use Rattle.s2_console.specs.declared.exit.Exit.TheVariants as exits
-use Rattle.s2_console.specs.declared.fault.Fault.{Fault}
-use Rattle.s2_console.specs.declared.fault.Fault.TheVariants as faults
-use Rattle.s2_console.specs.Exits.{CommandExits}
-use Rattle.s2_console.specs.Screens.{Screen}
+use Rattle.s2_io.specs.declared.exit.Exit.{Exit}
+use Rattle.s2_io.specs.declared.exit.Exit.TheVariants as exits
+use Rattle.s2_io.specs.declared.fault.Fault.{Fault}
+use Rattle.s2_io.specs.declared.fault.Fault.TheVariants as faults
+use Rattle.s2_io.specs.Exits.{CommandExits}
+use Rattle.s2_io.specs.Screens.{Screen}
 
 -- the rows that a shape, a weight and a seed determine
 abbrev pub rows_made : Shape → ℕ → ℕ → Result (List (List ℕ)) Fault

@@ -4,10 +4,10 @@ use Rattle.s2_mode.specs.Streams.{Streams}
 use Rattle.s2_receive.specs.Receiving.{Rules}
 use Rattle.s2_receive.specs.Sinks.{Taking}
 use Rattle.s2_receive.specs.declared.report.Received.{Received}
-use Rattle.s2_console.specs.declared.exit.Exit.{Exit}
-use Rattle.s2_console.specs.declared.fault.Fault.{Fault}
-use Rattle.s2_console.specs.declared.fault.Fault.TheVariants as faults
-use Rattle.s2_console.specs.Files.{piped}
+use Rattle.s2_io.specs.declared.exit.Exit.{Exit}
+use Rattle.s2_io.specs.declared.fault.Fault.{Fault}
+use Rattle.s2_io.specs.declared.fault.Fault.TheVariants as faults
+use Rattle.s2_io.specs.Files.{piped}
 use Rattle.s2_commands.specs.declared.choices.Channel.{Channel}
 use Rattle.s2_commands.specs.Ends.{BeginsWith, Ends, ends_of}
 use Rattle.s2_commands.specs.AddingNoise.{AddsNoise}

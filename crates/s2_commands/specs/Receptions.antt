@@ -10,11 +10,11 @@ use Rattle.s2_receive.specs.Receiving.{Rules, State, begun}
 use Rattle.s2_receive.specs.Sinks.{Taking, RunAnswersWith}
 use Rattle.s2_receive.specs.declared.report.Received.{Received}
 use Rattle.s2_modem.specs.Reception.{link_rules}
-use Rattle.s2_console.specs.declared.fault.Fault.{Fault}
-use Rattle.s2_console.specs.declared.fault.Fault.TheVariants as faults
-use Rattle.s2_console.specs.declared.exit.Exit.{Exit}
-use Rattle.s2_console.specs.Files.{Files, reporting}
-use Rattle.s2_console.specs.Screens.{Screen}
+use Rattle.s2_io.specs.declared.fault.Fault.{Fault}
+use Rattle.s2_io.specs.declared.fault.Fault.TheVariants as faults
+use Rattle.s2_io.specs.declared.exit.Exit.{Exit}
+use Rattle.s2_io.specs.Files.{Files, reporting}
+use Rattle.s2_io.specs.Screens.{Screen}
 use Rattle.s2_commands.specs.declared.choices.DemodOptions.{DemodOptions}
 use Rattle.s2_commands.specs.Ends.{BeginsWith, CausesWith, Ends, ends_of}
 use Rattle.s2_commands.specs.Links.{LinkCommand, OnLink}

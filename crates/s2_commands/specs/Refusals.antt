@@ -5,8 +5,8 @@ use Rattle.s2_send.specs.FaultTexts.{send_fault_text}
 use Rattle.s2_send.specs.Hints.{size_hint}
 use Rattle.s2_send.specs.declared.outcome.SendFault.{SendFault}
 use Rattle.s2_send.specs.declared.outcome.SendFault.TheVariants as refusals
-use Rattle.s2_console.specs.declared.fault.Fault.{Fault}
-use Rattle.s2_console.specs.declared.fault.Fault.TheVariants as faults
+use Rattle.s2_io.specs.declared.fault.Fault.{Fault}
+use Rattle.s2_io.specs.declared.fault.Fault.TheVariants as faults
 
 -- the fault of a refusal
 abbrev pub refusal_fault : SendFault → Fault

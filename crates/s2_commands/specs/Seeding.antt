@@ -5,9 +5,9 @@ use Rattle.s2_mode.specs.Pieces.{AppendsPart}
 use Rattle.s2_receive.specs.Receiving.{Rules}
 use Rattle.s2_receive.specs.Sinks.{Taking}
 use Rattle.s2_receive.specs.declared.report.Received.{Received}
-use Rattle.s2_console.specs.declared.exit.Exit.{Exit}
-use Rattle.s2_console.specs.declared.fault.Fault.{Fault}
-use Rattle.s2_console.specs.declared.fault.Fault.TheVariants as faults
+use Rattle.s2_io.specs.declared.exit.Exit.{Exit}
+use Rattle.s2_io.specs.declared.fault.Fault.{Fault}
+use Rattle.s2_io.specs.declared.fault.Fault.TheVariants as faults
 use Rattle.s2_commands.specs.declared.choices.Channel.{Channel}
 use Rattle.s2_words.specs.declared.request.Seeds.{Seeds}
 use Rattle.s2_commands.specs.Ends.{Ends}

@@ -11,13 +11,13 @@ use Rattle.s2_send.specs.Sinks.{Taking}
 use Rattle.s2_send.specs.Transmitter.{Transmitter, new_transmitter}
 use Rattle.s2_send.specs.declared.outcome.Counts.{Counts}
 use Rattle.s2_send.specs.declared.outcome.SendFault.{SendFault}
-use Rattle.s2_console.specs.declared.exit.Exit.{Exit}
-use Rattle.s2_console.specs.declared.exit.Exit.TheVariants as exits
-use Rattle.s2_console.specs.declared.fault.Fault.{Fault}
-use Rattle.s2_console.specs.Exits.{Prints}
-use Rattle.s2_console.specs.Files.{Files, reporting}
-use Rattle.s2_console.specs.Notes.{Remarks}
-use Rattle.s2_console.specs.Screens.{Screen}
+use Rattle.s2_io.specs.declared.exit.Exit.{Exit}
+use Rattle.s2_io.specs.declared.exit.Exit.TheVariants as exits
+use Rattle.s2_io.specs.declared.fault.Fault.{Fault}
+use Rattle.s2_io.specs.Exits.{Prints}
+use Rattle.s2_io.specs.Files.{Files, reporting}
+use Rattle.s2_io.specs.Notes.{Remarks}
+use Rattle.s2_io.specs.Screens.{Screen}
 use Rattle.s2_table.specs.Wanted.{fault_note}
 use Rattle.s2_words.specs.declared.request.ModArguments.{ModArguments}
 use Rattle.s2_commands.specs.Ends.{BeginsWith, CausesWith, Ends, ends_of}

@@ -5,9 +5,9 @@ ghost use Rattle.s2_mode.specs.Counts.{CanCount, CountsFault};
 ghost use Rattle.s2_commands.specs.Losses.{advice, has_lost, headers_note, is_proposed, is_slipped, is_undecoded, note_if, slip_note, tuned_note};
 
 use crate::frame_notes::header_amplitude;
-use s2_console::Line;
+use s2_io::Line;
 use s2_mode::{CountedWrite, Mode, WriteFault, write_full};
-use s2_receive::Totals;
+use s2_report::Totals;
 use s2_scan::is_usual;
 
 /// The number of frames that were not delivered.

@@ -6,9 +6,9 @@ ghost use Rattle.s2_commands.specs.Losses.{amplitude_note, amplitude_notes, ampl
 
 use crate::losses::push_counted;
 use itoa::Buffer;
-use s2_console::Line;
+use s2_io::Line;
 use s2_mode::{CountedWrite, HEADER_SYMBOLS, WriteFault, write_full};
-use s2_receive::Totals;
+use s2_report::Totals;
 use s2_scan::{amplitude_by, gain_of, is_usual};
 
 /// The note of lost frames with a BCH word whose header is refused.

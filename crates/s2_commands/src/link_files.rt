@@ -1,5 +1,5 @@
 //! The files of a command on a link.
-use s2_files::Destination;
+use s2_io::Destination;
 use s2_mode::{CountedRead, CountedWrite};
 use std::marker::Model;
 
@@ -21,7 +21,7 @@ impl<R: CountedRead + Drop, W: CountedWrite + Drop> Drop for LinkFiles<R, W> {
 }
 
 impl<R: CountedRead, W: CountedWrite> Model for LinkFiles<R, W> {
-    ghost use Rattle.s2_console.specs.Files.{Files, piped};
+    ghost use Rattle.s2_io.specs.Files.{Files, piped};
 
     ghost Value = { Files };
 

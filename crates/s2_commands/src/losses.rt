@@ -2,14 +2,15 @@
 ghost use Rattle.std.specs.Prelude.{◌≡◌, ◌≢◌, ◌+◌, ◌≤◌, ◌++◌, [], length, IsOk, OnOk, not, nat_eq};
 ghost use Rattle.std.specs.Io.KnownBytes.{Appends};
 ghost use Rattle.s2_mode.specs.Counts.{CanCount, CountsFault};
-ghost use Rattle.s2_console.specs.Lines.{line_room};
+ghost use Rattle.s2_io.specs.Lines.{line_room};
 ghost use Rattle.s2_commands.specs.Losses.{all_delivered, counted, no_sync, is_clean, exit_by, has_come, skipped_note, no_sync_end, no_sync_note, incomplete_note, note_if, loss_notes, notes_of, Finishes};
 
 use crate::advice::{write_advice, write_if_slipped};
 use crate::frame_notes::write_frame_notes;
-use s2_console::{Console, Exit, Fault, Line};
+use s2_io::{Console, Exit, Fault, Line};
 use s2_mode::{CountedWrite, HEADER_SYMBOLS, Mode, WriteFault, write_full};
-use s2_receive::{Received, Totals};
+use s2_receive::Received;
+use s2_report::Totals;
 use s2_table::{report_noted, write_note};
 use s2_words::{ExitBy, NoteArguments};
 

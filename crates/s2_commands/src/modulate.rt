@@ -3,16 +3,15 @@ ghost use Rattle.std.specs.Prelude.{◌≡◌, ◌≢◌, ◌+◌, ◌≤◌, Ok
 ghost use Rattle.s2_mode.specs.Counts.{CanCount};
 ghost use Rattle.s2_mode.specs.Streams.{streams_by};
 ghost use Rattle.s2_link.specs.Link.{setup_of};
-ghost use Rattle.s2_console.specs.Files.{CanStart, reporting};
-ghost use Rattle.s2_console.specs.Screens.{CanNote};
+ghost use Rattle.s2_io.specs.Files.{CanStart, reporting};
+ghost use Rattle.s2_io.specs.Screens.{CanNote};
 ghost use Rattle.s2_commands.specs.Ends.{BeginsWith, CausesWith, ends_of};
 ghost use Rattle.s2_commands.specs.Links.{OnLink, noted_by};
 ghost use Rattle.s2_commands.specs.Sending.{sent_line, SendsBy, Modulates, Concludes, ModExits};
 
 use crate::link_files::LinkFiles;
 use crate::refusals::{Ended, refused_by, report_refusal, sent_by};
-use s2_console::{Console, Exit, Fault, Line, print};
-use s2_files::{Destination, Output};
+use s2_io::{Console, Destination, Exit, Fault, Line, Output, print};
 use s2_link::{Link, LinkSetup};
 use s2_mode::{CountedRead, CountedWrite, Mode};
 use s2_send::{Counts, SendSink, Transmitter};

@@ -6,8 +6,7 @@ ghost use Rattle.s2_commands.specs.AddingNoise.{piped_by, AddsNoise, NoiseExits}
 
 use crate::choices::Channel;
 use s2_channel::{Noise, add_to_all};
-use s2_console::{Console, Exit, Fault};
-use s2_files::{Destination, Output};
+use s2_io::{Console, Destination, Exit, Fault, Output};
 use s2_mode::{CountedRead, CountedWrite, StreamFault};
 
 /// Writes the symbols of a reader with noise.

@@ -9,8 +9,7 @@ ghost use Rattle.s2_commands.specs.NoisyReception.{kept_fault, ReceivesWithNoise
 use crate::choices::Channel;
 use crate::demod::receive_begun;
 use crate::noise::add_noise;
-use s2_console::Fault;
-use s2_files::{Destination, Output};
+use s2_io::{Destination, Fault, Output};
 use s2_link::Link;
 use s2_mode::{CountedWrite, Counting, InMemory};
 use s2_modem::Receiver;

@@ -2,11 +2,11 @@
 ghost use Rattle.std.specs.Prelude.{◌≡◌, ◌+◌, ◌≤◌, ◌++◌, [], if◌then◌else◌, Err, length};
 ghost use Rattle.std.specs.Io.KnownBytes.{Appends};
 ghost use Rattle.s2_mode.specs.Counts.{CanCount};
-ghost use Rattle.s2_console.specs.Notes.{Remarks};
+ghost use Rattle.s2_io.specs.Notes.{Remarks};
 ghost use Rattle.s2_commands.specs.Refusals.{colon_before, packet_note, packet_place, refusal_fault, refusal_note, refused_by, sent_by};
 
 use s2_bbframe::PACKET_BYTES;
-use s2_console::{Console, Exit, Fault, Line};
+use s2_io::{Console, Exit, Fault, Line};
 use s2_mode::{CountedWrite, write_full};
 use s2_send::SendFault;
 

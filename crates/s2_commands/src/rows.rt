@@ -2,11 +2,11 @@
 ghost use Rattle.std.specs.Prelude.{◌≡◌, ◌≢◌, Err, IfOk, IsOk, IsOkUnless};
 ghost use Rattle.s2_mode.specs.Counts.{CanCount};
 ghost use Rattle.s2_rows.specs.RowTexts.{rows_text};
-ghost use Rattle.s2_console.specs.Exits.{Follows, CommandRuns, CommandCounts};
-ghost use Rattle.s2_console.specs.Screens.{CanShow};
+ghost use Rattle.s2_io.specs.Exits.{Follows, CommandRuns, CommandCounts};
+ghost use Rattle.s2_io.specs.Screens.{CanShow};
 ghost use Rattle.s2_commands.specs.Making.{rows_made, AreMadeRows, IsRowFile, RowsExits};
 
-use s2_console::{Console, Exit, Fault, print};
+use s2_io::{Console, Exit, Fault, print};
 use s2_mode::{CountedWrite, Counting, Shape};
 use s2_rows::{MakeFault, Rows, make_rows, write_rows};
 use std::alloc::Global;

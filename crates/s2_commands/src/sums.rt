@@ -2,8 +2,8 @@
 ghost use Rattle.std.specs.Prelude.{◌≡◌};
 ghost use Rattle.s2_commands.specs.Sums.{seeds_in, sums_line};
 
-use s2_console::Line;
-use s2_receive::Totals;
+use s2_io::Line;
+use s2_report::Totals;
 use s2_words::Seeds;
 
 /// The number of seeds of a range.

@@ -9,9 +9,9 @@ use Rattle.std.proofs.lemmas.List.Concat.{flat_map-append}
 use Rattle.std.proofs.lemmas.List.Elements.{All-nil, All-push}
 use Rattle.s2_mode.specs.Pieces.{AppendsPart}
 use Rattle.s2_rows.specs.Rows.{Rows}
-use Rattle.s2_console.specs.declared.exit.Exit.{Exit}
-use Rattle.s2_console.specs.declared.fault.Fault.{Fault}
-use Rattle.s2_console.specs.declared.fault.Fault.TheVariants as faults
+use Rattle.s2_io.specs.declared.exit.Exit.{Exit}
+use Rattle.s2_io.specs.declared.fault.Fault.{Fault}
+use Rattle.s2_io.specs.declared.fault.Fault.TheVariants as faults
 use Rattle.s2_compare.specs.declared.compared.Compared.{Compared}
 use Rattle.s2_compare.specs.declared.counts.Counts.{Counts}
 use Rattle.s2_compare.specs.declared.form.Form.{Form}
@@ -20,7 +20,7 @@ use Rattle.s2_compare.specs.Feeding.{Feeds, BothEnd, NextFrame, StopsNext}
 use Rattle.s2_compare.specs.Lines.{frame_line, lines_from, counts_line}
 use Rattle.s2_compare.specs.ComparingEach.{Frame, IsFrame, answers_of, max_frames, ComparedSoFar, EndsWell, CutAtEnd, IsFull, EndsComparing, ComparesUnder, IsUnder, ComparesEach}
 use Rattle.s2_compare.specs.Devices.{shape_for}
-use Rattle.s2_console.specs.Exits.{Follows}
+use Rattle.s2_io.specs.Exits.{Follows}
 use Rattle.s2_inputs.specs.Inputs.{rows_in}
 use Rattle.s2_mode.specs.Shape.{Shape}
 use Rattle.s2_compare.proofs.CountLemmas.{counts_push}

@@ -6,11 +6,11 @@ use Rattle.s2_mode.specs.Pieces.{AppendsPart}
 use Rattle.s2_rows.specs.Rows.{Rows}
 use Rattle.s2_certfile.specs.File.{File}
 use Rattle.s2_certfile.specs.Format.{file_of_bytes}
-use Rattle.s2_console.specs.declared.exit.Exit.{Exit}
-use Rattle.s2_console.specs.declared.fault.Fault.{Fault}
-use Rattle.s2_console.specs.declared.fault.Fault.TheVariants as faults
-use Rattle.s2_console.specs.Exits.{Follows, exit_of, CommandCounts, Complains}
-use Rattle.s2_console.specs.Screens.{Screen}
+use Rattle.s2_io.specs.declared.exit.Exit.{Exit}
+use Rattle.s2_io.specs.declared.fault.Fault.{Fault}
+use Rattle.s2_io.specs.declared.fault.Fault.TheVariants as faults
+use Rattle.s2_io.specs.Exits.{Follows, exit_of, CommandCounts, Complains}
+use Rattle.s2_io.specs.Screens.{Screen}
 use Rattle.s2_inputs.specs.Inputs.{rows_in}
 use Rattle.s2_compare.specs.declared.compared.Compared.{Compared}
 use Rattle.s2_compare.specs.declared.form.Form.{Form}

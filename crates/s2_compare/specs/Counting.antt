@@ -1,7 +1,7 @@
 -- The counts of a comparison, and its exit (own).
 use Rattle.std.specs.Prelude.{◌≡◌, ℕ, ◌+◌, ◌<◌, ◌==◌, Bool, true, false, List, length, count_by, if◌then◌else◌}
-use Rattle.s2_console.specs.declared.exit.Exit.{Exit}
-use Rattle.s2_console.specs.declared.exit.Exit.TheVariants as exits
+use Rattle.s2_io.specs.declared.exit.Exit.{Exit}
+use Rattle.s2_io.specs.declared.exit.Exit.TheVariants as exits
 use Rattle.s2_compare.specs.declared.compared.Compared.{Compared}
 use Rattle.s2_compare.specs.declared.compared.Compared.TheVariants as answers
 use Rattle.s2_compare.specs.declared.counts.Counts.{Counts}

@@ -9,8 +9,8 @@ use Rattle.s2_matrix.specs.Code.{code_of}
 use Rattle.s2_scramble.specs.Baseband.{scrambled}
 use Rattle.s2_bch.specs.Codes.{IsBchWordOf}
 use Rattle.s2_ldpc.specs.Encoding.{IsCodewordOf}
-use Rattle.s2_console.specs.declared.fault.Fault.{Fault}
-use Rattle.s2_console.specs.declared.fault.Fault.TheVariants as faults
+use Rattle.s2_io.specs.declared.fault.Fault.{Fault}
+use Rattle.s2_io.specs.declared.fault.Fault.TheVariants as faults
 use Rattle.s2_evidence.specs.Pieces.{Took}
 use Rattle.s2_compare.specs.declared.form.Form.{Form}
 use Rattle.s2_compare.specs.declared.form.Form.TheVariants as forms

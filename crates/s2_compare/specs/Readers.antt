@@ -5,8 +5,8 @@ use Rattle.s2_mode.specs.Shape.{Shape, code_bits}
 use Rattle.s2_mode.specs.Mode.{shape_in, HasCodeSizes}
 use Rattle.s2_rows.specs.Rows.{Rows}
 use Rattle.s2_matrix.specs.Code.{code_of}
-use Rattle.s2_console.specs.declared.fault.Fault.{Fault}
-use Rattle.s2_console.specs.declared.fault.Fault.TheVariants as faults
+use Rattle.s2_io.specs.declared.fault.Fault.{Fault}
+use Rattle.s2_io.specs.declared.fault.Fault.TheVariants as faults
 use Rattle.s2_evidence.specs.Pieces.{Took}
 use Rattle.s2_compare.specs.declared.form.Form.{Form}
 use Rattle.s2_compare.specs.declared.form.Form.TheVariants as forms

@@ -3,7 +3,7 @@ use Rattle.std.specs.Prelude.{◌≡◌, ◌≢◌, ◌⊎◌, ℕ, List, Bool, 
 use Rattle.s2_rows.specs.Rows.{Rows}
 use Rattle.s2_matrix.specs.Code.{code_of}
 use Rattle.s2_certfile.specs.File.{File}
-use Rattle.s2_console.specs.declared.fault.Fault.{Fault}
+use Rattle.s2_io.specs.declared.fault.Fault.{Fault}
 use Rattle.s2_evidence.specs.Pieces.{max_piece}
 use Rattle.s2_compare.specs.declared.compared.Compared.{Compared}
 use Rattle.s2_compare.specs.declared.form.Form.{Form}

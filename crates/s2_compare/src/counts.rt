@@ -3,7 +3,7 @@ ghost use Rattle.std.specs.Prelude.{◌≡◌, ◌<◌, ◌^◌};
 ghost use Rattle.s2_compare.specs.Counting.{AreBelow, counted, exit_by, no_counts};
 
 use crate::compared::Compared;
-use s2_console::Exit;
+use s2_io::Exit;
 
 /// How many frames were compared, and how many of them got each answer.
 #[derive(Clone, Copy)]

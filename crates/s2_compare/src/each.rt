@@ -1,8 +1,8 @@
 //! `compare`: compares a device's words with those of certificates, one after another.
 ghost use Rattle.std.specs.Prelude.{◌≡◌, ◌≢◌, ◌+◌, Err, IsOk};
 ghost use Rattle.s2_mode.specs.Counts.{CanCount};
-ghost use Rattle.s2_console.specs.Screens.{CanShow};
-ghost use Rattle.s2_console.specs.Exits.{CommandCounts};
+ghost use Rattle.s2_io.specs.Screens.{CanShow};
+ghost use Rattle.s2_io.specs.Exits.{CommandCounts};
 ghost use Rattle.s2_compare.specs.ComparingEach.{CompareExits, ComparesEach, ComparesUnder, IsUnder, read_by};
 ghost use Rattle.s2_compare.specs.Devices.{shape_for};
 ghost use Rattle.s2_compare.specs.Feeding.{feeds};
@@ -11,8 +11,8 @@ use crate::counts::Counts;
 use crate::form::Form;
 use crate::lines::counts_line;
 use crate::step::{Comparer, compare_next, print_line};
-use s2_console::{Console, Exit, Fault};
 use s2_inputs::read_matrix;
+use s2_io::{Console, Exit, Fault};
 use s2_matrix::Matrix;
 use s2_mode::{CountedRead, CountedWrite};
 use std::alloc::Global;

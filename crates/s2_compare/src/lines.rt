@@ -1,12 +1,12 @@
 //! The lines of a comparison.
 ghost use Rattle.std.specs.Prelude.{◌≡◌, ◌≤◌, ◌+◌, ◌++◌, length};
 ghost use Rattle.std.specs.Fmt.{signed_decimal};
-ghost use Rattle.s2_console.specs.Lines.{line_room};
+ghost use Rattle.s2_io.specs.Lines.{line_room};
 ghost use Rattle.s2_compare.specs.Lines.{answer_text, counts_line, front_counts, changed_text, frame_line, frame_text};
 
 use crate::compared::Compared;
 use crate::counts::Counts;
-use s2_console::Line;
+use s2_io::Line;
 
 /// Appends words and a cost.
 fn push_cost(line: &mut Line, words: &str, cost: i64)

@@ -12,7 +12,7 @@ use crate::encoder::Encoder;
 use crate::form::Form;
 use crate::spelling::{is_nothing, line_into, unpack};
 use s2_bits::Bits;
-use s2_console::Fault;
+use s2_io::Fault;
 use s2_matrix::Matrix;
 use s2_mode::{CountedRead, FaultText, read_full};
 use std::alloc::{AllocError, Global};

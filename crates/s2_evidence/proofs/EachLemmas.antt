@@ -1,7 +1,7 @@
 -- One line more.
 use Rattle.std.proofs.Common.{◌≡◌, ℕ, List, [], ◌∷◌, ◌++◌, refl, sym, ap, ap₂, ◌∙◌, append-nil, append_assoc}
-use Rattle.s2_console.specs.declared.exit.Exit.{Exit}
-use Rattle.s2_console.specs.declared.exit.Exit.TheVariants as exits
+use Rattle.s2_io.specs.declared.exit.Exit.{Exit}
+use Rattle.s2_io.specs.declared.exit.Exit.TheVariants as exits
 use Rattle.s2_evidence.specs.Each.{worse, SaysFirst, SaysEach}
 
 worse_fine : (e : Exit) → worse e exits.Fine ≡ e

@@ -6,14 +6,14 @@ use Rattle.s2_rows.specs.Rows.{Rows}
 use Rattle.s2_rows.specs.RowFiles as row_files
 use Rattle.s2_certfile.specs.File.{File}
 use Rattle.s2_certfile.specs.Format.{file_of_bytes}
-use Rattle.s2_console.specs.declared.printed.Printed.{Printed}
-use Rattle.s2_console.specs.declared.exit.Exit.{Exit}
-use Rattle.s2_console.specs.declared.fault.Fault.{Fault}
-use Rattle.s2_console.specs.declared.fault.Fault.TheVariants as faults
-use Rattle.s2_console.specs.Exits.{Follows, CommandAnswers}
+use Rattle.s2_io.specs.declared.printed.Printed.{Printed}
+use Rattle.s2_io.specs.declared.exit.Exit.{Exit}
+use Rattle.s2_io.specs.declared.fault.Fault.{Fault}
+use Rattle.s2_io.specs.declared.fault.Fault.TheVariants as faults
+use Rattle.s2_io.specs.Exits.{Follows, CommandAnswers}
 use Rattle.s2_inputs.specs.Inputs.{taken, rows_said}
 use Rattle.s2_evidence.specs.Checking.{certificate_said, with_rows, beside, then_parts, parts_in, ArePartsIn, AreCheckInputs, IsAnswered}
-use Rattle.s2_console.proofs.CommandLemmas.{answers_moved, refuses}
+use Rattle.s2_io.proofs.CommandLemmas.{answers_moved, refuses}
 
 -- what is refused is answered
 pub is_refused : {I : Type 0} → (Says : I → Exit → List ℕ → Type 0) (IsInput : Result I Fault → Type 0) (f : Fault) → IsInput (Err f) → CommandAnswers Says IsInput (Err f)

@@ -4,9 +4,9 @@ use Rattle.std.specs.Prelude.{OnErr}
 use Rattle.std.specs.Io.KnownBytes.{Consumes, IsAtEnd}
 use Rattle.std.proofs.KnownBytes.{Consumes-trans}
 use Rattle.std.proofs.lemmas.List.{take-take}
-use Rattle.s2_console.specs.declared.fault.Fault.{Fault}
-use Rattle.s2_console.specs.declared.fault.Fault.TheVariants as console_faults
-use Rattle.s2_console.specs.Exits.{Follows}
+use Rattle.s2_io.specs.declared.fault.Fault.{Fault}
+use Rattle.s2_io.specs.declared.fault.Fault.TheVariants as console_faults
+use Rattle.s2_io.specs.Exits.{Follows}
 use Rattle.s2_evidence.specs.Checking.{certificate_said}
 use Rattle.std.specs.Int.{Width, w16, w32, byte_len, from_be_bytes}
 use Rattle.std.proofs.lemmas.Bool.{le-ltb, leb-true, ltb-true, ltb-false, and_parts, cases_Bool}

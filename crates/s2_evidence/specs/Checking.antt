@@ -16,12 +16,12 @@ use Rattle.s2_check.specs.declared.checker.Answer.{Answer}
 use Rattle.s2_check.specs.declared.checker.Answer.TheVariants as answers
 use Rattle.s2_check.specs.declared.checker.Examined.{Examined}
 use Rattle.s2_check.specs.declared.checker.Refusal.TheVariants.{OtherShape}
-use Rattle.s2_console.specs.declared.exit.Exit.{Exit}
-use Rattle.s2_console.specs.declared.exit.Exit.TheVariants as exits
-use Rattle.s2_console.specs.declared.fault.Fault.{Fault}
-use Rattle.s2_console.specs.declared.fault.Fault.TheVariants as faults
-use Rattle.s2_console.specs.Exits.{CommandExits}
-use Rattle.s2_console.specs.Screens.{Screen}
+use Rattle.s2_io.specs.declared.exit.Exit.{Exit}
+use Rattle.s2_io.specs.declared.exit.Exit.TheVariants as exits
+use Rattle.s2_io.specs.declared.fault.Fault.{Fault}
+use Rattle.s2_io.specs.declared.fault.Fault.TheVariants as faults
+use Rattle.s2_io.specs.Exits.{CommandExits}
+use Rattle.s2_io.specs.Screens.{Screen}
 use Rattle.s2_inputs.specs.Inputs.{taken, rows_said}
 use Rattle.s2_evidence.specs.Lines.{answer_line, examined_line}
 

@@ -5,8 +5,8 @@ use Rattle.s2_certfile.specs.File.{File}
 use Rattle.s2_certfile.specs.Format.{file_of_bytes}
 use Rattle.s2_certfile.specs.declared.fault.CertFault.{CertFault}
 use Rattle.s2_certfile.specs.declared.fault.CertFault.TheVariants as cert_faults
-use Rattle.s2_console.specs.declared.fault.Fault.{Fault}
-use Rattle.s2_console.specs.declared.fault.Fault.TheVariants as faults
+use Rattle.s2_io.specs.declared.fault.Fault.{Fault}
+use Rattle.s2_io.specs.declared.fault.Fault.TheVariants as faults
 use Rattle.s2_evidence.specs.Checking.{certificate_said}
 
 -- the bytes of the header of version 1

@@ -2,14 +2,14 @@
 ghost use Rattle.std.specs.Prelude.{◌≡◌, ◌≢◌, ◌+◌, Result, Err, IsOk};
 ghost use Rattle.s2_mode.specs.Counts.{CanCount};
 ghost use Rattle.s2_certfile.specs.Format.{file_of_bytes};
-ghost use Rattle.s2_console.specs.Screens.{CanShow};
-ghost use Rattle.s2_console.specs.Exits.{Follows, CommandAnswers, CommandRuns, CommandCounts};
+ghost use Rattle.s2_io.specs.Screens.{CanShow};
+ghost use Rattle.s2_io.specs.Exits.{Follows, CommandAnswers, CommandRuns, CommandCounts};
 ghost use Rattle.s2_evidence.specs.Checking.{certificate_said, ArePartsIn, AreCheckInputs, answer_exit, SaysAnswer, IsAnswered, CheckExits};
 
 use crate::lines::{answer_line, examined_line};
 use s2_check::{Answer, CertFault, CertView, Certificate, Refusal, examine};
-use s2_console::{Console, Exit, Fault, Printed};
 use s2_inputs::{matrix_of, read_bytes};
+use s2_io::{Console, Exit, Fault, Printed};
 use s2_matrix::Matrix;
 use s2_mode::{CountedRead, CountedWrite};
 use std::alloc::Global;

@@ -2,8 +2,8 @@
 ghost use Rattle.std.specs.Prelude.{◌≡◌, ◌≢◌, ◌+◌, [], ◌∷◌, Ok, Err, IfSome, IsOk, List, ℕ, Option, length};
 ghost use Rattle.s2_mode.specs.Counts.{CanCount};
 ghost use Rattle.s2_certfile.specs.File.{File};
-ghost use Rattle.s2_console.specs.Screens.{CanShow};
-ghost use Rattle.s2_console.specs.Exits.{CommandCounts};
+ghost use Rattle.s2_io.specs.Screens.{CanShow};
+ghost use Rattle.s2_io.specs.Exits.{CommandCounts};
 ghost use Rattle.s2_evidence.specs.CheckingEach.{AnsweredSoFar, AreRowsFor, ChecksEach, ChecksNext, CheckEachExits};
 ghost use Rattle.s2_evidence.specs.Each.{worse};
 ghost use Rattle.s2_inputs.specs.Inputs.{taken};
@@ -11,8 +11,8 @@ ghost use Rattle.s2_evidence.specs.Pieces.{max_piece};
 
 use crate::check::answered;
 use crate::next::{next_certificate, piece_room};
-use s2_console::{Console, Exit, Fault};
 use s2_inputs::{matrix_of, read_bytes};
+use s2_io::{Console, Exit, Fault};
 use s2_matrix::Matrix;
 use s2_mode::{CountedRead, CountedWrite};
 use std::alloc::Global;

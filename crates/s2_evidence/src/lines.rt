@@ -3,7 +3,7 @@ ghost use Rattle.std.specs.Prelude.{◌≡◌, ◌≤◌, length};
 ghost use Rattle.s2_evidence.specs.Lines.{cost_text, sole_line, answer_text, answer_line, examined_line};
 
 use s2_check::{Answer, Examined, Refusal, Verdict};
-use s2_console::Line;
+use s2_io::Line;
 
 /// A verdict on bits, and their cost.
 pub fn with_cost(verdict: Verdict, cost: i64) -> Line

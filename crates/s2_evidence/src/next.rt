@@ -8,7 +8,7 @@ ghost use Rattle.s2_evidence.specs.Pieces.{Takes, TakesPiece, max_piece};
 use crate::check::certificate_of;
 use crate::sizes::{HEAD_BYTES, MAX_PIECE, piece_size};
 use s2_check::{CertFault, Certificate};
-use s2_console::Fault;
+use s2_io::Fault;
 use s2_mode::{CountedRead, read_full};
 use std::alloc::Global;
 

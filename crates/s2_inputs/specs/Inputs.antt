@@ -7,8 +7,8 @@ use Rattle.s2_rows.specs.Rows.{Rows, rows_value}
 use Rattle.s2_rows.specs.RowFiles as row_files
 use Rattle.s2_rows.specs.FaultTexts.{row_fault_text}
 use Rattle.s2_rows.specs.declared.row_file.RowFault.{RowFault}
-use Rattle.s2_console.specs.declared.fault.Fault.{Fault}
-use Rattle.s2_console.specs.declared.fault.Fault.TheVariants as faults
+use Rattle.s2_io.specs.declared.fault.Fault.{Fault}
+use Rattle.s2_io.specs.declared.fault.Fault.TheVariants as faults
 
 -- the rows of a row file, or its fault after `rows: `
 abbrev pub rows_said : Shape → Result (List (List ℕ)) RowFault → Result Rows Fault

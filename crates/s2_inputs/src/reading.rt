@@ -2,10 +2,10 @@
 ghost use Rattle.std.specs.Prelude.{◌≡◌, ◌≢◌, ◌+◌, ◌≤◌, Err, IfOk, IfSome, IsOkUnless, vec_len, vec_capacity};
 ghost use Rattle.s2_mode.specs.Counts.{CanCount};
 ghost use Rattle.s2_rows.specs.RowFiles as row_files;
-ghost use Rattle.s2_console.specs.Exits.{Follows};
+ghost use Rattle.s2_io.specs.Exits.{Follows};
 ghost use Rattle.s2_inputs.specs.Inputs.{taken, fault_of_file, rows_said, rows_in, max_bytes};
 
-use s2_console::Fault;
+use s2_io::Fault;
 use s2_matrix::Matrix;
 use s2_mode::{CountedRead, FileFault, Shape, read_into};
 use s2_rows::{RowFault, Rows, read_rows};

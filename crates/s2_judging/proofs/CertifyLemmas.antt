@@ -3,11 +3,11 @@ use Rattle.std.proofs.Common.{◌≡◌, ◌≢◌, Bool, ℤ, List, ℕ, Option
 use Rattle.s2_rows.specs.Rows.{Rows}
 use Rattle.s2_tuning.specs.Tuning.{Tuning}
 use Rattle.s2_judge.specs.Deciding.{decided, IsShown}
-use Rattle.s2_console.specs.declared.printed.Printed.{Printed}
-use Rattle.s2_console.specs.declared.exit.Exit.{Exit}
-use Rattle.s2_console.specs.declared.fault.Fault.{Fault}
-use Rattle.s2_console.specs.declared.fault.Fault.TheVariants as faults
-use Rattle.s2_console.specs.Exits.{CommandAnswers, Prints}
+use Rattle.s2_io.specs.declared.printed.Printed.{Printed}
+use Rattle.s2_io.specs.declared.exit.Exit.{Exit}
+use Rattle.s2_io.specs.declared.fault.Fault.{Fault}
+use Rattle.s2_io.specs.declared.fault.Fault.TheVariants as faults
+use Rattle.s2_io.specs.Exits.{CommandAnswers, Prints}
 use Rattle.s2_judging.specs.Files.{Written}
 use Rattle.s2_judging.specs.Inputs.{IsOnly}
 use Rattle.s2_judging.specs.Judging.{IsJudged}

@@ -8,10 +8,10 @@ use Rattle.s2_check.specs.declared.verdict.Verdict.TheVariants as verdicts
 use Rattle.s2_tuning.specs.Limits.{default_rounds}
 use Rattle.s2_tuning.specs.Tuning.{Tuning, tuning_of}
 use Rattle.s2_judge.specs.Deciding.{decided}
-use Rattle.s2_console.specs.declared.printed.Printed.{Printed}
-use Rattle.s2_console.specs.declared.exit.Exit.{Exit}
-use Rattle.s2_console.specs.declared.fault.Fault.{Fault}
-use Rattle.s2_console.specs.Exits.{CommandAnswers, CommandRuns}
+use Rattle.s2_io.specs.declared.printed.Printed.{Printed}
+use Rattle.s2_io.specs.declared.exit.Exit.{Exit}
+use Rattle.s2_io.specs.declared.fault.Fault.{Fault}
+use Rattle.s2_io.specs.Exits.{CommandAnswers, CommandRuns}
 use Rattle.s2_judging.specs.Inputs.{AreInputs, IsOnly}
 use Rattle.s2_judging.specs.Judging.{own_verdict, SaysOwn, IsOwn}
 

@@ -8,8 +8,8 @@ use Rattle.s2_rows.specs.Readings.{ok_cons}
 use Rattle.s2_rows.specs.FaultTexts.{value_fault_text}
 use Rattle.s2_rows.specs.declared.values.ValueFault.{ValueFault}
 use Rattle.s2_rows.specs.declared.values.ValueFault.TheVariants as value_faults
-use Rattle.s2_console.specs.declared.fault.Fault.{Fault}
-use Rattle.s2_console.specs.declared.fault.Fault.TheVariants as faults
+use Rattle.s2_io.specs.declared.fault.Fault.{Fault}
+use Rattle.s2_io.specs.declared.fault.Fault.TheVariants as faults
 use Rattle.s2_judging.specs.declared.words.Word.{Word}
 use Rattle.s2_judging.specs.declared.words.Place.TheVariants as places
 use Rattle.s2_judging.specs.declared.words.Position.{Position}

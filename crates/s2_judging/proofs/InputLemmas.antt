@@ -3,14 +3,14 @@ use Rattle.std.proofs.Common.{◌≡◌, ℕ, ℤ, Bool, List, Option, Some, Non
 use Rattle.std.specs.Prelude.{IfSome}
 use Rattle.s2_mode.specs.Shape.{Shape}
 use Rattle.s2_rows.specs.Rows.{Rows}
-use Rattle.s2_console.specs.declared.printed.Printed.{Printed}
-use Rattle.s2_console.specs.declared.exit.Exit.{Exit}
-use Rattle.s2_console.specs.declared.fault.Fault.{Fault}
-use Rattle.s2_console.specs.declared.fault.Fault.TheVariants as faults
-use Rattle.s2_console.specs.Exits.{Follows, CommandAnswers}
+use Rattle.s2_io.specs.declared.printed.Printed.{Printed}
+use Rattle.s2_io.specs.declared.exit.Exit.{Exit}
+use Rattle.s2_io.specs.declared.fault.Fault.{Fault}
+use Rattle.s2_io.specs.declared.fault.Fault.TheVariants as faults
+use Rattle.s2_io.specs.Exits.{Follows, CommandAnswers}
 use Rattle.s2_inputs.specs.Inputs.{rows_in}
 use Rattle.s2_judging.specs.Inputs.{values_by, then_values, inputs_by, AreInputsBy, IsOnly}
-use Rattle.s2_console.proofs.CommandLemmas.{answers_moved, told}
+use Rattle.s2_io.proofs.CommandLemmas.{answers_moved, told}
 
 both : (a : Result Rows Fault) (b : Result (List ℤ) Fault) (rows : Rows) (soft : List ℤ) → a ≡ Ok rows → b ≡ Ok soft → then_values a b ≡ Ok (rows, soft)
 both a b rows soft p q = ap (λ x. then_values x b) p ∙ ap (then_values (Ok rows)) q

@@ -15,11 +15,11 @@ use Rattle.s2_check.specs.Views.{View}
 use Rattle.s2_check.specs.CertificateBytes.{bytes_of}
 use Rattle.s2_tuning.specs.Tuning.{Tuning}
 use Rattle.s2_judge.specs.Deciding.{decided, IsShown}
-use Rattle.s2_console.specs.declared.exit.Exit.{Exit}
-use Rattle.s2_console.specs.declared.exit.Exit.TheVariants as exits
-use Rattle.s2_console.specs.declared.fault.Fault.{Fault}
-use Rattle.s2_console.specs.declared.fault.Fault.TheVariants as faults
-use Rattle.s2_console.specs.Exits.{Prints}
+use Rattle.s2_io.specs.declared.exit.Exit.{Exit}
+use Rattle.s2_io.specs.declared.exit.Exit.TheVariants as exits
+use Rattle.s2_io.specs.declared.fault.Fault.{Fault}
+use Rattle.s2_io.specs.declared.fault.Fault.TheVariants as faults
+use Rattle.s2_io.specs.Exits.{Prints}
 use Rattle.s2_judging.specs.declared.hard_note.Ran.{Ran}
 use Rattle.s2_judging.specs.declared.frames.Reading.{Reading}
 use Rattle.s2_judging.specs.Bytewise.{Spends, TakesFrame, at_start, pending, words_from}

@@ -4,7 +4,7 @@ use Rattle.s2_rows.specs.Rows.{Rows}
 use Rattle.s2_check.specs.Views.{View}
 use Rattle.s2_check.specs.declared.verdict.Verdict.{Verdict}
 use Rattle.s2_judge.specs.Deciding.{Decided, IsShown}
-use Rattle.s2_console.specs.declared.exit.Exit.{Exit}
+use Rattle.s2_io.specs.declared.exit.Exit.{Exit}
 use Rattle.s2_judging.specs.Judging.{Says, SaysDecided, changed_of}
 
 -- the line and the exit of a verdict are those of what is decided

@@ -5,14 +5,14 @@ use Rattle.std.specs.List.{list_all}
 use Rattle.std.specs.Io.KnownBytes.{Appends}
 use Rattle.std.proofs.lemmas.Bool.{cond-true, cond-false}
 use Rattle.s2_rows.specs.Rows.{Rows}
-use Rattle.s2_console.specs.declared.exit.Exit.{Exit}
-use Rattle.s2_console.specs.declared.exit.Exit.TheVariants as exits
-use Rattle.s2_console.specs.declared.fault.Fault.{Fault}
-use Rattle.s2_console.specs.declared.fault.Fault.TheVariants as faults
-use Rattle.s2_console.specs.Exits.{CommandCounts, Complains}
-use Rattle.s2_console.specs.Faults.{fault_line}
-use Rattle.s2_console.specs.Notes.{Remarks, NotesLost}
-use Rattle.s2_console.specs.Screens.{Screen}
+use Rattle.s2_io.specs.declared.exit.Exit.{Exit}
+use Rattle.s2_io.specs.declared.exit.Exit.TheVariants as exits
+use Rattle.s2_io.specs.declared.fault.Fault.{Fault}
+use Rattle.s2_io.specs.declared.fault.Fault.TheVariants as faults
+use Rattle.s2_io.specs.Exits.{CommandCounts, Complains}
+use Rattle.s2_io.specs.Faults.{fault_line}
+use Rattle.s2_io.specs.Notes.{Remarks, NotesLost}
+use Rattle.s2_io.specs.Screens.{Screen}
 use Rattle.s2_judging.specs.declared.hard_note.Ran.{Ran}
 use Rattle.s2_judging.specs.HardNotes.{is_bit, look_hard, LooksHard, is_noted, the_note, notes_of, exit_in, Concludes}
 

@@ -1,7 +1,7 @@
 -- The known contents of the files of `judge`, and how many calls of each have failed (own).
 use Rattle.std.specs.Prelude.{◌≡◌, ℕ, Bool, true, false, List, Option, Some, None}
 use Rattle.s2_mode.specs.Counts.{CanCount}
-use Rattle.s2_files.specs.declared.output.Destination.{Destination}
+use Rattle.s2_io.specs.declared.output.Destination.{Destination}
 
 -- A file to be written, if there is one: whether it was begun, its contents, and how many of its calls have failed. If
 -- there is none, its contents are not known, and no call fails

@@ -7,8 +7,8 @@ use Rattle.s2_rows.specs.Values.{tokens_from, value_of}
 use Rattle.s2_rows.specs.declared.values.ValueFault.{ValueFault}
 use Rattle.s2_rows.specs.declared.values.ValueFault.TheVariants as value_faults
 use Rattle.s2_check.specs.Views.{IsSoft}
-use Rattle.s2_console.specs.declared.fault.Fault.{Fault}
-use Rattle.s2_console.specs.declared.fault.Fault.TheVariants as faults
+use Rattle.s2_io.specs.declared.fault.Fault.{Fault}
+use Rattle.s2_io.specs.declared.fault.Fault.TheVariants as faults
 use Rattle.s2_judging.specs.Hard.{bit_of}
 use Rattle.s2_judging.specs.Inputs.{values_said}
 

@@ -2,11 +2,11 @@
 use Rattle.std.specs.Prelude.{◌≡◌, ◌⊎◌, ℕ, ℤ, pos, int_lt, Bool, true, false, not, ◌&&◌, List, [], ◌∷◌, codes, Result, Ok, Err, if◌then◌else◌}
 use Rattle.std.specs.List.{list_all}
 use Rattle.s2_rows.specs.Rows.{Rows}
-use Rattle.s2_console.specs.declared.exit.Exit.{Exit}
-use Rattle.s2_console.specs.declared.fault.Fault.{Fault}
-use Rattle.s2_console.specs.Exits.{exit_of}
-use Rattle.s2_console.specs.Notes.{Remarks, NotesLost}
-use Rattle.s2_console.specs.Screens.{Screen}
+use Rattle.s2_io.specs.declared.exit.Exit.{Exit}
+use Rattle.s2_io.specs.declared.fault.Fault.{Fault}
+use Rattle.s2_io.specs.Exits.{exit_of}
+use Rattle.s2_io.specs.Notes.{Remarks, NotesLost}
+use Rattle.s2_io.specs.Screens.{Screen}
 use Rattle.s2_judging.specs.declared.hard_note.Ran.{Ran}
 
 -- 0 or 1

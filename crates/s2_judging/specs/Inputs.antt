@@ -6,8 +6,8 @@ use Rattle.s2_rows.specs.Values as values
 use Rattle.s2_rows.specs.FaultTexts.{value_fault_text}
 use Rattle.s2_rows.specs.declared.values.ValueFault.{ValueFault}
 use Rattle.s2_judging.specs.Hard.{text_by}
-use Rattle.s2_console.specs.declared.fault.Fault.{Fault}
-use Rattle.s2_console.specs.declared.fault.Fault.TheVariants as faults
+use Rattle.s2_io.specs.declared.fault.Fault.{Fault}
+use Rattle.s2_io.specs.declared.fault.Fault.TheVariants as faults
 use Rattle.s2_inputs.specs.Inputs.{max_bytes, rows_in}
 
 -- the values of a text, or its fault after `values: `

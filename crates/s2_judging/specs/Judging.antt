@@ -11,11 +11,11 @@ use Rattle.s2_check.specs.declared.verdict.Verdict.TheVariants as verdicts
 use Rattle.s2_tuning.specs.Limits.{default_rounds}
 use Rattle.s2_tuning.specs.Tuning.{Tuning, tuning_of}
 use Rattle.s2_judge.specs.Deciding.{Decided, decided}
-use Rattle.s2_console.specs.declared.exit.Exit.{Exit}
-use Rattle.s2_console.specs.declared.exit.Exit.TheVariants as exits
+use Rattle.s2_io.specs.declared.exit.Exit.{Exit}
+use Rattle.s2_io.specs.declared.exit.Exit.TheVariants as exits
 use Rattle.s2_mode.specs.Shape.{shape_of}
-use Rattle.s2_console.specs.Exits.{CommandExits}
-use Rattle.s2_console.specs.Screens.{Screen}
+use Rattle.s2_io.specs.Exits.{CommandExits}
+use Rattle.s2_io.specs.Screens.{Screen}
 use Rattle.s2_judging.specs.Inputs.{AreInputs}
 use Rattle.s2_evidence.specs.Lines.{cost_text}
 use Rattle.s2_judging.specs.Lines.{ended_line, broken_text}

@@ -16,8 +16,7 @@ ghost use Rattle.s2_judging.specs.Certifying.{Writes, WritesPart, Wrote, WrotePa
 use crate::lines::{broken_line, codeword_line};
 use s2_bits::Bits;
 use s2_check::{CertView, Verdict, cost};
-use s2_console::{Exit, Printed};
-use s2_files::{Destination, Output};
+use s2_io::{Destination, Exit, Output, Printed};
 use s2_judge::Judge;
 use s2_matrix::Matrix;
 use s2_mode::WriteFault;

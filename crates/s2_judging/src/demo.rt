@@ -6,14 +6,14 @@ ghost use Rattle.s2_matrix.specs.Code.{code_of};
 ghost use Rattle.s2_check.specs.Views.{IsSoft};
 ghost use Rattle.s2_tuning.specs.Limits.{default_rounds};
 ghost use Rattle.s2_tuning.specs.Tuning.{tuning_of};
-ghost use Rattle.s2_console.specs.Screens.{CanShow};
-ghost use Rattle.s2_console.specs.Exits.{CommandAnswers, CommandRuns, CommandCounts};
+ghost use Rattle.s2_io.specs.Screens.{CanShow};
+ghost use Rattle.s2_io.specs.Exits.{CommandAnswers, CommandRuns, CommandCounts};
 ghost use Rattle.s2_judging.specs.Inputs.{AreInputs, IsOnly};
 ghost use Rattle.s2_judging.specs.Judging.{IsOwn, OwnExits};
 
 use crate::decision::own_decision;
 use crate::reading::{Judged, read_judged};
-use s2_console::{Console, Exit, Fault, Printed};
+use s2_io::{Console, Exit, Fault, Printed};
 use s2_judge::Judge;
 use s2_mode::{CountedRead, CountedWrite, InMemory, Shape};
 use s2_tuning::{DEFAULT_ROUNDS, Tuning};

@@ -1,5 +1,5 @@
 //! The files of `judge`, as one value.
-use s2_files::{Destination, Output};
+use s2_io::{Destination, Output};
 use s2_mode::CountedRead;
 use std::marker::Model;
 

@@ -6,7 +6,7 @@ ghost use Rattle.s2_check.specs.Views.{IsSoft};
 ghost use Rattle.s2_judging.specs.Bytewise.{at_start, pending, pending_in, whole_of, IsReading, IsFrames, Spends, ReadsMore, AddsBuffered, EndsFrame, TakesFrame};
 
 use crate::words::{Place, Position, add_word, add_words};
-use s2_console::Fault;
+use s2_io::Fault;
 use s2_mode::CountedRead;
 use s2_rows::ValueFault;
 use std::alloc::{AllocError, Global};

@@ -5,7 +5,7 @@ ghost use Rattle.std.specs.List.{list_all};
 ghost use Rattle.s2_mode.specs.Counts.{CanCount, CountsFault};
 ghost use Rattle.s2_judging.specs.HardNotes.{is_bit, is_noted, the_note, Concludes};
 
-use s2_console::{Console, Exit, Fault};
+use s2_io::{Console, Exit, Fault};
 use s2_mode::{CountedWrite, WriteFault, write_full};
 
 /// The exit of judged frames, and whether all their values are 0 or 1.

@@ -4,8 +4,8 @@ ghost use Rattle.s2_evidence.specs.Lines.{cost_text};
 ghost use Rattle.s2_judging.specs.Lines.{broken_text, ended_line};
 
 use s2_check::Verdict;
-use s2_console::Line;
 use s2_evidence::with_cost;
+use s2_io::Line;
 
 /// A line, with the number of changed bits if it is known, and LF.
 fn ended(line: Line, changed: Option<usize>) -> Line

@@ -4,13 +4,13 @@ ghost use Rattle.s2_check.specs.Views.{IsSoft};
 ghost use Rattle.s2_mode.specs.Counts.{CanCount};
 ghost use Rattle.s2_mode.specs.Shape.{code_bits};
 ghost use Rattle.s2_matrix.specs.Code.{code_of};
-ghost use Rattle.s2_console.specs.Exits.{Follows};
+ghost use Rattle.s2_io.specs.Exits.{Follows};
 ghost use Rattle.s2_judging.specs.Hard.{text_by};
 ghost use Rattle.s2_judging.specs.Inputs.{values_said, values_by, inputs_by};
 
 use crate::hard::read_text;
-use s2_console::Fault;
 use s2_inputs::{read_bytes, read_matrix};
+use s2_io::Fault;
 use s2_matrix::Matrix;
 use s2_mode::{CountedRead, Shape};
 use s2_rows::ValueFault;

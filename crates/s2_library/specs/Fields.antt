@@ -4,14 +4,14 @@ use Rattle.s2_mode.specs.Mode.{Mode, n_of, k_of, kbch_of, q_of, width_of, symbol
 use Rattle.s2_check.specs.declared.verdict.Verdict.{Verdict}
 use Rattle.s2_check.specs.declared.verdict.Verdict.TheVariants as verdicts
 use Rattle.s2_bbframe.specs.declared.header.HeaderFault.TheVariants as faults
-use Rattle.s2_receive.specs.declared.report.Outcome.{Outcome}
-use Rattle.s2_receive.specs.declared.report.Outcome.TheVariants as outcomes
-use Rattle.s2_receive.specs.declared.report.Report.{Report}
-use Rattle.s2_receive.specs.declared.report.Step.{Step}
-use Rattle.s2_receive.specs.declared.report.Step.TheVariants as steps
-use Rattle.s2_receive.specs.declared.report.Totals.{Totals}
-use Rattle.s2_receive.specs.declared.figures.Figures.{Figures}
-use Rattle.s2_receive.specs.declared.figures.Sums.{Sums}
+use Rattle.s2_report.specs.declared.report.Outcome.{Outcome}
+use Rattle.s2_report.specs.declared.report.Outcome.TheVariants as outcomes
+use Rattle.s2_report.specs.declared.report.Report.{Report}
+use Rattle.s2_report.specs.declared.report.Step.{Step}
+use Rattle.s2_report.specs.declared.report.Step.TheVariants as steps
+use Rattle.s2_report.specs.declared.totals.Totals.{Totals}
+use Rattle.s2_report.specs.declared.figures.Figures.{Figures}
+use Rattle.s2_report.specs.declared.figures.Sums.{Sums}
 use Rattle.s2_library.specs.declared.mode.ModeFields.{ModeFields}
 use Rattle.s2_library.specs.declared.step.StepFields.{StepFields}
 use Rattle.s2_scan.specs.declared.candidate.Candidate.{Candidate}

@@ -6,17 +6,17 @@ use Rattle.s2_scramble.specs.Baseband.{scrambled}
 use Rattle.s2_check.specs.CertificateBytes.{bytes_of}
 use Rattle.s2_check.specs.Views.{View, IsSoft}
 use Rattle.s2_receive.specs.Receiving.{asked}
-use Rattle.s2_receive.specs.declared.report.Totals.{Totals}
+use Rattle.s2_report.specs.declared.totals.Totals.{Totals}
 use Rattle.s2_modem.specs.Reception.{Receiver, IsNew, certificate_of, rules_for, seen}
 use Rattle.s2_send.specs.Sender.{Sender, MakesFrame, PutsBytes, at_first, ended}
 use Rattle.s2_bbframe.specs.DataStream.{IsReady, field_bytes}
 use Rattle.s2_receive.specs.Answers.{Advances}
-use Rattle.s2_receive.specs.declared.report.Outcome.{Outcome}
-use Rattle.s2_receive.specs.declared.report.Outcome.TheVariants as outcomes
-use Rattle.s2_receive.specs.declared.report.Step.{Step}
-use Rattle.s2_receive.specs.declared.report.Step.TheVariants as steps
-use Rattle.s2_receive.specs.declared.figures.Figures.{Figures}
-use Rattle.s2_receive.specs.declared.figures.Sums.{Sums}
+use Rattle.s2_report.specs.declared.report.Outcome.{Outcome}
+use Rattle.s2_report.specs.declared.report.Outcome.TheVariants as outcomes
+use Rattle.s2_report.specs.declared.report.Step.{Step}
+use Rattle.s2_report.specs.declared.report.Step.TheVariants as steps
+use Rattle.s2_report.specs.declared.figures.Figures.{Figures}
+use Rattle.s2_report.specs.declared.figures.Sums.{Sums}
 use Rattle.s2_matrix.specs.Code.{code_of}
 use Rattle.s2_judge.specs.Judging.{Judging}
 use Rattle.s2_judge.specs.Deciding.{decided}

@@ -2,7 +2,7 @@
 ghost use Rattle.std.specs.Prelude.{◌≡◌};
 ghost use Rattle.s2_library.specs.Fields as fields;
 
-use s2_receive::{Figures, Sums};
+use s2_report::{Figures, Sums};
 
 /// The size of [`FiguresFields`] in bytes.
 pub(crate) const SIZE: u32 = 112;

@@ -21,7 +21,7 @@ use s2_check::CertView;
 use s2_link::{Link, SetupFault};
 use s2_mode::Counting;
 use s2_modem::Receiver;
-use s2_receive::{Figures, Outcome, Step};
+use s2_report::{Figures, Outcome, Step};
 use s2_scramble::bb_xor_in_place;
 use s2_tuning::{Tuning, tuning_by};
 use std::alloc::Global;

@@ -4,7 +4,7 @@ ghost use Rattle.s2_library.specs.Fields as fields;
 
 use s2_bbframe::HeaderFault;
 use s2_check::Verdict;
-use s2_receive::{Outcome, Report, Step};
+use s2_report::{Outcome, Report, Step};
 
 /// The size of [`StepFields`] in bytes.
 pub(crate) const SIZE: u32 = 80;

@@ -2,7 +2,7 @@
 ghost use Rattle.std.specs.Prelude.{◌≡◌};
 ghost use Rattle.s2_library.specs.Fields as fields;
 
-use s2_receive::Totals;
+use s2_report::Totals;
 
 /// The size of [`TotalsFields`] in bytes.
 pub(crate) const SIZE: u32 = 120;

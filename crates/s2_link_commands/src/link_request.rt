@@ -1,21 +1,19 @@
 //! The commands on a link: what each needs of its words, and how it runs on its files. This is plain code.
 ghost use Rattle.std.specs.Prelude.{◌≡◌, ◌≢◌, ◌+◌, ◌≤◌, IfOk, OnErr};
 ghost use Rattle.s2_mode.specs.Counts.{CanCount};
-ghost use Rattle.s2_console.specs.Files.{CanStart};
-ghost use Rattle.s2_console.specs.Screens.{CanNote};
+ghost use Rattle.s2_io.specs.Files.{CanStart};
+ghost use Rattle.s2_io.specs.Screens.{CanNote};
 ghost use Rattle.s2_receive.specs.Sinks.{wanted_count};
 
 use crate::opening::{Reading, Watching, open_link};
 use crate::records::{Records, finish_command, open_records};
 use crate::setup::setup_of;
 use s2_commands::{DemodOptions, LinkFiles, RunOptions, demod_command, mod_command, run_command};
-use s2_console::{Console, Exit};
-use s2_files::{Disk, Output, Truncating};
+use s2_io::{Console, Disk, Exit, Meter, Output, Pace, Show, Terminal, Truncating};
 use s2_link::LinkSetup;
 use s2_mode::{CountedRead, CountedWrite, Mode};
 use s2_notes::{exit_after, note_beginning, note_left_out};
 use s2_opening::{Opens, Unserved, show_on};
-use s2_progress::{Meter, Pace, Show, Terminal};
 use s2_resync::LeftOut;
 use s2_words::{
     DemodArguments, LinkArguments, ModArguments, Progress, RecordArguments, RunArguments, Seeds,

@@ -1,13 +1,12 @@
 //! Opens the files of a command on a link.
 ghost use Rattle.std.specs.Prelude.{◌≡◌, IfOk, OnOk};
 ghost use Rattle.either.specs.Either.{either};
-ghost use Rattle.s2_console.specs.Files.{CanStart};
+ghost use Rattle.s2_io.specs.Files.{CanStart};
 
 use s2_commands::LinkFiles;
-use s2_files::Destination;
+use s2_io::{Destination, Meter, Watched};
 use s2_mode::CountedRead;
 use s2_opening::{Opens, Unserved};
-use s2_progress::{Meter, Watched};
 use s2_resync::{PacketReader, PacketSource};
 use std::alloc::{AllocError, Global};
 

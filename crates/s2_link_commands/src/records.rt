@@ -2,8 +2,7 @@
 ghost use Rattle.std.specs.Prelude.{◌≡◌, ◌≢◌, ◌+◌, ◌<◌, ◌≤◌, IfOk, OnErr, OnOk};
 ghost use Rattle.s2_receive.specs.Sinks.{wanted_count};
 
-use s2_console::Exit;
-use s2_files::{Output, Truncating};
+use s2_io::{Exit, Output, Truncating};
 use s2_mode::{Mode, WriteFault};
 use s2_opening::{Opens, Unserved};
 use s2_records::{Bbframes, Certificates, Codewords, Values};

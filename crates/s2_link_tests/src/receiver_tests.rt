@@ -6,7 +6,8 @@ use super::ends::{
 use super::samples::{Sample, two_frames};
 use s2_check::Verdict;
 use s2_modem::Receiver;
-use s2_receive::{Fault, Outcome, Report, Step};
+use s2_receive::Fault;
+use s2_report::{Outcome, Report, Step};
 use std::alloc::Global;
 use std::test::Fail;
 

@@ -89,22 +89,22 @@ pub use Rattle.s2_send.specs.Sending.{AreCodewords, AreUnits, is_due}
 pub use Rattle.s2_send.specs.Transmitter.{Transmitter}
 pub use Rattle.s2_send.proofs.OnlyFrames.{length-baseband_frame, length-bch_word}
 pub use Rattle.s2_receive.specs.Answers.{ReceivesTo, RunAnswers}
-pub use Rattle.s2_receive.specs.Figures.{refused_in, saturated, sums_after}
-pub use Rattle.s2_receive.specs.declared.figures.Figures.{Figures}
-pub use Rattle.s2_receive.specs.declared.figures.Tally.{Tally}
+pub use Rattle.s2_report.specs.Figures.{refused_in, saturated, sums_after}
+pub use Rattle.s2_report.specs.declared.figures.Figures.{Figures}
+pub use Rattle.s2_report.specs.declared.figures.Tally.{Tally}
 pub use Rattle.s2_receive.specs.Laws.{AreReceived, IsDummy, IsReceived, Piece, SkippedNone, SpellSymbols, coded, dummy, frames_at, joined, stream_symbols}
 pub use Rattle.s2_receive.specs.Meeting.{Met, begins, by_found, cut, ended, extended, frame, met_from, no_gap, rest_of}
 pub use Rattle.s2_receive.specs.Decider.{IsSaidBy, delivered_of}
 pub use Rattle.s2_receive.specs.Receiving.{Decision, Meets, Rules, RunsOut, searched_again, Standing, State, after, after_all, all_lines, all_packets, are_all_certified, at_end, at_start, begun, count_of, left_in, left_known, report_of, step_of, with_gap}
-pub use Rattle.s2_receive.specs.ReportLines.{cut_line, end_line, frame_line}
+pub use Rattle.s2_report.specs.ReportLines.{cut_line, end_line, frame_line}
 pub use Rattle.s2_receive.specs.Sinks.{RunAnswersWith, Taking}
 unfoldable pub use Rattle.s2_receive.specs.Windows.{found_as}
 pub use Rattle.s2_receive.specs.declared.decider.Decided.{Decided as Answer}
-pub use Rattle.s2_receive.specs.declared.report.Outcome.{Outcome}
-pub use Rattle.s2_receive.specs.declared.report.Outcome.TheVariants.{BadHeader, Delivered, NoWord}
+pub use Rattle.s2_report.specs.declared.report.Outcome.{Outcome}
+pub use Rattle.s2_report.specs.declared.report.Outcome.TheVariants.{BadHeader, Delivered, NoWord}
 pub use Rattle.s2_receive.specs.declared.report.Received.{Received}
-pub use Rattle.s2_receive.specs.declared.report.Report.{Report}
-pub use Rattle.s2_receive.specs.declared.report.Totals.{Totals}
+pub use Rattle.s2_report.specs.declared.report.Report.{Report}
+pub use Rattle.s2_report.specs.declared.totals.Totals.{Totals}
 pub use Rattle.s2_receive.specs.declared.gap.Gap.{Gap}
 pub use Rattle.s2_receive.proofs.FieldPlaces.{placed_fields, placed_front}
 pub use Rattle.s2_receive.proofs.JoinLemmas.{all_joined}
@@ -113,11 +113,11 @@ pub use Rattle.s2_receive.proofs.Reception.{front, gives}
 pub use Rattle.s2_receive.proofs.RunLemmas.{after-append, lines-append, packets-append}
 pub use Rattle.s2_receive.proofs.SameSymbols.{all_met, same_met}
 pub use Rattle.s2_receive.proofs.StepLemmas.{symbols_least}
-pub use Rattle.s2_figures.specs.Errors.{error_at, known_places, payload_places, squared_distance}
-pub use Rattle.s2_figures.specs.Figures.{FigureMeter, meter_of, sent_frame}
-unfoldable pub use Rattle.s2_figures.specs.Figures.{figures_of}
-pub use Rattle.s2_figures.specs.Header.{symbol_energy}
-unfoldable pub use Rattle.s2_figures.specs.Header.{energy_of, header_errors}
+pub use Rattle.s2_modem.specs.Errors.{error_at, known_places, payload_places, squared_distance}
+pub use Rattle.s2_modem.specs.Figures.{FigureMeter, meter_of, sent_frame}
+unfoldable pub use Rattle.s2_modem.specs.Figures.{figures_of}
+pub use Rattle.s2_modem.specs.Header.{symbol_energy}
+unfoldable pub use Rattle.s2_modem.specs.Header.{energy_of, header_errors}
 pub use Rattle.s2_modem.specs.Both.{AreBytes, FramePlace, IsByte, IsDelivered, IsDeliveredCertified, ReceivesAll, certified_lines, energy_over, run_places, sent_symbols, sums_over, totals_of}
 pub use Rattle.s2_modem.specs.Front.{IsCleanFrame, clean_energy, clean_figures, clean_figures_by}
 pub use Rattle.s2_modem.specs.Headline.{ArrivalLaw, BothCodesLaw, CorrectsWithin, IsSent, ReceivesAllLaw, ReceivesScattered, ScatteredFrameLaw, sent_places}

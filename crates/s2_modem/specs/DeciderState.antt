@@ -11,14 +11,14 @@ use Rattle.s2_scramble.specs.Baseband.{scrambled}
 use Rattle.s2_receive.specs.Decider.{delivered_of, HasPlace}
 use Rattle.s2_receive.specs.Receiving.{Decision}
 use Rattle.s2_receive.specs.declared.decider.Decided.{Decided}
-use Rattle.s2_receive.specs.declared.report.Outcome.{Outcome}
-use Rattle.s2_receive.specs.declared.report.Outcome.TheVariants.{NoWord}
+use Rattle.s2_report.specs.declared.report.Outcome.{Outcome}
+use Rattle.s2_report.specs.declared.report.Outcome.TheVariants.{NoWord}
 use Rattle.s2_link.specs.Link.{Link}
 use Rattle.s2_tuning.specs.Tuning.{Tuning}
 use Rattle.s2_bch.specs.Decoding.{nearest}
 use Rattle.s2_equalize.specs.Wanted.{Equalizing, equalizer_by}
-use Rattle.s2_figures.specs.Figures.{FigureMeter, figures_of, meter_of}
-use Rattle.s2_receive.specs.declared.figures.Figures.{Figures}
+use Rattle.s2_modem.specs.Figures.{FigureMeter, figures_of, meter_of}
+use Rattle.s2_report.specs.declared.figures.Figures.{Figures}
 use Rattle.s2_modem.specs.Reports.{message_of, header_in, outcome_by, delivered_by, frame_decision}
 
 -- the result of BCH decoding on some bits, and the bits that it leaves

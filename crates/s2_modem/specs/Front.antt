@@ -14,12 +14,12 @@ use Rattle.s2_plframe.specs.declared.receive.found.Found.TheVariants as founds
 use Rattle.s2_soft.specs.Divisors.{IsDivisor}
 use Rattle.s2_soft.specs.Soft.{soft_values}
 use Rattle.s2_soft.specs.Clean.{DecidesTo}
-use Rattle.s2_figures.specs.Errors.{known_places, payload_places}
-use Rattle.s2_figures.specs.Figures.{sent_frame}
-use Rattle.s2_figures.specs.Header.{symbol_energy}
+use Rattle.s2_modem.specs.Errors.{known_places, payload_places}
+use Rattle.s2_modem.specs.Figures.{sent_frame}
+use Rattle.s2_modem.specs.Header.{symbol_energy}
 use Rattle.s2_tuning.specs.Tuning.{Tuning}
-use Rattle.s2_receive.specs.declared.figures.Correlation.{Correlation}
-use Rattle.s2_receive.specs.declared.figures.Figures.{Figures}
+use Rattle.s2_report.specs.declared.figures.Correlation.{Correlation}
+use Rattle.s2_report.specs.declared.figures.Figures.{Figures}
 
 -- the header of a codeword's frame is found, and the soft values of its payload by this divisor say the codeword; none
 -- of them is 0

@@ -12,7 +12,7 @@ use Rattle.s2_split.specs.Scattered.{IsScattered}
 use Rattle.s2_bbframe.specs.DataStream.{IsPacket, header_at, to_place, field_bytes, fields_of, stream_of}
 use Rattle.s2_receive.specs.Laws.{SpellSymbols}
 use Rattle.s2_receive.specs.Receiving.{Decision}
-use Rattle.s2_receive.specs.declared.report.Totals.{Totals}
+use Rattle.s2_report.specs.declared.totals.Totals.{Totals}
 use Rattle.s2_check.specs.Strict.{IsSole}
 use Rattle.s2_check.specs.Verdicts.{is_certified}
 use Rattle.s2_check.specs.declared.verdict.Verdict.TheVariants.{Sole}
@@ -27,7 +27,7 @@ use Rattle.s2_send.specs.Transmitter.{Transmitter}
 use Rattle.s2_send.specs.Sending.{AreCodewords, TransmitterRuns, joined}
 use Rattle.s2_send.specs.Frames.{IsCodewordFor}
 use Rattle.s2_modem.specs.Reports.{frame_soft, received_word, message_of, frame_decision}
-use Rattle.s2_receive.specs.ReportLines.{end_line}
+use Rattle.s2_report.specs.ReportLines.{end_line}
 use Rattle.s2_modem.specs.Reception.{link_rules, ReceivesTotals}
 use Rattle.s2_modem.specs.Both.{AreBytes, FramePlace, IsDelivered, IsDeliveredCertified, ReceivesAll, certified_lines, run_places, totals_of}
 use Rattle.s2_modem.specs.Front.{clean_energy, clean_figures_by}

@@ -24,15 +24,15 @@ use Rattle.s2_link.specs.Limits.{max_roll_off}
 use Rattle.s2_send.specs.Frames.{IsCodewordFor}
 use Rattle.s2_send.specs.Laws.{IsLinkOf}
 use Rattle.s2_receive.specs.Windows.{found_as}
-use Rattle.s2_receive.specs.ReportLines.{frame_line, cut_line, end_line}
+use Rattle.s2_report.specs.ReportLines.{frame_line, cut_line, end_line}
 use Rattle.s2_receive.specs.Calls.{Call, CallsToEnd, call_lines, call_packets, in_memory}
 use Rattle.s2_receive.specs.Receiving.{State, Decision, RunsOut, begun}
 use Rattle.s2_receive.specs.Meeting.{no_gap, begins, met_from, rest_of}
 use Rattle.s2_receive.specs.Laws.{Piece, joined, stream_symbols, events_of}
-use Rattle.s2_receive.specs.declared.report.Outcome.{Outcome}
-use Rattle.s2_receive.specs.declared.report.Outcome.TheVariants.{Delivered}
-use Rattle.s2_receive.specs.declared.report.Report.{Report}
-use Rattle.s2_receive.specs.declared.report.Totals.{Totals}
+use Rattle.s2_report.specs.declared.report.Outcome.{Outcome}
+use Rattle.s2_report.specs.declared.report.Outcome.TheVariants.{Delivered}
+use Rattle.s2_report.specs.declared.report.Report.{Report}
+use Rattle.s2_report.specs.declared.totals.Totals.{Totals}
 use Rattle.s2_modem.specs.Reports.{frame_soft, frame_decision, received_word}
 use Rattle.s2_modem.specs.Reception.{Receiver, ReceivesTotals, IsAsLikely, AllAsLikely, IsCorrected, TrueReports, is_searched_again, link_rules, rules_for, seen, sought_by}
 use Rattle.s2_modem.specs.Both.{AreBytes}

@@ -17,7 +17,7 @@ use Rattle.s2_receive.specs.Answers.{Seen, RunAnswers, ReceivesTo, BreaksIn}
 use Rattle.s2_receive.specs.Sinks.{Taking, RunAnswersWith}
 use Rattle.s2_mode.specs.declared.stream_fault.StreamFault.{StreamFault}
 use Rattle.s2_receive.specs.declared.report.Received.{Received}
-use Rattle.s2_receive.specs.declared.report.Totals.{Totals}
+use Rattle.s2_report.specs.declared.totals.Totals.{Totals}
 use Rattle.s2_receive.specs.Limits.{max_symbols}
 use Rattle.s2_link.specs.declared.setup.Setup.{Setup}
 use Rattle.s2_link.specs.declared.fault.SetupFault.{SetupFault}
@@ -34,8 +34,8 @@ use Rattle.s2_bch.specs.Codes.{IsWithin}
 use Rattle.s2_bbframe.specs.Headers.{header_of_bytes}
 use Rattle.s2_bbframe.specs.declared.header.Header.{Header}
 use Rattle.s2_scramble.specs.Baseband.{scrambled}
-use Rattle.s2_receive.specs.declared.report.Outcome.{Outcome}
-use Rattle.s2_receive.specs.declared.report.Outcome.TheVariants.{Delivered, NoWord, BadHeader}
+use Rattle.s2_report.specs.declared.report.Outcome.{Outcome}
+use Rattle.s2_report.specs.declared.report.Outcome.TheVariants.{Delivered, NoWord, BadHeader}
 use Rattle.s2_modem.specs.Reports.{frame_soft, frame_decision, received_word, message_of, header_in, field_in, IsUndecided}
 
 -- the frames that are sought: those of the link's mode, in all four rotations if the tuning says so

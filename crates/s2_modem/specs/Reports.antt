@@ -13,12 +13,12 @@ use Rattle.s2_plframe.specs.Turns.{derotated, turn_of}
 use Rattle.s2_equalize.specs.Wanted.{levelled}
 use Rattle.s2_soft.specs.Soft.{soft_values}
 use Rattle.s2_receive.specs.Receiving.{Decision}
-use Rattle.s2_receive.specs.declared.figures.Figures.{Figures}
-use Rattle.s2_receive.specs.declared.report.Outcome.{Outcome}
-use Rattle.s2_receive.specs.declared.report.Outcome.TheVariants.{Delivered, NoWord, BadHeader}
+use Rattle.s2_report.specs.declared.figures.Figures.{Figures}
+use Rattle.s2_report.specs.declared.report.Outcome.{Outcome}
+use Rattle.s2_report.specs.declared.report.Outcome.TheVariants.{Delivered, NoWord, BadHeader}
 use Rattle.s2_link.specs.Link.{Link}
-use Rattle.s2_figures.specs.Figures.{figures_of}
-use Rattle.s2_figures.specs.Header.{energy_of}
+use Rattle.s2_modem.specs.Figures.{figures_of}
+use Rattle.s2_modem.specs.Header.{energy_of}
 use Rattle.s2_judge.specs.Deciding.{Decided, decided, rounds_run}
 use Rattle.s2_tuning.specs.Tuning.{Tuning}
 use Rattle.s2_bch.specs.Decoding.{nearest}

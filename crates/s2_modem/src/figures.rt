@@ -4,11 +4,11 @@ ghost use Rattle.s2_mode.specs.Mode.{n_of, symbols_in};
 ghost use Rattle.s2_matrix.specs.Code.{code_of};
 ghost use Rattle.s2_modem.specs.DeciderState.{figures_found, meter_by};
 
-use s2_figures::FigureMeter;
+use crate::meter::FigureMeter;
 use s2_judge::Judge;
 use s2_link::Link;
 use s2_mode::Symbol;
-use s2_receive::Figures;
+use s2_report::Figures;
 use s2_tuning::Tuning;
 use std::alloc::{AllocError, Global};
 

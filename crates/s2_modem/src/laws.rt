@@ -1,4 +1,5 @@
 //! Laws, which follow from the definitions alone. Each is the clause of a call that does nothing.
+ghost use Rattle.s2_modem.specs.Correlation.{ScalingLaw};
 ghost use Rattle.s2_modem.specs.Front.{CleanFrameLaw};
 ghost use Rattle.s2_modem.specs.Headline.{LikelyFrameLaw, SoleFrameLaw, BothCodesLaw, ScatteredFrameLaw, ReceivesAllLaw, ArrivalLaw};
 ghost use Rattle.s2_modem.specs.Streams.{FirstFramesLaw, OneStreamLaw};
@@ -105,4 +106,11 @@ pub fn calls(mode: Mode)
 /// have the same totals and the same result, however their readers cut the bytes.
 pub fn one_stream()
     ensures { OneStreamLaw }
+{}
+
+/// If each received symbol is multiplied by a whole number, the power in the figures of a frame is multiplied by its
+/// square, and both parts of the correlation by the number itself. So a gain that is computed from them is exact for each
+/// amplitude.
+pub fn scaling()
+    ensures { ScalingLaw }
 {}

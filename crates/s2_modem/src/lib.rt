@@ -19,7 +19,7 @@
 //! definitions for its symbols: soft values, decided bits with verdict and certificate, the message of the nearest BCH
 //! word, and its header. So are the packets that the joiner makes of its data field. [`Receiver::next`] also reads and
 //! writes. Soft values are divided by [`DEFAULT_DIVISOR`], or by the divisor of the [`Tuning`] of
-//! [`Receiver::on_link`]. If the tuning asks for figures, each report has those of its frame ([`s2_receive::Figures`]),
+//! [`Receiver::on_link`]. If the tuning asks for figures, each report has those of its frame ([`s2_report::Figures`]),
 //! and only then memory is taken for them. Frames that are rotated by quarter turns are received only if it says so: they
 //! are found, and rotated back before anything is decided. If it has the equalizer, each symbol is then divided by the
 //! gain of the channel ([`s2_equalize::Equalizer`]).
@@ -43,14 +43,22 @@
 //! ```
 #![tactic(auto)]
 
+mod changed;
 mod corrector;
+mod correlation_sums;
+mod correlations;
 mod decider;
 mod demodulation;
 mod demodulator;
 mod derotator;
+mod distances;
+mod errors;
 mod figures;
+mod header;
 pub mod laws;
 mod message;
+mod meter;
+mod pilots;
 mod receiver;
 
 pub use demodulation::{DemodFault, demodulate};

@@ -12,7 +12,7 @@ ghost use Rattle.s2_modem.specs.DeciderState.{Reads};
 use s2_bbframe::{Header, HeaderFault, field_bytes};
 use s2_bits::{Bits, bytes_from};
 use s2_mode::Mode;
-use s2_receive::Outcome;
+use s2_report::Outcome;
 use s2_scramble::bb_xor_in_place;
 use std::alloc::{AllocError, Global};
 use std::marker::Model;

@@ -3,9 +3,9 @@ use Rattle.std.specs.Prelude.{◌≡◌, ℕ, ◌+◌, ◌/◌, ◌%◌, nat_lt,
 use Rattle.std.specs.List.{flat_map, filter, range_with_len, Contains}
 use Rattle.s2_mode.specs.Limits.{max_modcod}
 use Rattle.s2_mode.specs.Mode.{Mode, IsMode, mode_of, kbch_of, k_of, symbols_in}
-use Rattle.s2_console.specs.declared.exit.Exit.{Exit}
-use Rattle.s2_console.specs.declared.exit.Exit.TheVariants as exits
-use Rattle.s2_console.specs.declared.fault.Fault.{Fault}
+use Rattle.s2_io.specs.declared.exit.Exit.{Exit}
+use Rattle.s2_io.specs.declared.exit.Exit.TheVariants as exits
+use Rattle.s2_io.specs.declared.fault.Fault.{Fault}
 use Rattle.s2_names.specs.declared.names.Case.TheVariants as cases
 use Rattle.s2_names.specs.Names.{name_of}
 use Rattle.s2_names.specs.Rates.{symbol_millionths, stream_rate}

@@ -1,13 +1,13 @@
 //! `modes`: the modes listed, or one of them.
 ghost use Rattle.std.specs.Prelude.{◌≡◌, ◌≢◌, ⊤, Result, Ok, IsOk, IfOk};
 ghost use Rattle.s2_mode.specs.Counts.{CanCount};
-ghost use Rattle.s2_console.specs.Exits.{CommandRuns, CommandCounts, CommandExits};
-ghost use Rattle.s2_console.specs.Screens.{CanShow};
+ghost use Rattle.s2_io.specs.Exits.{CommandRuns, CommandCounts, CommandExits};
+ghost use Rattle.s2_io.specs.Screens.{CanShow};
 ghost use Rattle.s2_names.specs.ModeLines.{IsListed, IsAsked, listed_text};
 
 use crate::listing::{mode_text, modes_text};
 use crate::rate::SymbolRate;
-use s2_console::{Console, Exit, Fault, print};
+use s2_io::{Console, Exit, Fault, print};
 use s2_mode::{CountedWrite, Mode};
 use std::alloc::{AllocError, Global};
 

@@ -3,8 +3,7 @@
 //! cannot be opened by opening it again.
 use crate::errors::write_note;
 use crate::names::shown;
-use s2_files::{Disk, Role, is_standard};
-use s2_progress::Terminal;
+use s2_io::{Disk, Role, Terminal, is_standard};
 use s2_words::{RecordArguments, Request};
 use std::alloc::{AllocError, Global};
 use std::fs::OpenOptions;

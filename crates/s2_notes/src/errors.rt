@@ -1,9 +1,8 @@
 //! Standard error, beside the progress line.
 ghost use Rattle.std.specs.Prelude.{◌≡◌};
 
-use s2_files::{Disk, StandardStreams};
+use s2_io::{Clearing, Disk, StandardStreams, Terminal};
 use s2_mode::{Counting, write_full};
-use s2_progress::{Clearing, Terminal};
 
 /// Standard error. The progress line is cleared before anything is written to it.
 pub type Errors<'t, 'r, R> = Clearing<'t, 'r, Counting<<R as StandardStreams>::Errors>, R>;

@@ -1,12 +1,10 @@
 //! The bytes of a packet file that `--resync` left out: the note on them, and the exit. And the note on a refused audit. This
 //! is plain code.
 ghost use Rattle.std.specs.Prelude.{◌≢◌, ◌+◌, ◌≤◌, length};
-ghost use Rattle.s2_console.specs.Lines.{line_room};
+ghost use Rattle.s2_io.specs.Lines.{line_room};
 
 use crate::errors::write_note;
-use s2_console::{Exit, Line};
-use s2_files::Disk;
-use s2_progress::Terminal;
+use s2_io::{Disk, Exit, Line, Terminal};
 use s2_resync::LeftOut;
 
 /// Appends words, a number, and a noun, which is plural unless the number is 1.

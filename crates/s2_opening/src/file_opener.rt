@@ -3,9 +3,7 @@ ghost use Rattle.std.specs.Prelude.{◌≡◌, length};
 
 use crate::noting::{Named, Noting};
 use crate::opens::{Opens, Unserved};
-use s2_console::Fault;
-use s2_files::{Disk, Opener, Reader, Role, StandardStreams, Target};
-use s2_progress::Terminal;
+use s2_io::{Disk, Fault, Opener, Reader, Role, StandardStreams, Target, Terminal};
 use std::rt::Files;
 
 /// An input before it has its name.

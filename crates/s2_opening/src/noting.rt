@@ -2,10 +2,9 @@
 ghost use Rattle.std.specs.Prelude.{◌≡◌};
 
 use crate::opens::Finishes;
-use s2_files::{Disk, Explains, Output, Role, Target, is_standard};
+use s2_io::{Disk, Explains, Output, Role, Target, Terminal, is_standard};
 use s2_mode::{Counted, CountedRead, CountedWrite, ReadFault, WriteFault};
 use s2_notes::note_failure;
-use s2_progress::Terminal;
 use std::io;
 use std::io::Write;
 

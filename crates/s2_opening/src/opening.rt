@@ -2,8 +2,7 @@
 ghost use Rattle.std.specs.Prelude.{◌≡◌, false, IfOk};
 
 use crate::opens::{Opens, Unserved};
-use s2_files::Destination;
-use s2_progress::{Meter, Watched};
+use s2_io::{Destination, Meter, Watched};
 use s2_scan::Beginning;
 use s2_words::{AuditArguments, JoinArguments, NoiseArguments, ScanArguments};
 

@@ -1,7 +1,7 @@
 //! What opens the files of a command.
 ghost use Rattle.std.specs.Prelude.{◌≡◌, ◌+◌, ◌<◌, ℕ, IfOk, OnOk};
 
-use s2_files::Output;
+use s2_io::Output;
 use s2_mode::{CountedRead, WriteFault};
 
 /// Why the command of a request is not run, or has not ended well, apart from its own faults.

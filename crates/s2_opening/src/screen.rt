@@ -1,14 +1,12 @@
 //! A command's report and its errors, its standard input, and its progress line.
 ghost use Rattle.std.specs.Prelude.{◌≡◌};
-ghost use Rattle.s2_console.specs.Screens.{CanNote};
+ghost use Rattle.s2_io.specs.Screens.{CanNote};
 
 use crate::noting::{Named, Noting};
 use crate::thinned::Thinned;
 use either::{Either, Left, Right};
-use s2_console::Console;
-use s2_files::{Disk, Explaining, Role, StandardStreams};
+use s2_io::{Clearing, Console, Disk, Explaining, Pace, Role, Show, StandardStreams, Terminal};
 use s2_notes::{Errors, errors_of};
-use s2_progress::{Clearing, Pace, Show, Terminal};
 use s2_words::Progress;
 use std::time::Clock;
 

@@ -2,7 +2,7 @@
 ghost use Rattle.std.specs.Prelude.{◌≡◌, None};
 ghost use Rattle.s2_mode.specs.Counts.{CanCount, CountsFault};
 
-use s2_console::Line;
+use s2_io::Line;
 use s2_mode::{Counted, CountedWrite, WriteFault, write_full};
 
 /// The number of frames so far, of those delivered, and of those of them that are certified.

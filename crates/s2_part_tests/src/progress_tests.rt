@@ -1,7 +1,8 @@
 //! The progress line of more bytes than a command reads, and failed calls.
-use s2_files::{Output, StandardStreams};
+use s2_io::{
+    Meter, Numbers, Output, Pace, Passed, Show, StandardStreams, Terminal, Watched, numbers_at,
+};
 use s2_mode::{ByOne, Counted, CountedRead, CountedWrite, ReadFault, WriteFault};
-use s2_progress::{Meter, Numbers, Pace, Passed, Show, Terminal, Watched, numbers_at};
 use std::cell::Cell;
 use std::io;
 use std::io::{IsTerminal, Write};

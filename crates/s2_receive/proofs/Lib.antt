@@ -1,6 +1,5 @@
 pub mod Names
 pub mod SymbolLists
-pub mod Rooms
 pub mod Headers
 pub mod MetLemmas
 pub mod LostFrames

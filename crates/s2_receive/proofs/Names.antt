@@ -37,7 +37,7 @@ pub use Rattle.s2_receive.specs.Laws.{joined, met_events, events_of, IsJoined, P
 pub use Rattle.s2_receive.specs.Meeting.{Met, frame, cut, ended, no_gap, extended, begins, by_found, is_followed, resumes, resumed, rest_of, met_from, is_gap}
 pub use Rattle.s2_receive.specs.Receiving.{Rules, Standing, after, all_packets, packets_of, delivery, is_none, is_lost, searched_again, room_in, joined_after, at_start, after_all, count_of, State, taken, left_by, left_known, met_left, left_in, asked, asked_by, YieldsMet, EndsAt, Steps, Waits, YieldsSymbols, Reaches, Meets, EndsBehind, StopsShort, Stops, Processed, StepAnswers, IsLive, all_lines, line_of, step_of, is_certified_step, are_all_certified, rank, RunsTo, BreaksOff, BreaksAfter, phase_after, Receiver, Decision, Handles, MetFrame, IsDecided, IsDecidedBy, begun, is_at_frame, report_for, rules_of, frame_totals, counts_after, with_gap, state_of}
 pub use Rattle.s2_receive.specs.Decider.{delivered_of}
-pub use Rattle.s2_receive.specs.ReportLines.{frame_line, step_line}
+pub use Rattle.s2_report.specs.ReportLines.{frame_line, step_line}
 pub use Rattle.s2_receive.specs.Sinks.{Taking, TakesFrames, TakesStep, FailsStep, frames_of, IsNotTaken, BreaksTaken, StepAnswersWith, RunAnswersWith, NextWith, OnlyFailedWith}
 pub use Rattle.s2_receive.specs.ReceiverCore.{FailsIn, Fits, IsSound, CanCountIn}
 pub use Rattle.s2_receive.specs.Output.{Filled, filled_by, joined_by, counts_by, counted, answer_for, HandlesNext, Searches, TakesDecided, KeepsWithout}
@@ -48,14 +48,14 @@ pub use Rattle.s2_receive.specs.declared.window.Next.{Next}
 pub use Rattle.s2_receive.specs.declared.report.Fault.{Fault}
 pub use Rattle.s2_receive.specs.declared.report.Phase.{Phase}
 pub use Rattle.s2_receive.specs.declared.report.Received.{Received}
-pub use Rattle.s2_receive.specs.declared.report.Report.{Report}
-pub use Rattle.s2_receive.specs.declared.report.Step.{Step}
-pub use Rattle.s2_receive.specs.declared.report.Totals.{Totals}
+pub use Rattle.s2_report.specs.declared.report.Report.{Report}
+pub use Rattle.s2_report.specs.declared.report.Step.{Step}
+pub use Rattle.s2_report.specs.declared.totals.Totals.{Totals}
 pub use Rattle.s2_receive.specs.declared.header_search.Scan.{Scan}
 pub use Rattle.s2_receive.specs.declared.gap.Gap.{Gap}
 pub use Rattle.s2_plframe.specs.declared.receive.found.Found.TheVariants as founds
 pub use Rattle.s2_receive.specs.declared.window.Next.TheVariants as next
 pub use Rattle.s2_mode.specs.declared.stream_fault.StreamFault.TheVariants as stream_faults
 pub use Rattle.s2_receive.specs.declared.report.Fault.TheVariants as faults
-pub use Rattle.s2_receive.specs.declared.report.Step.TheVariants as steps
+pub use Rattle.s2_report.specs.declared.report.Step.TheVariants as steps
 pub use Rattle.s2_receive.specs.declared.report.Phase.TheVariants as phases

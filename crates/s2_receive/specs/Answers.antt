@@ -14,10 +14,10 @@ use Rattle.s2_receive.specs.declared.report.Fault.{Fault}
 use Rattle.s2_receive.specs.declared.report.Fault.TheVariants as faults
 use Rattle.s2_receive.specs.declared.report.Phase.TheVariants as phases
 use Rattle.s2_receive.specs.declared.report.Received.{Received}
-use Rattle.s2_receive.specs.declared.report.Report.{Report}
-use Rattle.s2_receive.specs.declared.report.Step.{Step}
-use Rattle.s2_receive.specs.declared.report.Step.TheVariants as steps
-use Rattle.s2_receive.specs.declared.report.Totals.{Totals}
+use Rattle.s2_report.specs.declared.report.Report.{Report}
+use Rattle.s2_report.specs.declared.report.Step.{Step}
+use Rattle.s2_report.specs.declared.report.Step.TheVariants as steps
+use Rattle.s2_report.specs.declared.totals.Totals.{Totals}
 
 -- a fact about a reader and two writers, before and after a call; each is given by its bytes and its count
 abbrev pub Between : {R P W T : Type 0} → ((before behind : Streams) → T → Type 0) → (R → Option (List ℕ)) → (R → ℕ) → (P → Option (List ℕ)) → (P → ℕ) → (W → Option (List ℕ)) → (W → ℕ) → R → P → W → R → P → W → T → Type 0

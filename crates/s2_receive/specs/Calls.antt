@@ -2,11 +2,11 @@
 use Rattle.std.specs.Prelude.{◌≡◌, ◌≢◌, ℕ, List, [], ◌∷◌, ◌++◌, length, Option, Some, None}
 use Rattle.s2_mode.specs.Streams.{Streams}
 use Rattle.s2_receive.specs.Answers.{Seen, Advances}
-use Rattle.s2_receive.specs.ReportLines.{step_line}
+use Rattle.s2_report.specs.ReportLines.{step_line}
 use Rattle.s2_receive.specs.Receiving.{State, IsLive, RunsOut, asked}
 use Rattle.s2_receive.specs.declared.report.Phase.TheVariants as phases
-use Rattle.s2_receive.specs.declared.report.Step.{Step}
-use Rattle.s2_receive.specs.declared.report.Totals.{Totals}
+use Rattle.s2_report.specs.declared.report.Step.{Step}
+use Rattle.s2_report.specs.declared.totals.Totals.{Totals}
 
 -- a call of `advance`: the bytes that it got, its result, and the receiver after it
 pub record Call : Type 0 where

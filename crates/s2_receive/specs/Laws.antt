@@ -13,8 +13,8 @@ use Rattle.s2_receive.specs.declared.gap.Gap.{Gap}
 use Rattle.s2_receive.specs.Meeting.{Met, frame, cut, ended, no_gap, is_gap, begins, met_from, extended, resumes, resumed}
 use Rattle.s2_receive.specs.Receiving.{Rules, Decision, Standing, State, Processed, StepAnswers, RunsOut, RunsTo, begun, delivery, at_start, searched_again, after_all, all_packets, all_lines, are_all_certified}
 use Rattle.s2_mode.specs.Streams.{Streams}
-use Rattle.s2_receive.specs.declared.report.Step.{Step}
-use Rattle.s2_receive.specs.declared.report.Totals.{Totals}
+use Rattle.s2_report.specs.declared.report.Step.{Step}
+use Rattle.s2_report.specs.declared.totals.Totals.{Totals}
 use Rattle.s2_mode.specs.Symbols.{symbols_of}
 use Rattle.std.specs.Io.KnownBytes.{Appends}
 

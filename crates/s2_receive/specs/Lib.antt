@@ -2,7 +2,6 @@ pub mod Limits
 pub mod Meeting
 pub mod Synchronization
 pub mod Faults
-pub mod Figures
 pub mod Receiving
 pub mod Sums
 pub mod Answers
@@ -13,6 +12,5 @@ pub mod Output
 pub mod Laws
 pub mod Calls
 pub mod Windows
-pub mod ReportLines
 pub use Rattle.s2_mode.specs.Symbols
 pub use Rattle.s2_bbframe.specs.Joining

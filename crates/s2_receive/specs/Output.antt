@@ -10,12 +10,12 @@ use Rattle.s2_plframe.specs.declared.receive.found.Found.{Found}
 use Rattle.s2_receive.specs.Synchronization.{Follows, HoldsAfter, Takes, Window, met_then, met_of, room_for}
 use Rattle.s2_receive.specs.Receiving.{Decision, Handles, IsDecided, IsDecidedBy, Rules, State, Waits, at_end, count_of, counts_after, cut_totals, frame_totals, is_lost, joined_after, met_left, report_for, room_in, searched_again, taken, with_gap}
 use Rattle.s2_receive.specs.ReceiverCore.{CanCountIn}
-use Rattle.s2_receive.specs.declared.report.Step.{Step}
-use Rattle.s2_receive.specs.declared.report.Step.TheVariants as steps
+use Rattle.s2_report.specs.declared.report.Step.{Step}
+use Rattle.s2_report.specs.declared.report.Step.TheVariants as steps
 use Rattle.s2_receive.specs.declared.packet_buffer.StepCounts.{StepCounts}
 use Rattle.s2_receive.specs.declared.window.Next.{Next}
 use Rattle.s2_receive.specs.declared.window.Next.TheVariants as next
-use Rattle.s2_receive.specs.declared.report.Totals.{Totals}
+use Rattle.s2_report.specs.declared.totals.Totals.{Totals}
 
 -- a joiner with a buffer: the part of a body that it holds, and the bytes of the packets that it gave last
 pub record Filled : Type 0 where

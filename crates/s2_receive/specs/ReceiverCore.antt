@@ -8,7 +8,7 @@ use Rattle.s2_receive.specs.Limits.{max_symbols}
 use Rattle.s2_receive.specs.Synchronization.{Window, reached, room_for}
 use Rattle.s2_receive.specs.declared.window.Next.{Next}
 use Rattle.s2_receive.specs.declared.window.Next.TheVariants as next
-use Rattle.s2_receive.specs.declared.report.Totals.{Totals}
+use Rattle.s2_report.specs.declared.totals.Totals.{Totals}
 
 -- the totals of at most n symbols
 pub record Fits (limit : ℕ) (window : Window) (t : Totals) : Type 0 where

@@ -12,23 +12,23 @@ use Rattle.s2_mode.specs.Streams.{Streams}
 use Rattle.s2_mode.specs.Symbols.{symbols_of}
 use Rattle.s2_bbframe.specs.Joining.{Event, field, gap, Joined, step, begun_body, incomplete_in}
 use Rattle.s2_receive.specs.declared.packet_buffer.StepCounts.{StepCounts}
-use Rattle.s2_receive.specs.declared.figures.Figures.{Figures}
+use Rattle.s2_report.specs.declared.figures.Figures.{Figures}
 use Rattle.s2_receive.specs.declared.gap.Gap.{Gap}
-use Rattle.s2_receive.specs.Figures.{refused_in, saturated, sums_after}
+use Rattle.s2_report.specs.Figures.{no_totals, refused_in, saturated, sums_after}
 use Rattle.s2_receive.specs.Meeting.{Met, frame, cut, ended, no_gap, is_gap}
 use Rattle.s2_receive.specs.Synchronization.{Window, Follows, met_within, reached, room_for, wanted, window_at}
 use Rattle.s2_receive.specs.Windows.{found_as}
-use Rattle.s2_receive.specs.ReportLines.{step_line}
+use Rattle.s2_report.specs.ReportLines.{step_line}
 use Rattle.s2_receive.specs.ReceiverCore.{FailsIn}
 use Rattle.s2_check.specs.declared.verdict.Verdict.{Verdict}
 use Rattle.s2_check.specs.Verdicts.{is_certified}
 use Rattle.s2_check.specs.Views.{View}
-use Rattle.s2_receive.specs.declared.report.Outcome.{Outcome}
-use Rattle.s2_receive.specs.declared.report.Outcome.TheVariants as outcomes
-use Rattle.s2_receive.specs.declared.report.Report.{Report}
-use Rattle.s2_receive.specs.declared.report.Totals.{Totals}
-use Rattle.s2_receive.specs.declared.report.Step.{Step}
-use Rattle.s2_receive.specs.declared.report.Step.TheVariants as steps
+use Rattle.s2_report.specs.declared.report.Outcome.{Outcome}
+use Rattle.s2_report.specs.declared.report.Outcome.TheVariants as outcomes
+use Rattle.s2_report.specs.declared.report.Report.{Report}
+use Rattle.s2_report.specs.declared.totals.Totals.{Totals}
+use Rattle.s2_report.specs.declared.report.Step.{Step}
+use Rattle.s2_report.specs.declared.report.Step.TheVariants as steps
 use Rattle.s2_receive.specs.declared.report.Fault.{Fault}
 use Rattle.s2_receive.specs.declared.report.Fault.TheVariants as faults
 use Rattle.s2_receive.specs.declared.report.Phase.{Phase}
@@ -89,7 +89,7 @@ pub record Standing : Type 0 where
 
 -- no frame so far
 abbrev pub at_start : Standing
-at_start = record { held = None; totals = record { frames = 0; delivered = 0; packets = 0; bad = 0; incomplete = 0; cut = false; skipped = 0; places = 0; first = 0; refused = 0; energy = 0; sums = None } }
+at_start = record { held = None; totals = no_totals }
 
 -- what the joiner holds when a frame comes: a gap comes first if symbols were skipped
 abbrev pub held_before : Option (List ℕ) → Gap → Option (List ℕ)

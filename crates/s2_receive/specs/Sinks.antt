@@ -9,8 +9,8 @@ use Rattle.s2_receive.specs.declared.report.Fault.{Fault}
 use Rattle.s2_receive.specs.declared.report.Fault.TheVariants as faults
 use Rattle.s2_receive.specs.declared.report.Phase.TheVariants as phases
 use Rattle.s2_receive.specs.declared.report.Received.{Received}
-use Rattle.s2_receive.specs.declared.report.Step.{Step}
-use Rattle.s2_receive.specs.declared.report.Step.TheVariants as steps
+use Rattle.s2_report.specs.declared.report.Step.{Step}
+use Rattle.s2_report.specs.declared.report.Step.TheVariants as steps
 use Rattle.s2_receive.specs.Meeting.{Met, frame, cut, ended, is_gap}
 use Rattle.s2_receive.specs.Receiving.{Rules, Decision, State, Receiver, IsLive, Meets, Reaches, StepAnswers, Processed, BreaksOff, StopsAfter, BreaksAfter, left_in, rules_of, taken}
 use Rattle.s2_receive.specs.Answers.{Seen, NextAnswers, RunAnswers}

@@ -3,12 +3,11 @@ ghost use Rattle.std.specs.Prelude.{◌≡◌, ◌/◌, ◌<◌, ◌≤◌, ◌�
 ghost use Rattle.s2_mode.specs.declared.symbols.Symbol.{Symbol as SymbolValue};
 ghost use Rattle.s2_receive.specs.Receiving.{Decision};
 
-use crate::figures::Figures;
 use crate::frame::Frame;
-use crate::report::Outcome;
 use s2_bbframe::Header;
 use s2_check::Verdict;
 use s2_mode::Symbol;
+use s2_report::{Figures, Outcome};
 
 /// The decision on a frame: the result of a decider.
 #[derive(Clone, Copy)]

@@ -8,12 +8,12 @@
 //! takes them. It returns the next step as soon as all its symbols are there: the first coded frame at or after the end
 //! of the last one, a frame that lacks symbols, or the end. With `resync` a frame may also begin in a lost one. Then the decision ([`Receiver::decider`]) and the packets
 //! that end in the frame ([`Receiver::packets`]) can be read. [`Receiver::next`] reads, advances, writes these packets,
-//! and then writes the step's line (`src/lines.rt`). [`receive_all`] and [`receive_bytes`] take all steps. Only
+//! and then writes the step's line ([`s2_report::line_of`]). [`receive_all`] and [`receive_bytes`] take all steps. Only
 //! [`Receiver::new`] allocates memory.
 //!
-//! Dummy frames are not reported, and packets are joined across them. [`Totals`] count the losses: skipped symbols,
-//! incomplete packets and refused headers. If a decider gives a frame's [`Figures`], its line has them, and the last line
-//! has their [`Sums`]. The steps are a function of the symbols (`specs/Meeting.antt`). The state, the output and the
+//! Dummy frames are not reported, and packets are joined across them. The totals count the losses: skipped symbols,
+//! incomplete packets and refused headers. If a decider gives the figures of a frame, its line has them, and the last line
+//! has their sums (`s2_report`). The steps are a function of the symbols (`specs/Meeting.antt`). The state, the output and the
 //! results are a function of the steps (`specs/Receiving.antt`). [`laws`] states what follows:
 //!
 //! - the search in its own words, also in lost frames that are searched again;
@@ -35,13 +35,11 @@
 #![tactic(auto)]
 
 mod decider;
-mod figures;
 mod frame;
 mod gap;
 mod header_search;
 pub mod laws;
 mod limits;
-mod lines;
 mod output;
 mod packet_buffer;
 mod receiver;
@@ -50,13 +48,13 @@ mod report;
 mod run;
 mod sinks;
 mod synchronizer;
+mod totals;
 mod window;
 
 pub use decider::{Decide, Decided};
-pub use figures::{Correlation, Figures, Sums, Tally};
 pub use frame::Frame;
 pub use limits::MAX_SYMBOLS;
 pub use receiver::Receiver;
-pub use report::{Fault, Outcome, Received, Report, Step, Totals};
+pub use report::{Fault, Received};
 pub use run::{receive_all, receive_bytes, receive_with};
 pub use sinks::Sink;

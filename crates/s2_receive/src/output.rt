@@ -5,18 +5,19 @@ ghost use Rattle.s2_mode.specs.Counts.{CanCount};
 ghost use Rattle.s2_mode.specs.Streams.{NoneFailed, OneFailed};
 ghost use Rattle.s2_receive.specs.Synchronization.{met_of};
 ghost use Rattle.s2_receive.specs.Receiving.{count_of, phase_after, rules_of};
-ghost use Rattle.s2_receive.specs.ReportLines.{step_line};
+ghost use Rattle.s2_report.specs.ReportLines.{step_line};
 ghost use Rattle.s2_receive.specs.ReceiverCore.{CanCountIn, FailsIn, IsSound};
 ghost use Rattle.s2_receive.specs.Answers.{IsSame};
 ghost use Rattle.s2_receive.specs.Output.{HandlesNext, IsFew, answer_for, counted};
 
 use crate::decider::Decide;
-use crate::lines::line_of;
 use crate::packet_buffer::StepCounts;
 use crate::receiver_core::{ReceiverCore, Status};
-use crate::report::{Phase, Report, Step, Totals};
+use crate::report::{Phase, frame_report};
+use crate::totals::{with_cut, with_frame, with_gap};
 use crate::window::Next;
 use s2_mode::{CountedWrite, WriteFault, write_full};
+use s2_report::{Step, Totals, line_of};
 
 /// Writes the packets of a step, and then its line, each with one write if the writer takes it whole.
 pub(crate) fn write_step<P: CountedWrite, W: CountedWrite>(
@@ -46,7 +47,7 @@ impl<D: Decide> ReceiverCore<D> {
         match next {
             Next::Frame { at, skipped: _ } => {
                 let number = self.status.totals.frames + 1;
-                Step::Frame(Report::of(number, at, self.decider.decided()))
+                Step::Frame(frame_report(number, at, self.decider.decided()))
             }
             Next::Cut {
                 at,
@@ -69,9 +70,7 @@ impl<D: Decide> ReceiverCore<D> {
         match next {
             Next::Frame { at: _, skipped } => Status {
                 phase: Phase::Searching,
-                totals: totals
-                    .with_gap(skipped)
-                    .with_frame(counts, self.decider.decided()),
+                totals: with_frame(with_gap(totals, skipped), counts, self.decider.decided()),
             },
             Next::Cut {
                 at: _,
@@ -79,11 +78,11 @@ impl<D: Decide> ReceiverCore<D> {
                 count: _,
             } => Status {
                 phase: Phase::Closing,
-                totals: totals.with_gap(skipped).with_cut(counts.incomplete),
+                totals: with_cut(with_gap(totals, skipped), counts.incomplete),
             },
             Next::End { at: _, skipped } => Status {
                 phase: Phase::Ended,
-                totals: totals.with_gap(skipped.at_end()),
+                totals: with_gap(totals, skipped.at_end()),
             },
         }
     }

@@ -13,11 +13,12 @@ ghost use Rattle.s2_plframe.specs.Turns.{sought_of};
 use crate::decider::Decide;
 use crate::output::write_step;
 use crate::receiver_core::ReceiverCore;
-use crate::report::{Fault, Phase, Step, Totals};
+use crate::report::{Fault, Phase};
 use crate::sinks::{Sink, give_frame};
 use crate::synchronizer::room_for;
 use s2_mode::{CountedRead, CountedWrite, Mode, ReadFault, read_full};
 use s2_plframe::HeaderTolerance;
+use s2_report::{Step, Totals};
 use std::alloc::{AllocError, Global};
 use std::marker::Model;
 

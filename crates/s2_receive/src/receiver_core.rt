@@ -15,11 +15,12 @@ ghost use Rattle.s2_receive.specs.Windows.{found_as};
 use crate::decider::Decide;
 use crate::gap::Gap;
 use crate::packet_buffer::PacketBuffer;
-use crate::report::{Phase, Step, Totals};
+use crate::report::Phase;
 use crate::synchronizer::Synchronizer;
 use crate::window::Next;
 use s2_mode::Mode;
 use s2_plframe::HeaderTolerance;
+use s2_report::{Step, Totals};
 use std::alloc::{AllocError, Global};
 use std::marker::Model;
 

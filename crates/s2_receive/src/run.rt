@@ -9,9 +9,10 @@ ghost use Rattle.s2_receive.specs.Sinks.{OnlyFaultsWith, RunsWith};
 
 use crate::decider::Decide;
 use crate::receiver::Receiver;
-use crate::report::{Outcome, Received, Step, Totals};
+use crate::report::Received;
 use crate::sinks::Sink;
 use s2_mode::{CountedRead, CountedWrite, InMemory, StreamFault, WriteFault};
+use s2_report::{Outcome, Step, Totals};
 
 /// Whether a step is a frame that was delivered with bits that are sole or most likely, or the end.
 fn is_certified_step(step: Step) -> bool

@@ -5,8 +5,8 @@ ghost use Rattle.s2_receive.specs.Receiving.{Decision};
 ghost use Rattle.s2_receive.specs.Sinks.{BothTake, FailsStep, OneFails, TakesStep, WantedFails, WantedTakes, wanted_count};
 
 use crate::frame::Frame;
-use crate::report::Step;
 use s2_mode::WriteFault;
+use s2_report::Step;
 
 /// A sink: it takes each frame that a receiver decided, before its packets and its line are written.
 ///

@@ -18,10 +18,10 @@ use Rattle.s2_receive.proofs.Names.{Found}
 use Rattle.s2_receive.proofs.Names.founds
 use Rattle.s2_receive.proofs.JoinLemmas.{all_joined}
 use Rattle.s2_receive.proofs.SameSymbols.{all_met}
-use Rattle.s2_join.specs.Frames.{delivered_in, event_of, frame_bytes, frames_in, joined_from, packets_in}
-use Rattle.s2_join.proofs.CutLemmas.{IsWhole}
-use Rattle.s2_join.proofs.FrameLemmas.{zeros_are_a_gap}
-use Rattle.s2_join.proofs.LawLemmas.{together}
+use Rattle.s2_records.specs.Frames.{delivered_in, event_of, frame_bytes, frames_in, joined_from, packets_in}
+use Rattle.s2_records.proofs.CutLemmas.{IsWhole}
+use Rattle.s2_records.proofs.FrameLemmas.{zeros_are_a_gap}
+use Rattle.s2_records.proofs.LawLemmas.{together}
 use Rattle.s2_records.specs.Laws.{JoinedLaw, bbframes_of}
 use Rattle.s2_records.specs.Records.{bbframe_bytes, message_bytes, no_bbframe}
 use Rattle.s2_records.proofs.ReadBack.{read_back_lem}

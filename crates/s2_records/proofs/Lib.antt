@@ -1,3 +1,9 @@
+pub mod FrameLemmas
+pub mod CutLemmas
+pub mod Progress
+pub mod ReportLemmas
+pub mod LawLemmas
+pub mod KnownLemmas
 pub mod Blocks
 pub mod Lines
 pub mod Streams

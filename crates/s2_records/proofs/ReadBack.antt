@@ -15,8 +15,8 @@ use Rattle.s2_certfile.proofs.EntryLemmas.{length-listed}
 use Rattle.s2_scramble.specs.Baseband.{scrambled, scrambling_bit}
 use Rattle.s2_receive.specs.Decider.{IsSaidBy}
 use Rattle.s2_receive.specs.Receiving.{delivery}
-use Rattle.s2_join.specs.Frames.{delivered_by, delivered_in}
-use Rattle.s2_join.proofs.FrameLemmas.{accepted_valid, zeros_are_a_gap}
+use Rattle.s2_records.specs.Frames.{delivered_by, delivered_in}
+use Rattle.s2_records.proofs.FrameLemmas.{accepted_valid, zeros_are_a_gap}
 use Rattle.s2_records.specs.Laws.{ReadBackLaw}
 use Rattle.s2_records.specs.Records.{no_bbframe}
 

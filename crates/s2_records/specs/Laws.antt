@@ -11,7 +11,7 @@ use Rattle.s2_receive.specs.Laws.{SpellSymbols}
 use Rattle.s2_receive.specs.Decider.{IsSaidBy}
 use Rattle.s2_receive.specs.Receiving.{Decision, Rules, RunsOut, State, begun}
 use Rattle.s2_receive.specs.Sinks.{TakesFrames, frames_of}
-use Rattle.s2_join.specs.Frames.{delivered_in, packets_in}
+use Rattle.s2_records.specs.Frames.{delivered_in, packets_in}
 use Rattle.s2_records.specs.Values.{values_line}
 use Rattle.s2_records.specs.Records.{Gains, GainsBbframe, Framing, gap_bytes, message_bytes, bbframe_bytes}
 

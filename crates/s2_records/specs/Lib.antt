@@ -1,3 +1,8 @@
+pub mod Limits
+pub mod Frames
+pub mod Counting
+pub mod Joining
+pub mod JoinLaws
 pub mod Values
 pub mod Records
 pub mod Sent

@@ -6,7 +6,7 @@ use Rattle.std.proofs.KnownBytes.{Consumes-nil, Consumes-trans}
 use Rattle.std.proofs.lemmas.Bool.{cases_lt, lt-ltb, le-ltb}
 use Rattle.std.proofs.lemmas.List.{length-take-le, take-append-le, drop-append-le, drop-drop, drop_at, drop-take, take_all}
 use Rattle.std.proofs.Math.Seq.{take-append-add}
-use Rattle.s2_console.specs.declared.fault.Fault.TheVariants as faults
+use Rattle.s2_io.specs.declared.fault.Fault.TheVariants as faults
 use Rattle.s2_scan.specs.Inside.{Fed, Filled}
 use Rattle.s2_scan.specs.Passing.{passes_at, passes_below, positions_in, window_at}
 use Rattle.s2_scan.specs.Pilots.{front_bytes, front_of}

@@ -1,9 +1,9 @@
 -- A command that ran.
 use Rattle.std.proofs.Common.{◌≡◌, ℕ, List, Option, Err, subst}
-use Rattle.s2_console.specs.declared.exit.Exit.{Exit}
-use Rattle.s2_console.specs.declared.fault.Fault.{Fault}
-use Rattle.s2_console.specs.declared.fault.Fault.TheVariants as faults
-use Rattle.s2_console.specs.Exits.{CommandAnswers}
+use Rattle.s2_io.specs.declared.exit.Exit.{Exit}
+use Rattle.s2_io.specs.declared.fault.Fault.{Fault}
+use Rattle.s2_io.specs.declared.fault.Fault.TheVariants as faults
+use Rattle.s2_io.specs.Exits.{CommandAnswers}
 use Rattle.s2_scan.specs.Scanning.{IsRecording, MayFail, SaysScan, SaysSeen}
 use Rattle.s2_scan.specs.declared.passes.Pass.{Pass}
 

@@ -1,7 +1,7 @@
 -- What `scan` prints (own).
 use Rattle.std.specs.Prelude.{ℕ, ◌+◌, ◌-◌, ◌*◌, ◌/◌, ◌%◌, ◌==◌, ◌&&◌, ◌||◌, Bool, true, not, nat_le, nat_lt, max, min, List, [], ◌∷◌, ◌++◌, get_or, drop, Option, None, Some, codes, decimal, if◌then◌else◌}
-use Rattle.s2_console.specs.declared.exit.Exit.{Exit}
-use Rattle.s2_console.specs.declared.exit.Exit.TheVariants as exits
+use Rattle.s2_io.specs.declared.exit.Exit.{Exit}
+use Rattle.s2_io.specs.declared.exit.Exit.TheVariants as exits
 use Rattle.s2_scan.specs.Forms.{is_little, orientation_of}
 use Rattle.s2_scan.specs.Strength.{nothing_text}
 use Rattle.s2_scan.specs.declared.candidate.Candidate.{Candidate}

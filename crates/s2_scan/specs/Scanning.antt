@@ -1,9 +1,9 @@
 -- A recording that is scanned, and what the command does with it (own).
 use Rattle.std.specs.Prelude.{◌≡◌, ℕ, ⊤, ◌+◌, ◌*◌, nat_lt, List, length, Option, IfSome, Result, Ok, Err, if◌then◌else◌}
 use Rattle.s2_mode.specs.Limits.{max_symbols}
-use Rattle.s2_console.specs.declared.exit.Exit.{Exit}
-use Rattle.s2_console.specs.declared.fault.Fault.{Fault}
-use Rattle.s2_console.specs.declared.fault.Fault.TheVariants as faults
+use Rattle.s2_io.specs.declared.exit.Exit.{Exit}
+use Rattle.s2_io.specs.declared.fault.Fault.{Fault}
+use Rattle.s2_io.specs.declared.fault.Fault.TheVariants as faults
 use Rattle.s2_scan.specs.Passing.{all_passes}
 use Rattle.s2_scan.specs.Pilots.{IsNumber, front_of}
 use Rattle.s2_scan.specs.Candidates.{candidates_of}

@@ -1,8 +1,8 @@
 //! `scan`: the contents of a recording.
 ghost use Rattle.std.specs.Prelude.{◌≡◌, ◌≢◌, ◌+◌, Err, IfErr, IfOk, IsOk};
 ghost use Rattle.s2_mode.specs.Counts.{CanCount};
-ghost use Rattle.s2_console.specs.Exits.{CommandRuns, CommandCounts, CommandExits};
-ghost use Rattle.s2_console.specs.Screens.{CanShow};
+ghost use Rattle.s2_io.specs.Exits.{CommandRuns, CommandCounts, CommandExits};
+ghost use Rattle.s2_io.specs.Screens.{CanShow};
 ghost use Rattle.s2_scan.specs.Scanning.{IsRecording, IsScanned, MayFail, SaysScan, SaysSeen};
 
 use crate::number::number_of;
@@ -10,7 +10,7 @@ use crate::passes::Pass;
 use crate::ranking::candidates_of;
 use crate::reading::read_seen;
 use crate::text::{scan_exit, scan_text};
-use s2_console::{Console, Exit, Fault, print};
+use s2_io::{Console, Exit, Fault, print};
 use s2_mode::{CountedRead, CountedWrite};
 use std::alloc::{AllocError, Global};
 

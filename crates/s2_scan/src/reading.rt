@@ -10,7 +10,7 @@ ghost use Rattle.s2_scan.specs.Scanning.{AreSeen, IsOutside, MayFail};
 use crate::codes::{HEADERS, all_headers};
 use crate::passes::Pass;
 use crate::windows::push_block;
-use s2_console::Fault;
+use s2_io::Fault;
 use s2_mode::{CountedRead, read_full};
 use std::alloc::Global;
 

@@ -5,7 +5,7 @@ ghost use Rattle.s2_scan.specs.Scanning.{AreHeadersOf, AreSeen};
 use crate::candidate::Candidate;
 use crate::ranking::candidates_of;
 use crate::reading::{Seen, read_seen};
-use s2_console::Fault;
+use s2_io::Fault;
 use s2_mode::InMemory;
 use std::alloc::Global;
 

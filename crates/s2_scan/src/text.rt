@@ -7,7 +7,7 @@ use crate::candidate::Candidate;
 use crate::lines::push_line;
 use crate::strength::push_nothing;
 use crate::texts::{push, push_number};
-use s2_console::Exit;
+use s2_io::Exit;
 use std::alloc::{AllocError, Global};
 
 /// The lines of candidates.

@@ -3,11 +3,11 @@ use Rattle.std.proofs.Common.{ℕ, List, Option, None, Some, Err, refl}
 use Rattle.std.specs.Prelude.{IfSome}
 use Rattle.s2_mode.specs.Shape.{Shape}
 use Rattle.s2_rows.specs.Rows.{Rows}
-use Rattle.s2_console.specs.declared.exit.Exit.{Exit}
-use Rattle.s2_console.specs.declared.fault.Fault.{Fault}
-use Rattle.s2_console.specs.declared.fault.Fault.TheVariants as faults
-use Rattle.s2_console.specs.Exits.{Follows, CommandAnswers}
-use Rattle.s2_console.proofs.CommandLemmas.{refuses}
+use Rattle.s2_io.specs.declared.exit.Exit.{Exit}
+use Rattle.s2_io.specs.declared.fault.Fault.{Fault}
+use Rattle.s2_io.specs.declared.fault.Fault.TheVariants as faults
+use Rattle.s2_io.specs.Exits.{Follows, CommandAnswers}
+use Rattle.s2_io.proofs.CommandLemmas.{refuses}
 use Rattle.s2_inputs.specs.Inputs.{rows_in}
 use Rattle.s2_table.specs.Tables.{AreRowsIn}
 

@@ -2,10 +2,10 @@
 use Rattle.std.proofs.Common.{◌≡◌, ℕ, ◌≤◌, List, [], ◌∷◌, Option, Err, sym, ◌∙◌, subst, refl, arith}
 use Rattle.std.specs.Io.KnownBytes.{Appends}
 use Rattle.std.proofs.KnownBytes.{Appends-trans}
-use Rattle.s2_console.specs.declared.fault.Fault.{Fault}
-use Rattle.s2_console.specs.Faults.{fault_line}
-use Rattle.s2_console.specs.Notes.{Remarks}
-use Rattle.s2_console.specs.Screens.{Screen}
+use Rattle.s2_io.specs.declared.fault.Fault.{Fault}
+use Rattle.s2_io.specs.Faults.{fault_line}
+use Rattle.s2_io.specs.Notes.{Remarks}
+use Rattle.s2_io.specs.Screens.{Screen}
 
 -- the notes of a fault stand before its line
 pub remarks : (notes : List ℕ) (f : Fault) (old new : Screen) (mid : Option (List ℕ)) (mid_failed : ℕ)

@@ -5,9 +5,9 @@ use Rattle.s2_mode.specs.Mode.{Mode}
 use Rattle.s2_mode.specs.Shape.{Shape}
 use Rattle.s2_rows.specs.Rows.{Rows}
 use Rattle.s2_names.specs.Names.{mode_words}
-use Rattle.s2_console.specs.declared.exit.Exit.{Exit}
-use Rattle.s2_console.specs.declared.exit.Exit.TheVariants as exits
-use Rattle.s2_console.specs.declared.fault.Fault.{Fault}
+use Rattle.s2_io.specs.declared.exit.Exit.{Exit}
+use Rattle.s2_io.specs.declared.exit.Exit.TheVariants as exits
+use Rattle.s2_io.specs.declared.fault.Fault.{Fault}
 use Rattle.s2_inputs.specs.Inputs.{rows_in}
 use Rattle.s2_table.specs.Rising.{HasSum}
 use Rattle.s2_table.specs.RowSums.{standard_row_sums, FirstOther}

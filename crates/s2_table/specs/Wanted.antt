@@ -3,12 +3,12 @@ use Rattle.std.specs.Prelude.{◌≡◌, ℕ, Bool, if◌then◌else◌, Option,
 use Rattle.s2_mode.specs.Mode.{Mode, shape_in}
 use Rattle.s2_mode.specs.Shape.{Shape, check_count}
 use Rattle.s2_names.specs.Names.{mode_words}
-use Rattle.s2_console.specs.declared.exit.Exit.{Exit}
-use Rattle.s2_console.specs.declared.fault.Fault.{Fault}
-use Rattle.s2_console.specs.declared.fault.Fault.TheVariants as faults
-use Rattle.s2_console.specs.Exits.{exit_of, CommandRuns, CommandCounts}
-use Rattle.s2_console.specs.Notes.{Remarks}
-use Rattle.s2_console.specs.Screens.{Screen}
+use Rattle.s2_io.specs.declared.exit.Exit.{Exit}
+use Rattle.s2_io.specs.declared.fault.Fault.{Fault}
+use Rattle.s2_io.specs.declared.fault.Fault.TheVariants as faults
+use Rattle.s2_io.specs.Exits.{exit_of, CommandRuns, CommandCounts}
+use Rattle.s2_io.specs.Notes.{Remarks}
+use Rattle.s2_io.specs.Screens.{Screen}
 use Rattle.s2_table.specs.Tables.{AreRowsIn, SaysStandard}
 
 -- the number of rows, and the limit of their addresses

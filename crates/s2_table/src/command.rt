@@ -2,16 +2,16 @@
 ghost use Rattle.std.specs.Prelude.{◌≡◌, ◌≢◌, ◌+◌, false, Result, Err, IsOk};
 ghost use Rattle.s2_mode.specs.Counts.{CanCount};
 ghost use Rattle.s2_mode.specs.Mode.{shape_in};
-ghost use Rattle.s2_console.specs.Exits.{CommandAnswers, CommandRuns, CommandCounts};
-ghost use Rattle.s2_console.specs.Screens.{CanNote};
+ghost use Rattle.s2_io.specs.Exits.{CommandAnswers, CommandRuns, CommandCounts};
+ghost use Rattle.s2_io.specs.Screens.{CanNote};
 ghost use Rattle.s2_table.specs.Wanted.{TableExits};
 ghost use Rattle.s2_table.specs.Tables.{AreRowsIn, SaysStandard, answer_line, answer_exit};
 
 use crate::first::first_other_row;
 use crate::standard::is_standard;
 use crate::wanted::finish_noted;
-use s2_console::{Console, Exit, Fault, Line, Printed};
 use s2_inputs::read_matrix;
+use s2_io::{Console, Exit, Fault, Line, Printed};
 use s2_matrix::Matrix;
 use s2_mode::{CountedRead, CountedWrite, Mode};
 use std::alloc::Global;

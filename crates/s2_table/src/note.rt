@@ -3,14 +3,14 @@ ghost use Rattle.std.specs.Prelude.{◌≡◌, ◌≢◌, ◌+◌, ◌≤◌, �
 ghost use Rattle.std.specs.Io.KnownBytes.{Appends};
 ghost use Rattle.s2_mode.specs.Counts.{CanCount, CountsFault};
 ghost use Rattle.s2_mode.specs.Mode.{shape_in};
-ghost use Rattle.s2_console.specs.Exits.{Follows};
+ghost use Rattle.s2_io.specs.Exits.{Follows};
 ghost use Rattle.s2_inputs.specs.Inputs.{rows_in};
 ghost use Rattle.s2_names.specs.Names.{mode_words};
 ghost use Rattle.s2_table.specs.Tables.{note_line, Notes, IsNoted, NotesRows};
 
 use crate::standard::is_standard;
-use s2_console::Fault;
 use s2_inputs::read_matrix;
+use s2_io::Fault;
 use s2_matrix::Matrix;
 use s2_mode::{CountedRead, CountedWrite, Mode, WriteFault, write_full};
 use s2_names::write_code;

@@ -3,12 +3,12 @@ ghost use Rattle.std.specs.Prelude.{◌≡◌, ◌≢◌, ◌≤◌, ◌+◌, []
 ghost use Rattle.std.specs.Io.KnownBytes.{Appends};
 ghost use Rattle.s2_mode.specs.Counts.{CanCount, CountsFault};
 ghost use Rattle.s2_mode.specs.Mode.{shape_in};
-ghost use Rattle.s2_console.specs.Exits.{exit_of};
-ghost use Rattle.s2_console.specs.Notes.{Remarks};
+ghost use Rattle.s2_io.specs.Exits.{exit_of};
+ghost use Rattle.s2_io.specs.Notes.{Remarks};
 ghost use Rattle.s2_table.specs.Wanted.{wanted_end, wanted_note, fault_note, notes_on};
 
 use crate::note::write_note;
-use s2_console::{Console, Exit, Fault, Line};
+use s2_io::{Console, Exit, Fault, Line};
 use s2_mode::{CountedWrite, Mode, WriteFault};
 
 /// The end of the note: the number of rows, and the limit of their addresses.

@@ -6,9 +6,9 @@ mod options;
 mod serve;
 
 use crate::serve::{every_of, print_usage, request_of, run_request, words_given};
+use s2_io::Terminal;
 use s2_notes::{errors_of, takes_output};
 use s2_opening::screen_beside;
-use s2_progress::Terminal;
 use std::process::ExitCode;
 
 fn main(rt: HostRuntime) -> ExitCode {

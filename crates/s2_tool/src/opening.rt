@@ -2,7 +2,7 @@
 ghost use Rattle.std.specs.Prelude.{◌≡◌, ◌≤◌, false, IfOk, IfSome, OnOk};
 ghost use Rattle.s2_judging.specs.Files.{CanJudge};
 
-use s2_files::Destination;
+use s2_io::Destination;
 use s2_judging::JudgeFiles;
 use s2_opening::{Opens, Unserved};
 use s2_words::JudgeArguments;

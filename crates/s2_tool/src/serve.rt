@@ -1,7 +1,7 @@
 //! Runs the request of the command line. This is plain code: each command has its own contract.
 ghost use Rattle.std.specs.Prelude.{◌≡◌, OnErr};
 ghost use Rattle.s2_mode.specs.Counts.{CanCount};
-ghost use Rattle.s2_console.specs.Screens.{CanNote};
+ghost use Rattle.s2_io.specs.Screens.{CanNote};
 ghost use Rattle.s2_judging.specs.Files.{CanJudge};
 
 use crate::opening::open_judge;
@@ -12,10 +12,8 @@ use crate::options::{
 use s2_audit::audit_command;
 use s2_commands::{noise_command, rows_command};
 use s2_compare::compare_command;
-use s2_console::{Console, Exit, Fault};
 use s2_evidence::{check_command, check_each_command};
-use s2_files::{Disk, Output};
-use s2_join::join_command;
+use s2_io::{Console, Disk, Exit, Fault, Output, Pace, Terminal};
 use s2_judging::{JudgeFiles, judge_command, judge_each_command, self_command};
 use s2_link_commands::{LinkRequest, setup_of, with_link};
 use s2_mode::{CountedRead, CountedWrite, FaultText, Mode, Shape};
@@ -25,7 +23,7 @@ use s2_opening::{
     FileOpener, Finishes, Opens, Unserved, open_audit, open_compare, open_inputs, open_join,
     open_noise, open_scan, screen_beside, show_on, standard_input,
 };
-use s2_progress::{Pace, Terminal};
+use s2_records::join_command;
 use s2_scan::scan_command;
 use s2_table::table_command;
 use s2_tuning::Tuning;

@@ -121,20 +121,14 @@ impl Tuning {
     pub fn with_divisor(self, divisor: Divisor) -> Tuning
         ensures { result ≡ record self { divisor = divisor } }
     {
-        Tuning {
-            divisor,
-            ..self
-        }
+        Tuning { divisor, ..self }
     }
 
     /// The same, but with this factor.
     pub fn with_factor(self, factor: Factor) -> Tuning
         ensures { result ≡ record self { factor = factor } }
     {
-        Tuning {
-            factor,
-            ..self
-        }
+        Tuning { factor, ..self }
     }
 
     /// The same, but with this limit of wrong header bits.

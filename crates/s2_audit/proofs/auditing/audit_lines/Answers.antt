@@ -1,5 +1,5 @@
 use Rattle.std.proofs.Common.{◌≡◌, None, Ok, Err, rules, arith, ap, ◌∙◌, inl, inr}
-use Rattle.s2_console.specs.declared.fault.Fault.TheVariants as faults
+use Rattle.s2_io.specs.declared.fault.Fault.TheVariants as faults
 use Rattle.s2_audit.specs.Auditing.{last_of}
 use Rattle.s2_audit.specs.Outcomes.{standing}
 use Rattle.s2_audit.proofs.AuditLemmas.{begins, ends_by, few_counts, goes_on_by, not_failed, reaches, stops_there}

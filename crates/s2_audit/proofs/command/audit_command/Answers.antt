@@ -1,5 +1,5 @@
 use Rattle.std.proofs.Common.{None, sym, ap}
-use Rattle.s2_console.specs.Screens.{Screen, screen_of}
+use Rattle.s2_io.specs.Screens.{Screen, screen_of}
 use Rattle.s2_link.specs.Link.{setup_of}
 use Rattle.s2_audit.specs.Commands.{files_by}
 use Rattle.s2_audit.proofs.CommandLemmas.{ran}

@@ -4,7 +4,7 @@ use Rattle.s2_rows.specs.Rows.{Rows}
 use Rattle.s2_rows.specs.RowFiles as row_files
 use Rattle.s2_certfile.specs.File.{File}
 use Rattle.s2_certfile.specs.Format.{file_of_bytes}
-use Rattle.s2_console.proofs.CommandLemmas.{refuses}
+use Rattle.s2_io.proofs.CommandLemmas.{refuses}
 use Rattle.s2_inputs.specs.Inputs.{rows_said}
 use Rattle.s2_evidence.specs.Checking.{certificate_said, with_rows, beside, ArePartsIn, IsAnswered}
 use Rattle.s2_evidence.proofs.InputLemmas.{parts_of}

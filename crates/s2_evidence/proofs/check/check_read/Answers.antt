@@ -1,6 +1,6 @@
 use Rattle.std.proofs.Common.{ℕ, List, subst}
 use Rattle.std.proofs.lemmas.Result.{err_from_is_err_and}
-use Rattle.s2_console.specs.Exits.{CommandAnswers}
+use Rattle.s2_io.specs.Exits.{CommandAnswers}
 use Rattle.s2_evidence.specs.Checking.{ArePartsIn, IsAnswered}
 use Rattle.s2_evidence.proofs.InputLemmas.{answers_on_files, rows_unread, certificate_unread}
 use Rattle.s2_evidence.proofs.check.check_read.Goals as goal

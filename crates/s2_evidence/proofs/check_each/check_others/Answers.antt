@@ -1,6 +1,6 @@
 use Rattle.std.proofs.Common.{◌≡◌, ℕ, ◌+◌, List, [], ◌∷◌, ◌++◌, length, Option, Ok, inr, refl, subst, sym, ap, ◌∙◌, length-append, rules, arith}
 use Rattle.std.proofs.lemmas.Result.{err_from_is_err_and}
-use Rattle.s2_console.specs.declared.exit.Exit.{Exit}
+use Rattle.s2_io.specs.declared.exit.Exit.{Exit}
 use Rattle.s2_evidence.specs.CheckingEach.{AnsweredSoFar, ChecksEach, AnswersNext}
 use Rattle.s2_evidence.proofs.CheckEachLemmas.{next_stops, ends_as, stops_full, grows_as}
 use Rattle.s2_evidence.proofs.check_each.check_others.Goals as goal

@@ -3,8 +3,8 @@ use Rattle.std.proofs.lemmas.Result.{err_from_is_err_and}
 use Rattle.std.specs.Prelude.{codes}
 use Rattle.s2_mode.specs.Shape.{shape_of}
 use Rattle.s2_rows.specs.Rows.{Rows}
-use Rattle.s2_console.specs.declared.fault.Fault.{Fault}
-use Rattle.s2_console.proofs.CommandLemmas.{refused, printed}
+use Rattle.s2_io.specs.declared.fault.Fault.{Fault}
+use Rattle.s2_io.proofs.CommandLemmas.{refused, printed}
 use Rattle.s2_judging.specs.Inputs.{AreInputs}
 use Rattle.s2_judging.specs.Judging.{IsOwn}
 use Rattle.s2_judging.proofs.DemoLemmas.{at_rows}

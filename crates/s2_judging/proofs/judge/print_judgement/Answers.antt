@@ -5,11 +5,11 @@ use Rattle.std.specs.List.{list_all}
 use Rattle.s2_rows.specs.Rows.{Rows}
 use Rattle.s2_judging.specs.declared.hard_note.Ran.{Ran}
 use Rattle.s2_judging.specs.declared.reading.Judged.{Judged}
-use Rattle.s2_console.specs.Exits.{Follows, CommandRuns, CommandCounts}
-use Rattle.s2_console.specs.declared.exit.Exit.{Exit}
-use Rattle.s2_console.specs.declared.fault.Fault.{Fault}
-use Rattle.s2_console.specs.declared.fault.Fault.TheVariants as faults
-use Rattle.s2_console.proofs.CommandLemmas.{refused, runs_moved}
+use Rattle.s2_io.specs.Exits.{Follows, CommandRuns, CommandCounts}
+use Rattle.s2_io.specs.declared.exit.Exit.{Exit}
+use Rattle.s2_io.specs.declared.fault.Fault.{Fault}
+use Rattle.s2_io.specs.declared.fault.Fault.TheVariants as faults
+use Rattle.s2_io.proofs.CommandLemmas.{refused, runs_moved}
 use Rattle.s2_judging.specs.Files.{JudgeFiles, written}
 use Rattle.s2_judging.specs.HardNotes.{is_bit}
 use Rattle.s2_judging.specs.Inputs.{inputs_by, AreInputsBy, IsOnly}

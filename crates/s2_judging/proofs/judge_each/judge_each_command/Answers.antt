@@ -1,5 +1,5 @@
 use Rattle.std.proofs.Common.{ℕ, ◌+◌, List, Option, sym, refl, subst}
-use Rattle.s2_console.specs.Exits.{CommandCounts}
+use Rattle.s2_io.specs.Exits.{CommandCounts}
 use Rattle.s2_judging.specs.HardNotes.{exit_in}
 use Rattle.s2_judging.specs.JudgingEach.{JudgesEach}
 use Rattle.s2_judging.proofs.NoteLemmas.{concludes_from}

@@ -1,7 +1,7 @@
 use Rattle.std.proofs.Common.{ℕ, List, refl, subst}
 use Rattle.std.proofs.lemmas.Result.{err_from_is_err_and}
-use Rattle.s2_console.specs.Exits.{Prints}
-use Rattle.s2_console.proofs.CommandLemmas.{printed_text, refused}
+use Rattle.s2_io.specs.Exits.{Prints}
+use Rattle.s2_io.proofs.CommandLemmas.{printed_text, refused}
 use Rattle.s2_scan.specs.Scanning.{IsRecording, SaysScan}
 use Rattle.s2_scan.proofs.Runs.{may_answer}
 use Rattle.s2_scan.proofs.command.print_scan.Goals as goal

@@ -4,7 +4,7 @@ use Rattle.std.proofs.lemmas.Result.{err_from_is_err_and}
 use Rattle.s2_mode.specs.Mode.{shape_in}
 use Rattle.s2_mode.specs.Shape.{Shape}
 use Rattle.s2_rows.specs.Rows.{Rows}
-use Rattle.s2_console.specs.Exits.{Follows}
+use Rattle.s2_io.specs.Exits.{Follows}
 use Rattle.s2_inputs.specs.Inputs.{rows_in}
 use Rattle.s2_table.specs.Tables.{SaysStandard}
 use Rattle.s2_table.proofs.TableLemmas.{refused_rows}

@@ -1,4 +1,0 @@
-pub mod Header
-pub mod Errors
-pub mod Correlation
-pub mod Figures

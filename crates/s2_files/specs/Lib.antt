@@ -1,3 +1,0 @@
-pub mod Known
-pub mod Lending
-pub mod Uses

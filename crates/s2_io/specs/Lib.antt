@@ -1,0 +1,9 @@
+pub mod Exits
+pub mod Faults
+pub mod Files
+pub mod Known
+pub mod Lending
+pub mod Lines
+pub mod Notes
+pub mod Screens
+pub mod Uses

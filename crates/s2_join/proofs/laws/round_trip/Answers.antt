@@ -1,5 +1,0 @@
-use Rattle.s2_join.proofs.LawLemmas.{round_trip}
-use Rattle.s2_join.proofs.laws.round_trip.Goals as goal
-
-pub returns : goal.returns
-returns c = round_trip

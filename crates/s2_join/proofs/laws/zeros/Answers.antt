@@ -1,5 +1,0 @@
-use Rattle.s2_join.proofs.FrameLemmas.{zeros_are_a_gap}
-use Rattle.s2_join.proofs.laws.zeros.Goals as goal
-
-pub returns : goal.returns
-returns c = zeros_are_a_gap

@@ -1,5 +1,0 @@
-pub mod Limits
-pub mod Frames
-pub mod Counting
-pub mod Joining
-pub mod Laws

@@ -1,0 +1,5 @@
+mod EntryLemmas
+mod LineLemmas
+mod NumberLemmas
+pub mod ReadBack
+mod Rooms

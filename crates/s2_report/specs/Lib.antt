@@ -1,0 +1,5 @@
+pub mod Limits
+pub mod Figures
+pub mod ReportLines
+pub mod Entries
+pub mod Reading

@@ -1,0 +1,35 @@
+//! A receiver's report: its figures, the lines that a receiver writes of them, and the reading of these lines.
+//!
+//! A report has a line for each [`Step`] of a receiver: a frame ([`Report`]), a frame that is cut, and the end, with the
+//! [`Totals`]. A frame can have [`Figures`] of the link, and the end has their [`Sums`]. [`line_of`] returns the line of a
+//! step: its words are in `specs/ReportLines.antt`. [`end_line`] and [`cut_bytes_line`] are the lines of `join`, which has a
+//! file of frames and no symbols.
+//!
+//! [`next_entry`] reads a report line by line, in the memory of one line. An [`Entry`] of a frame has its number, the symbol
+//! at which it begins, and its verdict; the rest of its line is not read. A line that [`line_of`] writes of a step is read as
+//! the entry of this step (its clause `read_back`).
+//!
+//! ```text
+//! write_full(&mut report, line_of(step, totals).as_bytes())?;
+//! // elsewhere
+//! while let Some(entry) = next_entry(&mut report, number)? { .. }
+//! ```
+#![tactic(auto)]
+
+mod entry;
+mod figures;
+pub mod laws;
+mod limits;
+mod lines;
+mod number;
+mod reading;
+mod report;
+mod totals;
+
+pub use entry::{Entry, Frame, read_entry};
+pub use figures::{Correlation, Figures, Sums, Tally, sums_after};
+pub use limits::MAX_LINE_BYTES;
+pub use lines::{cut_bytes_line, end_line, line_of};
+pub use reading::{next_entry, read_byte};
+pub use report::{Outcome, Report, Step};
+pub use totals::Totals;
