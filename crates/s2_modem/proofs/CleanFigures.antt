@@ -1,5 +1,5 @@
 -- The figures of a frame without noise: nothing is wrong.
-use Rattle.s2_modem.proofs.Names.{◌≡◌, ℕ, zero, suc, ◌+◌, ◌*◌, ◌%◌, ◌==◌, ◌<◌, Bool, true, false, cond, List, [], ◌∷◌, length, take, map, range_with_len, Option, Some, None, refl, sym, ap, ap₂, subst, ◌∙◌, arith, ints, ℤ, pos, neg_ℤ, length-take, length-map-range_with_len, get_or-map-range_with_len, ext_get_or, sum_by-cons, Mode, IsMode, HasCodeSizes, n_of, symbols_in, Symbol, symbol, symbol_at, symbols_least, decision, differences, IsCodeword, code_of, hard_decision, View, header_bit, header_point, header_symbol, frame_symbol, frame_symbols, payload_of, IsDivisor, Link, Tuning, IsLinkOf, Decided, decided, rounds_run, clean_lem, codeword_satisfied, rounds_hard, Figures, squared_distance, error_at, known_places, payload_places, sent_frame, figures_of, symbol_energy, energy_of, header_errors, frame_soft, figures_by, frame_decision, sent_symbols, clean_energy, clean_figures, clean_figures_by, decided_symbols, upright_symbols, frame_turn, received_payload, soft_values}
+use Rattle.s2_modem.proofs.Names.{◌≡◌, ℕ, zero, suc, ◌+◌, ◌*◌, ◌%◌, ◌==◌, ◌<◌, Bool, true, false, cond, List, [], ◌∷◌, length, take, map, range_with_len, Some, None, refl, sym, ap, ap₂, subst, ◌∙◌, arith, ints, ℤ, pos, neg_ℤ, length-take, length-map-range_with_len, get_or-map-range_with_len, ext_get_or, sum_by-cons, Mode, IsMode, HasCodeSizes, n_of, symbols_in, Symbol, symbol, symbol_at, symbols_least, decision, differences, IsCodeword, code_of, hard_decision, header_bit, header_symbol, frame_symbol, frame_symbols, payload_of, IsDivisor, Link, Tuning, IsLinkOf, Decided, decided, rounds_run, clean_lem, codeword_satisfied, rounds_hard, Figures, squared_distance, error_at, known_places, payload_places, sent_frame, figures_of, symbol_energy, energy_of, header_errors, frame_soft, frame_decision, sent_symbols, clean_energy, clean_figures, clean_figures_by, decided_symbols, upright_symbols, received_payload, soft_values}
 use Rattle.std.specs.Prelude.{negsuc, ◌+ℤ◌, ◌-ℤ◌, ◌*ℤ◌, unsigned_abs}
 use lib.IntN.{pos-*ℤ-pos, negsuc-*ℤ-negsuc, *ℤ_comm}
 use Rattle.std.specs.List.{sum_by}

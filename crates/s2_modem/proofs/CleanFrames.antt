@@ -1,5 +1,5 @@
 -- A frame without noise is delivered, certified, with nothing changed.
-use Rattle.s2_modem.proofs.Names.{ap₂, xor_same, number, or_right, ◌≡◌, ℕ, zero, suc, ◌+◌, ◌-◌, ◌*◌, ◌/◌, ◌%◌, ◌<◌, ◌≤◌, Bool, true, false, List, [], ◌∷◌, ◌++◌, length, take, drop, map, get_or, Option, Some, None, Result, Ok, Err, refl, sym, ap, subst, ◌∙◌, arith, length-append, length-take, length-take-le, length-drop, ℤ, pos, int_lt, le-leb, eq-eqb, length-map, ext_get_or, get_or-take, get_or-drop, take_at, drop_at, take_all, fill_by_all, length-map-range_with_len, All-head, All-tail, All-append, All-from_recursion, Mode, IsMode, HasCodeSizes, k_of, kbch_of, n_of, t_of, slots_of, symbols_in, Symbol, symbols_least, Rows, bit_at, bits_of_byte, bits_of_bytes, byte_at, byte_of, bytes_from, differences, byte_back, code_of, IsCodeword, hard_decision, NoneIsZero, is_certified, IsSole, HeaderFault, Decision, header_bytes, has_valid_lengths, header_of_bytes, signalling, header_at, to_place, field_bytes, header_of_bytes-header_bytes, divided, scrambled, scrambled-scrambled, IsWithin, nearest, within_is_nearest, nearest_is_within, no_nearest, payload_symbol, payload_of, frame_symbol, frame_symbols, decision, found, clean_behind, IsDivisor, soft_bit, soft_values, DecidesTo, clean_says, payload_again, clean_passes, IsCleanFrame, IsReceived, Link, padded_bits, baseband_frame, IsCodewordFor, found_as, Decided, decided, IsShown, Tuning, frame_soft, received_word, message_of, header_in, field_in, outcome_by, delivered_by, decision_by, frame_decision, AllAsLikely, TrueReports, IsCertifiedBy, IsCorrected, IsSaidBy, link_rules, IsLinkOf, IsByte, AreBytes, sent_symbols, IsDelivered, IsDeliveredCertified, ReceivesAllLaw, ScatteredFrameLaw, BothCodesLaw, IsSent, IsMostLikely, received_payload, Sole, clean_lem, certified_lem, likely_lem, sole_lem, scattered_lem, decided_long, length-baseband_frame, length-bch_word, symbol, Header, count_of, cond, is_delivered, Figures, Outcome, Delivered, NoWord, BadHeader, figures_by, measured, energy_of, decided_symbols, upright_symbols, equalized, sent_back, frame_turn, sought_by, CameWithoutNoise, rotated, inl, inr, IsTurnedFrame, turned_frame_is, straight_is, frame_rotates, found_in, behind_in, sides, sought_of, derotated, turn_of, found_behind, map-id, AllRotateBack, if◌then◌else◌}
+use Rattle.s2_modem.proofs.Names.{ap₂, xor_same, number, or_right, ◌≡◌, ℕ, zero, suc, ◌+◌, ◌-◌, ◌*◌, ◌/◌, ◌%◌, ◌<◌, ◌≤◌, Bool, true, false, List, [], ◌∷◌, ◌++◌, length, take, drop, map, get_or, Option, Some, None, Result, Ok, Err, refl, sym, ap, subst, ◌∙◌, arith, length-append, length-take, length-take-le, length-drop, ℤ, pos, int_lt, le-leb, eq-eqb, length-map, ext_get_or, get_or-take, get_or-drop, take_at, drop_at, take_all, fill_by_all, length-map-range_with_len, All-head, All-tail, All-append, All-from_recursion, Mode, IsMode, HasCodeSizes, k_of, kbch_of, n_of, t_of, slots_of, symbols_in, Symbol, symbols_least, Rows, bit_at, bits_of_byte, bits_of_bytes, byte_at, byte_of, bytes_from, differences, byte_back, code_of, IsCodeword, hard_decision, NoneIsZero, is_certified, IsSole, HeaderFault, Decision, header_bytes, has_valid_lengths, header_of_bytes, signalling, header_at, to_place, field_bytes, header_of_bytes-header_bytes, divided, scrambled, scrambled-scrambled, IsWithin, nearest, within_is_nearest, nearest_is_within, no_nearest, payload_symbol, payload_of, frame_symbol, frame_symbols, found, clean_behind, IsDivisor, soft_bit, soft_values, DecidesTo, clean_says, payload_again, clean_passes, IsCleanFrame, IsReceived, Link, padded_bits, baseband_frame, IsCodewordFor, found_as, Decided, decided, IsShown, Tuning, frame_soft, received_word, message_of, header_in, field_in, outcome_by, delivered_by, decision_by, frame_decision, AllAsLikely, TrueReports, IsCertifiedBy, IsCorrected, IsSaidBy, link_rules, IsLinkOf, IsByte, AreBytes, sent_symbols, IsDelivered, IsDeliveredCertified, ReceivesAllLaw, ScatteredFrameLaw, BothCodesLaw, IsSent, IsMostLikely, received_payload, Sole, clean_lem, certified_lem, likely_lem, sole_lem, scattered_lem, decided_long, length-baseband_frame, length-bch_word, symbol, Header, count_of, cond, is_delivered, Figures, Outcome, Delivered, NoWord, BadHeader, figures_by, measured, energy_of, decided_symbols, upright_symbols, equalized, sent_back, frame_turn, sought_by, CameWithoutNoise, rotated, inl, inr, IsTurnedFrame, turned_frame_is, straight_is, frame_rotates, sought_of, derotated, turn_of, found_behind, map-id, AllRotateBack, if◌then◌else◌}
 use Rattle.s2_modem.proofs.Names.founds
 use Rattle.s2_modem.proofs.DecisionLemmas.{code_is, message_fits}
 use Rattle.s2_modem.proofs.Dummies.{dummy_is}

@@ -1,5 +1,5 @@
 -- The dummy frames of a link are found.
-use Rattle.s2_modem.proofs.Names.{◌≡◌, ℕ, ◌+◌, ◌<◌, true, false, length, take, map, pos, refl, ap, ◌∙◌, arith, length-take-le, lt-ltb, get_or-take, fill_by_all, get_or-map-range_with_len, length-map-range_with_len, Mode, IsMode, symbol, header_symbol, dummy_mode, range_with_len, dummy_symbol, dummy_frame, decision, found, found_behind, dummy_found, dummy_behind, IsDummy, found_as, sym, Bool, sides, sought_of, found_in, behind_in, straight_is, turned_dummy_is, map-id}
+use Rattle.s2_modem.proofs.Names.{◌≡◌, ℕ, ◌+◌, ◌<◌, true, false, length, take, map, pos, refl, ap, ◌∙◌, arith, length-take-le, lt-ltb, get_or-take, fill_by_all, get_or-map-range_with_len, length-map-range_with_len, Mode, IsMode, symbol, header_symbol, dummy_mode, range_with_len, dummy_symbol, dummy_frame, found, found_behind, dummy_found, dummy_behind, IsDummy, found_as, sym, Bool, sides, sought_of, found_in, behind_in, straight_is, turned_dummy_is, map-id}
 use Rattle.s2_plframe.specs.Header.{header_of}
 
 length_dummy : (number : ℕ) → length (dummy_frame number) ≡ 3330

@@ -1,5 +1,5 @@
 -- The points of a payload are far below what the equalizer can give back.
-use Rattle.s2_modem.proofs.Names.{cond_both, ◌≡◌, ℕ, zero, suc, ◌*◌, ◌≤◌, Bool, true, List, [], ◌∷◌, ℤ, pos, negsuc, refl, map, get_or, arith, nat_le, All, range_with_len, leb-true, ints, All-head, All-tail, All-from_recursion, All-map, Mode, is_qpsk, slots_of, symbol_at, symbol, Symbol, points, qpsk_points, psk_points, payload_of, payload_symbol, IsModerate}
+use Rattle.s2_modem.proofs.Names.{cond_both, ◌≡◌, ℕ, zero, suc, ◌*◌, ◌≤◌, Bool, true, List, [], ◌∷◌, ℤ, pos, negsuc, refl, arith, nat_le, All, range_with_len, leb-true, ints, All-head, All-tail, All-from_recursion, All-map, Mode, is_qpsk, slots_of, symbol_at, symbol, Symbol, points, qpsk_points, psk_points, payload_of, payload_symbol, IsModerate}
 use Rattle.std.proofs.Common.{unsigned_abs}
 
 abbrev is_low : ℤ → Bool

@@ -43,14 +43,9 @@
 //! ```
 #![tactic(auto)]
 
-mod corrector;
 mod decider;
 mod demodulation;
-mod demodulator;
-mod derotator;
-mod figures;
 pub mod laws;
-mod message;
 mod receiver;
 
 pub use demodulation::{DemodFault, demodulate};

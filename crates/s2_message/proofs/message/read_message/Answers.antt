@@ -1,7 +1,12 @@
-use Rattle.s2_modem.proofs.Names.{rules, take_all, ◌≡◌, ◌/◌, true, length, take, sym, ap, ◌∙◌, arith, kbch_of, bytes_from, scrambled, header_of_bytes, has_valid_lengths, message_of, header_in}
-use Rattle.s2_modem.proofs.DecisionLemmas.{frame_read, accepted_valid, field_fits}
-use Rattle.s2_modem.proofs.message.read_message.Goals as goal
-use Rattle.s2_modem.proofs.message.read_message.Goals.{After-read, In-Ok}
+use Rattle.std.proofs.Common.{rules, take_all, ◌≡◌, ◌/◌, true, length, take, sym, ap, ◌∙◌, arith}
+use Rattle.s2_mode.specs.Mode.{kbch_of}
+use Rattle.s2_bits.specs.Bits.{bytes_from}
+use Rattle.s2_bbframe.specs.Headers.{has_valid_lengths, header_of_bytes}
+use Rattle.s2_scramble.specs.Baseband.{scrambled}
+use Rattle.s2_message.specs.Decisions.{header_in, message_of}
+use Rattle.s2_message.proofs.MessageLemmas.{accepted_valid, field_fits, frame_read}
+use Rattle.s2_message.proofs.message.read_message.Goals as goal
+use Rattle.s2_message.proofs.message.read_message.Goals.{After-read, In-Ok}
 
 frame_is : (c : After-read) → c.bb_xor_in_place.new.bits ≡ scrambled (message_of c.args.mode c.args.bch_word.now)
 frame_is c =

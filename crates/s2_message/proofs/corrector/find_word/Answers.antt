@@ -1,6 +1,9 @@
-use Rattle.s2_modem.proofs.Names.{rules, ◌≡◌, length, k_of, received_word, FindsWord}
-use Rattle.s2_modem.proofs.DecisionLemmas.{finds_word}
-use Rattle.s2_modem.proofs.corrector.find_word.Goals as goal
+use Rattle.std.proofs.Common.{rules, ◌≡◌, length}
+use Rattle.s2_mode.specs.Mode.{k_of}
+use Rattle.s2_message.specs.Decisions.{received_word}
+use Rattle.s2_message.specs.Reading.{FindsWord}
+use Rattle.s2_message.proofs.MessageLemmas.{finds_word}
+use Rattle.s2_message.proofs.corrector.find_word.Goals as goal
 
 pub returns : goal.returns
 returns c =

@@ -6,8 +6,8 @@ ghost use Rattle.s2_bbframe.specs.DataStream.{field_bytes};
 ghost use Rattle.s2_bbframe.specs.Headers.{header_of_bytes, has_valid_lengths};
 ghost use Rattle.s2_scramble.specs.Baseband.{scrambled};
 ghost use Rattle.s2_receive.specs.Decider.{delivered_of, HasPlace};
-ghost use Rattle.s2_modem.specs.Reports.{message_of, header_in, field_in};
-ghost use Rattle.s2_modem.specs.DeciderState.{Reads};
+ghost use Rattle.s2_message.specs.Decisions.{message_of, header_in, field_in};
+ghost use Rattle.s2_message.specs.Reading.{Reads};
 
 use s2_bbframe::{Header, HeaderFault, field_bytes};
 use s2_bits::{Bits, bytes_from};
@@ -98,7 +98,7 @@ impl Model for MessageReader {
     ghost use Rattle.std.specs.Prelude.{◌≡◌, ◌≤◌, length, take};
     ghost use Rattle.s2_mode.specs.Mode.{kbch_of};
     ghost use Rattle.s2_bbframe.specs.DataStream.{field_bytes};
-    ghost use Rattle.s2_modem.specs.DeciderState.{Reading};
+    ghost use Rattle.s2_message.specs.Reading.{Reading};
 
     ghost Value = { Reading };
 

@@ -1,8 +1,8 @@
 //! From decided bits to a BCH word: decoding of EN 302 307-1, 5.3.1.
 ghost use Rattle.std.specs.Prelude.{◌≡◌, ◌≤◌, length, replicate, false, IfOk};
 ghost use Rattle.s2_mode.specs.Mode.{k_of};
-ghost use Rattle.s2_modem.specs.Reports.{received_word};
-ghost use Rattle.s2_modem.specs.DeciderState.{FindsWord};
+ghost use Rattle.s2_message.specs.Decisions.{received_word};
+ghost use Rattle.s2_message.specs.Reading.{FindsWord};
 
 use s2_bch::Bch;
 use s2_bits::Bits;
@@ -44,7 +44,7 @@ impl Drop for Corrector {
 impl Model for Corrector {
     ghost use Rattle.std.specs.Prelude.{◌≡◌, length};
     ghost use Rattle.s2_mode.specs.Mode.{k_of};
-    ghost use Rattle.s2_modem.specs.DeciderState.{Correcting};
+    ghost use Rattle.s2_message.specs.Reading.{Correcting};
 
     ghost Value = { Correcting };
 

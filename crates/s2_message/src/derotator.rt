@@ -3,7 +3,7 @@ ghost use Rattle.std.specs.Prelude.{◌≡◌, ◌≤◌, IfOk, length, true, if
 ghost use Rattle.s2_mode.specs.Limits.{header_symbols};
 ghost use Rattle.s2_mode.specs.Mode.{symbols_in};
 ghost use Rattle.s2_plframe.specs.Turns.{derotated, turn_of};
-ghost use Rattle.s2_modem.specs.DeciderState.{upright};
+ghost use Rattle.s2_message.specs.Reading.{upright};
 
 use s2_mode::{Mode, Symbol};
 use s2_plframe::derotate_into;
@@ -30,7 +30,7 @@ impl Drop for Derotator {
 impl Model for Derotator {
     ghost use Rattle.std.specs.Prelude.{◌≡◌, length, true};
     ghost use Rattle.s2_mode.specs.Mode.{symbols_in};
-    ghost use Rattle.s2_modem.specs.DeciderState.{Derotating};
+    ghost use Rattle.s2_message.specs.Reading.{Derotating};
 
     ghost Value = { Derotating };
 

@@ -5,10 +5,9 @@ ghost use Rattle.s2_check.specs.Views.{IsSoft};
 ghost use Rattle.s2_plframe.specs.Payload.{received_payload};
 ghost use Rattle.s2_soft.specs.Soft.{soft_values};
 
-use s2_link::Link;
 use s2_mode::{Mode, Symbol};
 use s2_plframe::payload_of;
-use s2_scramble::Gold;
+use s2_scramble::{Gold, ScramblingNumber};
 use s2_soft::{Divisor, soft_into};
 use std::alloc::{AllocError, Global};
 use std::marker::Model;
@@ -55,7 +54,7 @@ impl Drop for Demodulator {
 impl Model for Demodulator {
     ghost use Rattle.std.specs.Prelude.{◌≡◌, ◌*◌, length};
     ghost use Rattle.s2_mode.specs.Mode.{slots_of};
-    ghost use Rattle.s2_modem.specs.DeciderState.{Demodulating};
+    ghost use Rattle.s2_message.specs.Reading.{Demodulating};
 
     ghost Value = { Demodulating };
 
@@ -65,22 +64,22 @@ impl Model for Demodulator {
 }
 
 impl Demodulator {
-    /// The demodulator of a link, by this divisor.
+    /// The demodulator of a mode and a scrambling number, by this divisor.
     pub(crate) fn new(
         alloc: Global,
-        link: &Link<'_>,
+        mode: Mode,
+        number: ScramblingNumber,
         divisor: Divisor,
     ) -> Result<Demodulator, AllocError>
-        ensures mode { IfOk result (λ d. d.mode ≡ link.now.setup.mode) }
+        ensures mode { IfOk result (λ d. d.mode ≡ mode) }
         ensures divisor { IfOk result (λ d. d.divisor ≡ divisor) }
-        ensures number { IfOk result (λ d. d.number ≡ link.now.setup.number) }
+        ensures number { IfOk result (λ d. d.number ≡ number) }
     {
-        let mode = link.mode();
         let origin = Symbol { i: 0, q: 0 };
         Ok(Demodulator {
             mode,
             divisor,
-            gold: Gold::of(alloc, link.number())?,
+            gold: Gold::of(alloc, number)?,
             payload: vec![in alloc; origin; 90 * mode.slots()]?,
         })
     }
