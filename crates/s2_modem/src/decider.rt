@@ -122,6 +122,7 @@ impl<'a> Decider<'a> {
 }
 
 impl<'a> Decide for Decider<'a> {
+    ghost use Rattle.std.specs.Prelude.{⊤};
     ghost use Rattle.s2_mode.specs.Mode.{symbols_in};
     ghost use Rattle.s2_modem.specs.DeciderState.{decides};
 
@@ -130,6 +131,10 @@ impl<'a> Decide for Decider<'a> {
     ghost decide = { decides };
 
     ghost field = { λ d. d.field };
+
+    ghost Setting = { ⊤ };
+
+    ghost setting = { λ d. tt };
 
     ghost last = { λ d. d.last };
 

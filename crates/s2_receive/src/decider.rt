@@ -44,11 +44,18 @@ pub trait Decide {
     /// The last decision.
     ghost last: { Self → Decision };
 
+    /// What a decision does not change.
+    ghost Setting: { Type 0 };
+
+    /// That of a decider.
+    ghost setting: { Self → Setting };
+
     /// Decides a frame of its size.
     fn decide(&mut self, symbols: &[Symbol])
         requires { length symbols.now ≡ size self.old }
         ensures last { last self.new ≡ decide self.old symbols.now }
         ensures same { decide self.new ≡ decide self.old }
+        ensures setting { setting self.new ≡ setting self.old }
         ensures size { size self.new ≡ size self.old };
 
     /// The last decision.

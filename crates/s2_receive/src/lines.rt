@@ -189,7 +189,7 @@ fn line_of_end(totals: Totals) -> Line
 }
 
 /// The line of a step, with the totals after it.
-pub(crate) fn line_of(step: Step, totals: Totals) -> Line
+pub fn line_of(step: Step, totals: Totals) -> Line
     ensures { result ≡ step_line step totals }
 {
     match step {

@@ -10,10 +10,13 @@ ghost use Rattle.s2_receive.specs.Sinks.{NextWith};
 ghost use Rattle.s2_plframe.specs.Turns.{sought_of};
 
 use crate::decider::Decide;
+use crate::give::Give;
 use crate::output::write_step;
 use crate::receiver_core::ReceiverCore;
 use crate::report::{Fault, Phase, Step, Totals};
 use crate::sinks::{Sink, give_frame};
+use s2_bits::Bits;
+use s2_check::Verdict;
 use s2_mode::{CountedRead, CountedWrite, Mode, ReadFault, read_full};
 use s2_plframe::HeaderTolerance;
 use std::alloc::{AllocError, Global};
@@ -55,6 +58,7 @@ fn read_on<D: Decide, R: CountedRead>(
     requires reader { CanCount (R.count reader.old) }
     requires room { length room.old ≡ asked (rules_of D.decide inner.old) inner.old.state }
     ensures same { IsSame D.decide inner.old inner.new }
+    ensures setting { D.setting inner.new.decider ≡ D.setting inner.old.decider }
     ensures reads { Reads (seen_by D.decide D.last inner.old) (seen_by D.decide D.last inner.new) (R.remaining reader.old) (R.remaining reader.new) result }
     ensures cause { CountsFault (R.count reader.old) (R.count reader.new) result }
     ensures long { length room.new ≡ length room.old }
@@ -72,6 +76,7 @@ fn read_step<D: Decide, R: CountedRead>(
     requires reader { CanCount (R.count reader.old) }
     requires room { length buffer.old ≡ 4 * symbols_in inner.old.sought.mode }
     ensures same { IsSame D.decide inner.old inner.new }
+    ensures setting { D.setting inner.new.decider ≡ D.setting inner.old.decider }
     ensures reads { Reads (seen_by D.decide D.last inner.old) (seen_by D.decide D.last inner.new) (R.remaining reader.old) (R.remaining reader.new) result }
     ensures cause { CountsFault (R.count reader.old) (R.count reader.new) result }
     ensures long { length buffer.new ≡ length buffer.old }
@@ -180,11 +185,13 @@ impl<D: Decide> Receiver<D> {
         self.inner.advance(bytes)
     }
 
-    /// Reads up to the next step and makes it.
-    fn find<R: CountedRead>(&mut self, reader: &mut R) -> Result<Step, ReadFault>
+    /// Reads up to the next step, and makes it. Nothing is written. `ReadFault` means that a read failed, or that the limit was
+    /// reached and the next frame would end after it. Not to be called after the end or a fault. It allocates no memory.
+    pub fn find<R: CountedRead>(&mut self, reader: &mut R) -> Result<Step, ReadFault>
         requires reader { CanCount (R.count reader.old) }
         requires live { IsLive self.old.state.phase }
         ensures same { IsSame D.decide self.old self.new }
+        ensures setting { D.setting self.new.decider ≡ D.setting self.old.decider }
         ensures finds { Finds (seen_by D.decide D.last self.old) (seen_by D.decide D.last self.new)
             (R.remaining reader.old) (R.remaining reader.new) (R.count reader.old) (R.count reader.new) result }
     {
@@ -273,5 +280,16 @@ impl<D: Decide> Receiver<D> {
     {
         self.inner.fail();
         fault
+    }
+}
+
+impl<D: Give> Receiver<D> {
+    /// Gives the decider what it decides of the next frame. Nothing else changes.
+    pub fn give(&mut self, verdict: Verdict, rounds: u32, word: &Bits)
+        requires { length word.now ≡ D.places self.old.decider }
+        ensures gives { D.gives self.old.decider self.new.decider verdict word.now rounds }
+        ensures same { self.new ≡ record self.old { decider = self.new.decider } }
+    {
+        self.inner.decider.give(verdict, rounds, word);
     }
 }

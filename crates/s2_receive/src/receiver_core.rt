@@ -84,6 +84,7 @@ fn find_next<D: Decide>(
     ensures decided { IfSome result (λ next. IsDecidedBy (D.decide decider.old) (met_of next synchronizer.new.frame) (D.last decider.new)) }
     ensures kept { KeepsWithout result (D.last decider.old) (D.last decider.new) }
     ensures same { (synchronizer.new.sought ≡ synchronizer.old.sought) × (synchronizer.new.max_header_errors ≡ synchronizer.old.max_header_errors) × (D.decide decider.new ≡ D.decide decider.old) × (D.size decider.new ≡ D.size decider.old) }
+    ensures setting { D.setting decider.new ≡ D.setting decider.old }
 {
     let next = synchronizer.take(bytes, limit)?;
     if let Next::Frame { .. } = next {
@@ -170,6 +171,7 @@ impl<D: Decide> ReceiverCore<D> {
         requires searching { self.old.state.phase ≡ phases.Searching }
         requires room { length bytes.now ≤ asked (rules_of D.decide self.old) self.old.state }
         ensures same { IsSame D.decide self.old self.new }
+        ensures setting { D.setting self.new.decider ≡ D.setting self.old.decider }
         ensures packets { self.new.packets ≡ self.old.packets }
         ensures searches { Searches (rules_of D.decide self.old) self.old.state self.new.state (symbols_of bytes.now)
             (nat_eq (length bytes.now) (asked (rules_of D.decide self.old) self.old.state)) (D.last self.new.decider) result }
@@ -183,6 +185,7 @@ impl<D: Decide> ReceiverCore<D> {
     pub(crate) fn advance(&mut self, bytes: &[u8]) -> Option<Step>
         requires room { length bytes.now ≤ asked (rules_of D.decide self.old) self.old.state }
         ensures same { IsSame D.decide self.old self.new }
+        ensures setting { D.setting self.new.decider ≡ D.setting self.old.decider }
         ensures advances { Advances (seen_by D.decide D.last self.old) (seen_by D.decide D.last self.new) bytes.now result }
     {
         let next = match self.status.phase {

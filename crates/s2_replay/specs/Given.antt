@@ -32,6 +32,16 @@ pub record GivenDecider : Type 0 where
   pub last : Decision
   pub field : List ℕ
 
+-- the frames that it decides, and how they are read
+pub record Setting : Type 0 where
+  pub mode : Mode
+  pub number : ℕ
+  pub options : FrameOptions
+
+-- those of a decider
+abbrev pub setting_of : GivenDecider → Setting
+setting_of d = record { mode = d.mode; number = d.number; options = d.options }
+
 -- its decision on a frame's symbols
 abbrev pub decides : GivenDecider → List Symbol → Decision
 decides d = given_decision d.mode d.number d.options d.given
@@ -42,8 +52,7 @@ pub record IsGivenDecider (reader : FrameReader) (soft : List ℤ) (bits : List 
   pub bits_long : length bits ≡ n_of reader.mode
   pub place : IfSome last.header (HasPlace reader.field)
 
--- it decides frames of the same mode, read in the same way
-pub record IsSameGiven (old new : GivenDecider) : Type 0 where
-  pub mode : new.mode ≡ old.mode
-  pub number : new.number ≡ old.number
-  pub options : new.options ≡ old.options
+-- it was given this for the next frame; it decides frames of the same mode, read in the same way
+pub record IsGiven (old new : GivenDecider) (verdict : Verdict) (bits : List Bool) (rounds : ℕ) : Type 0 where
+  pub given : new.given ≡ record { verdict = verdict; bits = bits; rounds = rounds }
+  pub setting : setting_of new ≡ setting_of old

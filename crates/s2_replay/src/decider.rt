@@ -1,13 +1,12 @@
 //! Decides frames by bits that are given.
 ghost use Rattle.std.specs.Prelude.{◌≡◌, IfOk, length};
 ghost use Rattle.s2_mode.specs.Mode.{n_of};
-ghost use Rattle.s2_replay.specs.Given.{IsSameGiven};
 
 use s2_bits::Bits;
 use s2_check::Verdict;
 use s2_message::{FrameOptions, FrameReader};
 use s2_mode::{Mode, Symbol};
-use s2_receive::{Decide, Decided, Frame, Outcome};
+use s2_receive::{Decide, Decided, Frame, Give, Outcome};
 use s2_scramble::ScramblingNumber;
 use std::alloc::{AllocError, Global};
 use std::marker::Model;
@@ -87,18 +86,6 @@ impl GivenDecider {
         })
     }
 
-    /// Gives the verdict on the next frame, the rounds of min-sum that were run for it, and its `mode.n()` decided bits,
-    /// which need not be a codeword. Nothing of it is checked here.
-    pub fn give(&mut self, verdict: Verdict, rounds: u32, word: &Bits)
-        requires { length word.now ≡ n_of self.old.mode }
-        ensures given { self.new.given ≡ record { verdict = verdict; bits = word.now; rounds = rounds } }
-        ensures same { IsSameGiven self.old self.new }
-    {
-        self.verdict = verdict;
-        self.rounds = rounds;
-        self.word.truths_mut().copy_from_slice(word.truths());
-    }
-
     /// The soft values of the last frame.
     pub fn soft(&self) -> &[i16]
         ensures is { result.now ≡ self.now.last.soft }
@@ -117,13 +104,17 @@ impl GivenDecider {
 
 impl Decide for GivenDecider {
     ghost use Rattle.s2_mode.specs.Mode.{symbols_in};
-    ghost use Rattle.s2_replay.specs.Given.{decides};
+    ghost use Rattle.s2_replay.specs.Given.{Setting, decides, setting_of};
 
     ghost size = { λ d. symbols_in d.mode };
 
     ghost decide = { decides };
 
     ghost field = { λ d. d.field };
+
+    ghost Setting = { Setting };
+
+    ghost setting = { setting_of };
 
     ghost last = { λ d. d.last };
 
@@ -152,5 +143,22 @@ impl Decide for GivenDecider {
             decided: self.last,
             field: self.reader.field(),
         }
+    }
+}
+
+impl Give for GivenDecider {
+    ghost use Rattle.s2_mode.specs.Mode.{n_of};
+    ghost use Rattle.s2_replay.specs.Given.{IsGiven};
+
+    ghost places = { λ d. n_of d.mode };
+
+    ghost gives = { IsGiven };
+
+    /// Gives the verdict on the next frame, the rounds of min-sum that were run for it, and its `mode.n()` decided bits,
+    /// which need not be a codeword. Nothing of it is checked here.
+    fn give(&mut self, verdict: Verdict, rounds: u32, word: &Bits) {
+        self.verdict = verdict;
+        self.rounds = rounds;
+        self.word.truths_mut().copy_from_slice(word.truths());
     }
 }

@@ -179,6 +179,7 @@ fn header_for(content: i16) -> Option<Header>
 }
 
 impl Decide for HalfPackets {
+    ghost use Rattle.std.specs.Prelude.{⊤};
     ghost use Rattle.s2_mode.specs.Mode.{symbols_in};
     ghost use Rattle.s2_stream_tests.specs.Toy.{content_of, decision_for};
 
@@ -187,6 +188,10 @@ impl Decide for HalfPackets {
     ghost decide = { λ d symbols. decision_for d.figured d.word d.field (content_of symbols) };
 
     ghost field = { λ d. d.field };
+
+    ghost Setting = { ⊤ };
+
+    ghost setting = { λ d. tt };
 
     ghost last = { λ d. decision_for d.figured d.word d.field d.content };
 

@@ -4,7 +4,7 @@ use Rattle.s2_receive.proofs.ReadLemmas.{at_frame, fails_now, full_now, steps_no
 use Rattle.s2_receive.proofs.receiver.Receiver.find.Goals as goal
 
 pub reading-init : goal.reading-init
-reading-init g c = record { same = record { rules = refl; sought = refl; max_header_errors = refl; limit = refl }; waited = waited_none _ _ _; live = c.requires.live; last = refl; count = refl }
+reading-init g c = record { same = record { rules = refl; sought = refl; max_header_errors = refl; limit = refl }; waited = waited_none _ _ _; setting = refl; live = c.requires.live; last = refl; count = refl }
 
 pub returns-then-is_at_frame-clause-finds : goal.returns-then-is_at_frame-clause-finds
 returns-then-is_at_frame-clause-finds g c =
@@ -49,6 +49,7 @@ reading-preserved g c =
     record {
       same = record { rules = same.rules ∙ so.same.rules; sought = same.sought ∙ so.same.sought; max_header_errors = same.max_header_errors ∙ so.same.max_header_errors; limit = same.limit ∙ so.same.limit };
       waited = on.0;
+      setting = subst (λ (r : Receiver g.row.D.Denot). g.D.Decide.setting new.inner.decider ≡ g.D.Decide.setting r.decider) c.self.view_is c.in_ok-step.ensures.setting ∙ so.setting;
       live = on.2;
       last = on.1;
       count = c.in_ok-step.ensures.cause ∙ so.count;

@@ -7,6 +7,7 @@ abbrev pub invariant-reading : goal.invariant-reading
 invariant-reading g l = record {
   same : IsSame g.D.Decide.decide l.fn.self l.self;
   waited : Waited (rules_of g.D.Decide.decide l.fn.self) l.fn.self.state l.self.state (g.R.CountedRead.remaining l.fn.reader) (g.R.CountedRead.remaining l.reader);
+  setting : g.D.Decide.setting l.self.decider ≡ g.D.Decide.setting l.fn.self.decider;
   live : IsLive l.self.state.phase;
   last : g.D.Decide.last l.self.decider ≡ g.D.Decide.last l.fn.self.decider;
   count : g.R.Counted.count l.reader ≡ g.R.Counted.count l.fn.reader;
