@@ -7,7 +7,12 @@ use Rattle.s2_receive.specs.declared.gap.Gap.{Gap}
 use Rattle.s2_receive.specs.Meeting.{Met, frame, cut}
 use Rattle.s2_receive.specs.Receiving.{Standing, after, at_start, line_of, packets_of}
 use Rattle.s2_message.specs.Decisions.{soft_frame}
-use Rattle.s2_replay.specs.Replay.{Evidence, IsBorneOut, IsFrameLine, Replayed, Replays, Terms, known_after, no_bits, rules_with}
+use Rattle.std.specs.Prelude.{Option, Result, Ok, Err}
+use Rattle.s2_mode.specs.declared.counts.ReadFault.{ReadFault}
+use Rattle.s2_receive.specs.Answers.{Finds, Seen}
+use Rattle.s2_receive.specs.Receiving.{Decision, Rules, State}
+use Rattle.s2_receive.specs.declared.report.Step.{Step}
+use Rattle.s2_replay.specs.Replay.{Evidence, FindsBy, Replayer, IsBorneOut, IsFrameLine, Replayed, Replays, Terms, known_after, no_bits, rules_with}
 
 -- nothing was met
 pub replayed_none : (rows : Rows) (t : Terms) → Replayed rows t [] [] [] [] true at_start
@@ -48,3 +53,21 @@ replayed_cut rows t met evidence lines packets known s at skipped count line bef
       joined_again rows t true at_start met (here ∷ []) later evidence [] more lines (line ∷ []) rest packets [] last
       (before.go_on (here ∷ later) more (line ∷ rest) last (is, all));
 }
+
+-- what a replayer holds, under these rules
+abbrev pub seen_with : Rules → Replayer → Seen
+seen_with rules r = record { rules = rules; state = r.state; last = r.last; packets = r.packets }
+
+-- the step of a receiver is that of these rules
+found_with : (rules : Rules) (old : State) (last : Decision) (packets : List ℕ) (new : Replayer) (r r' : Option (List ℕ)) (n n' : ℕ) (result : Result Step ReadFault)
+    → Finds (record { rules = rules; state = old; last = last; packets = packets }) (seen_with rules new) r r' n n' result → FindsBy rules old new r r' n n' result
+found_with rules old last packets new r r' n n' (Ok step) (met, handles, decided, kept, meets, reaches, ends, count, bounded) = (met, handles, decided, meets, reaches, count)
+found_with rules old last packets new r r' n n' (Err fault) (searching, standing, same, short, bounded) = short
+
+pub finds_by : (one two rules : Rules) (was old : State) (last : Decision) (packets : List ℕ) (new : Replayer) (r r' : Option (List ℕ)) (n n' : ℕ) (result : Result Step ReadFault)
+    → one ≡ rules → two ≡ rules → was ≡ old → Finds (record { rules = one; state = was; last = last; packets = packets }) (seen_with two new) r r' n n' result → FindsBy rules old new r r' n n' result
+finds_by one two rules was old last packets new r r' n n' result first second state finds =
+    let a = subst (λ (x : Rules). Finds (record { rules = x; state = was; last = last; packets = packets }) (seen_with two new) r r' n n' result) first finds in
+    let b = subst (λ (x : Rules). Finds (record { rules = rules; state = was; last = last; packets = packets }) (seen_with x new) r r' n n' result) second a in
+    let c = subst (λ (x : State). Finds (record { rules = rules; state = x; last = last; packets = packets }) (seen_with rules new) r r' n n' result) state b in
+    found_with rules old last packets new r r' n n' result c

@@ -146,11 +146,11 @@ pub record Replayer : Type 0 where
 
 -- The next step was found under these rules: it is the next one of the known bytes, and its symbols and no others were read.
 -- Or there is none, since a read failed or the limit was reached
-abbrev pub FindsBy : Rules → (old new : Replayer) → (reader_old reader_new : Option (List ℕ)) → (reads_old reads_new : ℕ) → Result Step ReadFault → Type 0
+abbrev pub FindsBy : Rules → (old : State) → (new : Replayer) → (reader_old reader_new : Option (List ℕ)) → (reads_old reads_new : ℕ) → Result Step ReadFault → Type 0
 FindsBy rules old new r r' n n' (Ok step) =
-    (met : Met) × Handles rules old.state new.state met new.packets step × IsDecided rules met new.last
-    × Meets (left_in rules old.state r) (left_in rules new.state r') (met ∷ []) × Reaches (taken new.state) (taken old.state) r r' × (n' ≡ n)
-FindsBy rules old new r r' n n' (Err fault) = StopsShort rules old.state r r' n n'
+    (met : Met) × Handles rules old new.state met new.packets step × IsDecided rules met new.last
+    × Meets (left_in rules old r) (left_in rules new.state r') (met ∷ []) × Reaches (taken new.state) (taken old) r r' × (n' ≡ n)
+FindsBy rules old new r r' n n' (Err fault) = StopsShort rules old r r' n n'
 
 -- the frames that it seeks are those of its terms, and it takes symbols up to the usual limit
 pub record IsReplayer (sought : Sought) (limit : ℕ) (decider : GivenDecider) : Type 0 where

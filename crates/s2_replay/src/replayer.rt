@@ -82,7 +82,7 @@ impl Replayer {
         requires reader { CanCount (R.count reader.old) }
         requires live { IsLive self.old.state.phase }
         ensures finds { let rules = rules_with self.old.terms (record { verdict = verdict; bits = word.now; rounds = rounds }) in
-            FindsBy rules self.old self.new (R.remaining reader.old) (R.remaining reader.new) (R.count reader.old) (R.count reader.new) result }
+            FindsBy rules self.old.state self.new (R.remaining reader.old) (R.remaining reader.new) (R.count reader.old) (R.count reader.new) result }
         ensures terms { self.new.terms ≡ self.old.terms }
     {
         self.receiver.give(verdict, rounds, word);
