@@ -13,7 +13,9 @@
 #![tactic(auto)]
 
 mod decider;
+mod lines;
 mod replayer;
 
 pub use decider::GivenDecider;
+pub use lines::is_line_of;
 pub use replayer::Replayer;
