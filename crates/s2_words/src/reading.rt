@@ -4,7 +4,7 @@ use crate::decibels::read_esn0;
 use crate::limits::MAX_ROLL_OFF;
 use crate::options::{progress_by, read_modcod};
 use crate::parser::program;
-use crate::refusal::{not_understood, unread_of};
+use crate::refusal::{entry_of, not_understood, unread_of};
 use crate::request::{
     AuditArguments, ChannelArguments, CheckArguments, CodeArguments, CompareArguments,
     DemodArguments, ExitBy, JoinArguments, JudgeArguments, LinkArguments, ModArguments,
@@ -13,6 +13,7 @@ use crate::request::{
     TableArguments, TuningArguments, WordsArguments,
 };
 use crate::seed_range::read_seeds;
+use crate::table::CommandName;
 use crate::unread::Unread;
 use clap::parser::ValueSource;
 use clap::{ArgMatches, Error};
@@ -233,21 +234,21 @@ fn progress_of(r: &mut Reader<'_, '_>) -> Progress {
     progress_by(r.flag("progress"), r.flag("quiet"))
 }
 
-fn rows_of<'a>(r: &mut Reader<'_, 'a>) -> Option<Request<'a>> {
-    Some(Request::Rows(RowsArguments {
+fn rows_of(r: &mut Reader<'_, '_>) -> RowsArguments {
+    RowsArguments {
         shape: shape_of(r),
         weight: r.weight(),
         seed: r.seed(),
-    }))
+    }
 }
 
-fn table_of<'a>(r: &mut Reader<'_, 'a>) -> Option<Request<'a>> {
-    Some(Request::Table(TableArguments {
+fn table_of<'a>(r: &mut Reader<'_, 'a>) -> TableArguments<'a> {
+    TableArguments {
         modcod: r.modcod(),
         short: r.flag("short"),
         quiet: r.flag("quiet"),
         rows: r.text("ROWS"),
-    }))
+    }
 }
 
 fn rate_of(r: &mut Reader<'_, '_>) -> Option<SymbolRate> {
@@ -265,15 +266,15 @@ fn mode_of(r: &mut Reader<'_, '_>) -> Option<(u8, bool)> {
     Some((r.modcod(), r.flag("short")))
 }
 
-fn modes_of<'a>(r: &mut Reader<'_, 'a>) -> Option<Request<'a>> {
-    Some(Request::Modes(ModesArguments {
+fn modes_of(r: &mut Reader<'_, '_>) -> ModesArguments {
+    ModesArguments {
         rate: rate_of(r),
         mode: mode_of(r),
-    }))
+    }
 }
 
-fn judge_of<'a>(r: &mut Reader<'_, 'a>) -> Option<Request<'a>> {
-    Some(Request::Judge(JudgeArguments {
+fn judge_of<'a>(r: &mut Reader<'_, 'a>) -> JudgeArguments<'a> {
+    JudgeArguments {
         code: code_of(r),
         each: r.flag("each"),
         hard: r.flag("hard"),
@@ -284,15 +285,15 @@ fn judge_of<'a>(r: &mut Reader<'_, 'a>) -> Option<Request<'a>> {
         certificate: r.given("cert"),
         rows: r.text("ROWS"),
         soft: r.text("SOFT"),
-    }))
+    }
 }
 
-fn check_of<'a>(r: &mut Reader<'_, 'a>) -> Option<Request<'a>> {
-    Some(Request::Check(CheckArguments {
+fn check_of<'a>(r: &mut Reader<'_, 'a>) -> CheckArguments<'a> {
+    CheckArguments {
         each: r.flag("each"),
         rows: r.text("ROWS"),
         certificate: r.text("CERT"),
-    }))
+    }
 }
 
 /// The form of the words. The parser refuses both options at once.
@@ -304,18 +305,18 @@ fn words_form_of(r: &mut Reader<'_, '_>) -> WordsArguments {
     }
 }
 
-fn compare_of<'a>(r: &mut Reader<'_, 'a>) -> Option<Request<'a>> {
-    Some(Request::Compare(CompareArguments {
+fn compare_of<'a>(r: &mut Reader<'_, 'a>) -> CompareArguments<'a> {
+    CompareArguments {
         code: code_of(r),
         form: words_form_of(r),
         rows: r.text("ROWS"),
         certificates: r.text("CERTIFICATES"),
         words: r.text("WORDS"),
-    }))
+    }
 }
 
-fn mod_of<'a>(r: &mut Reader<'_, 'a>) -> Option<Request<'a>> {
-    Some(Request::Mod(ModArguments {
+fn mod_of<'a>(r: &mut Reader<'_, 'a>) -> ModArguments<'a> {
+    ModArguments {
         link: link_of(r),
         dummy: r.small("dummy"),
         resync: r.flag("resync"),
@@ -325,20 +326,20 @@ fn mod_of<'a>(r: &mut Reader<'_, 'a>) -> Option<Request<'a>> {
         rows: r.text("ROWS"),
         packets: r.text("PACKETS"),
         symbols: r.text("SYMBOLS"),
-    }))
+    }
 }
 
-fn noise_of<'a>(r: &mut Reader<'_, 'a>) -> Option<Request<'a>> {
-    Some(Request::Noise(NoiseArguments {
+fn noise_of<'a>(r: &mut Reader<'_, 'a>) -> NoiseArguments<'a> {
+    NoiseArguments {
         channel: channel_of(r),
         progress: progress_of(r),
         from: r.text("IN"),
         to: r.text("OUT"),
-    }))
+    }
 }
 
-fn demod_of<'a>(r: &mut Reader<'_, 'a>) -> Option<Request<'a>> {
-    Some(Request::Demod(DemodArguments {
+fn demod_of<'a>(r: &mut Reader<'_, 'a>) -> DemodArguments<'a> {
+    DemodArguments {
         link: link_of(r),
         tuning: tuning_of(r),
         notes: notes_of(r, true),
@@ -348,12 +349,12 @@ fn demod_of<'a>(r: &mut Reader<'_, 'a>) -> Option<Request<'a>> {
         rows: r.text("ROWS"),
         symbols: r.text("SYMBOLS"),
         packets: r.text("PACKETS"),
-    }))
+    }
 }
 
-fn run_of<'a>(r: &mut Reader<'_, 'a>) -> Option<Request<'a>> {
+fn run_of<'a>(r: &mut Reader<'_, 'a>) -> RunArguments<'a> {
     let seeds = seeds_of(r);
-    Some(Request::Run(RunArguments {
+    RunArguments {
         link: link_of(r),
         dummy: r.small("dummy"),
         resync: r.flag("resync"),
@@ -367,28 +368,28 @@ fn run_of<'a>(r: &mut Reader<'_, 'a>) -> Option<Request<'a>> {
         rows: r.text("ROWS"),
         packets: r.text("PACKETS"),
         to: r.text("OUT"),
-    }))
+    }
 }
 
-fn scan_of<'a>(r: &mut Reader<'_, 'a>) -> Option<Request<'a>> {
-    Some(Request::Scan(ScanArguments {
+fn scan_of<'a>(r: &mut Reader<'_, 'a>) -> ScanArguments<'a> {
+    ScanArguments {
         first: r.matches.get_one::<u32>("first"),
         progress: progress_of(r),
         symbols: r.text("SYMBOLS"),
-    }))
+    }
 }
 
-fn join_of<'a>(r: &mut Reader<'_, 'a>) -> Option<Request<'a>> {
-    Some(Request::Join(JoinArguments {
+fn join_of<'a>(r: &mut Reader<'_, 'a>) -> JoinArguments<'a> {
+    JoinArguments {
         modcod: r.modcod(),
         short: r.flag("short"),
         bbframes: r.text("BBFRAMES"),
         packets: r.text("PACKETS"),
-    }))
+    }
 }
 
-fn audit_of<'a>(r: &mut Reader<'_, 'a>) -> Option<Request<'a>> {
-    Some(Request::Audit(AuditArguments {
+fn audit_of<'a>(r: &mut Reader<'_, 'a>) -> AuditArguments<'a> {
+    AuditArguments {
         link: link_of(r),
         divisor: number_of(r, "divisor"),
         tuned: r.flag("tuned"),
@@ -398,27 +399,37 @@ fn audit_of<'a>(r: &mut Reader<'_, 'a>) -> Option<Request<'a>> {
         symbols: r.text("SYMBOLS"),
         report: r.text("REPORT"),
         certificates: r.text("CERTIFICATES"),
-    }))
+    }
 }
 
-/// The request of a command with this name.
-fn request_of<'a>(name: &str, r: &mut Reader<'_, 'a>) -> Option<Request<'a>> {
-    match name {
-        "modes" => modes_of(r),
-        "rows" => rows_of(r),
-        "table" => table_of(r),
-        "judge" => judge_of(r),
-        "check" => check_of(r),
-        "mod" => mod_of(r),
-        "noise" => noise_of(r),
-        "demod" => demod_of(r),
-        "run" => run_of(r),
-        "scan" => scan_of(r),
-        "join" => join_of(r),
-        "audit" => audit_of(r),
-        "compare" => compare_of(r),
-        _ => None,
+/// The request of a command.
+fn request_of<'a>(command: CommandName, r: &mut Reader<'_, 'a>) -> Request<'a> {
+    match command {
+        CommandName::Modes => Request::Modes(modes_of(r)),
+        CommandName::Rows => Request::Rows(rows_of(r)),
+        CommandName::Table => Request::Table(table_of(r)),
+        CommandName::Judge => Request::Judge(judge_of(r)),
+        CommandName::Check => Request::Check(check_of(r)),
+        CommandName::Mod => Request::Mod(mod_of(r)),
+        CommandName::Noise => Request::Noise(noise_of(r)),
+        CommandName::Demod => Request::Demod(demod_of(r)),
+        CommandName::Run => Request::Run(run_of(r)),
+        CommandName::Scan => Request::Scan(scan_of(r)),
+        CommandName::Join => Request::Join(join_of(r)),
+        CommandName::Audit => Request::Audit(audit_of(r)),
+        CommandName::Compare => Request::Compare(compare_of(r)),
     }
+}
+
+/// The request of the command with this name, unless a value is missing or invalid.
+fn read_request<'a>(name: &str, matches: &ArgMatches<'a>) -> Option<Request<'a>> {
+    let entry = entry_of(name)?;
+    let mut reader = Reader {
+        matches,
+        lacks: false,
+    };
+    let request = request_of(entry.command, &mut reader);
+    if reader.lacks { None } else { Some(request) }
 }
 
 /// The request of parsed arguments.
@@ -426,13 +437,9 @@ fn request_in<'a>(alloc: Global, matches: &ArgMatches<'a>) -> Result<Request<'a>
     let Some((name, inner)) = matches.subcommand() else {
         return Ok(Request::Demo);
     };
-    let mut reader = Reader {
-        matches: inner,
-        lacks: false,
-    };
-    match request_of(name, &mut reader) {
-        Some(request) if !reader.lacks => Ok(request),
-        _ => Err(not_understood(alloc, name, inner)?),
+    match read_request(name, inner) {
+        Some(request) => Ok(request),
+        None => Err(not_understood(alloc, name, inner)?),
     }
 }
 

@@ -18,7 +18,7 @@ use std::alloc::{AllocError, Global};
 const NOT_UNDERSTOOD: &str = "the arguments are not understood";
 
 /// The command of this name.
-fn entry_of(name: &str) -> Option<CommandHelp> {
+pub(crate) fn entry_of(name: &str) -> Option<CommandHelp> {
     for entry in commands() {
         if entry.name == name {
             return Some(*entry);
