@@ -1,12 +1,12 @@
 -- A frame that is read, and its soft values.
-use Rattle.std.proofs.Common.{◌≡◌, ◌⊎◌, ℕ, ◌+◌, ◌-◌, ◌*◌, ◌/◌, ◌<◌, ◌≤◌, true, false, Bool, List, [], ◌++◌, Option, length, take, drop, sym, ap, subst, ◌∙◌, append_assoc, length-append, length-drop, length-take-le, take-append-drop, drop-drop, drop_all, arith, inl, inr}
+use Rattle.std.proofs.Common.{◌≡◌, ◌⊎◌, ℕ, ◌+◌, ◌-◌, ◌*◌, ◌/◌, ◌<◌, ◌≤◌, true, List, [], ◌++◌, Option, length, take, drop, sym, ap, ◌∙◌, append_assoc, length-append, length-drop, length-take-le, take-append-drop, drop-drop, arith, inl, inr}
 use Rattle.std.proofs.lemmas.List.{nil_from_length}
 use Rattle.std.proofs.lemmas.Bool.Decides.{leb_tells}
 use Rattle.s2_mode.specs.Mode.{Mode, HasCodeSizes, k_of, n_of, q_of, shape_in, symbols_in}
 use Rattle.s2_mode.specs.Shape.{code_bits}
-use Rattle.s2_audit.specs.Auditors.{ReadsFrame, Reach, Terms, held_after, reach_after}
+use Rattle.s2_audit.specs.Auditors.{ReadsFrame, Reach}
 use Rattle.s2_audit.specs.Limits.{frame_bytes}
-use Rattle.s2_audit.specs.Reading.{EndsBefore, Refills, last_bytes}
+use Rattle.s2_audit.specs.Reading.{Refills, last_bytes}
 
 -- a frame has at least its header's symbols
 pub symbols_least : (m : Mode) → 90 ≤ symbols_in m
@@ -21,7 +21,7 @@ bits_in m sizes =
     omega (arith, groups, checks)
 
 -- the last n bytes are n
-length_last : (n : ℕ) (bytes : List ℕ) → n ≤ length bytes → length (last_bytes n bytes) ≡ n
+pub length_last : (n : ℕ) (bytes : List ℕ) → n ≤ length bytes → length (last_bytes n bytes) ≡ n
 length_last n bytes few = omega (arith, length-drop (length bytes - n) bytes, few)
 
 -- of the last n bytes the last k are those of all bytes
