@@ -1,10 +1,10 @@
 -- A frame that is read, and its soft values.
-use Rattle.std.proofs.Common.{◌≡◌, ◌⊎◌, ℕ, ◌+◌, ◌-◌, ◌*◌, ◌/◌, ◌<◌, ◌≤◌, true, List, [], ◌++◌, Option, length, take, drop, sym, ap, ◌∙◌, append_assoc, length-append, length-drop, length-take-le, take-append-drop, drop-drop, arith, inl, inr}
+use Rattle.std.proofs.Common.{◌≡◌, ◌⊎◌, ℕ, ◌+◌, ◌-◌, ◌*◌, ◌/◌, ◌<◌, ◌≤◌, true, Bool, List, [], ◌++◌, Option, length, take, drop, sym, ap, ap₂, ◌∙◌, append_assoc, length-append, length-drop, length-take-le, take-append-drop, drop-drop, arith, inl, inr}
 use Rattle.std.proofs.lemmas.List.{nil_from_length}
 use Rattle.std.proofs.lemmas.Bool.Decides.{leb_tells}
 use Rattle.s2_mode.specs.Mode.{Mode, HasCodeSizes, k_of, n_of, q_of, shape_in, symbols_in}
 use Rattle.s2_mode.specs.Shape.{code_bits}
-use Rattle.s2_audit.specs.Auditors.{ReadsFrame, Reach}
+use Rattle.s2_audit.specs.Auditors.{ReadsFrame, Reach, held_after}
 use Rattle.s2_audit.specs.Limits.{frame_bytes}
 use Rattle.s2_audit.specs.Reading.{Refills, last_bytes}
 
@@ -77,3 +77,11 @@ module _ (m : Mode) (h place at : ℕ) (old new : List ℕ) (a b : Option (List 
       by_order : {x y : Type 0} → ((x × (place ≤ at)) ⊎ (y × (at < place))) → ReadsFrame m was a b at new
       by_order (inl (yes', later)) = frame_after later filled
       by_order (inr (no', sooner)) = frame_within sooner within filled
+
+-- a place, and the last bytes of a buffer
+abbrev pub reached : ℕ → ℕ → List ℕ → Reach
+reached place held bytes = record { place = place; held = last_bytes (4 * held) bytes }
+
+pub reach_is : (m : Mode) (resync : Bool) (at n held : ℕ) (bytes symbols : List ℕ) → n ≡ symbols_in m → held ≡ held_after m resync → bytes ≡ symbols → reached (at + n) held bytes ≡ reached (at + symbols_in m) (held_after m resync) symbols
+reach_is m resync at n held bytes symbols long holds same =
+    ap (λ i. reached (at + i) held bytes) long ∙ ap₂ (λ h l. reached (at + symbols_in m) h l) holds same
