@@ -227,6 +227,12 @@ pub(crate) const RESYNC_BOTH: Argument = Argument {
     ..RESYNC
 };
 
+/// The same name, for a report that was made with it.
+pub(crate) const RESYNC_REPORT: Argument = Argument {
+    help: "Allow a frame to begin inside an earlier one, lost or not, if the report was made with --resync",
+    ..RESYNC
+};
+
 pub(crate) const ROUNDS: Argument = Argument {
     name: "rounds",
     form: ArgumentKind::Valued(Value {
@@ -297,7 +303,7 @@ pub(crate) const UNCERTIFIED: Argument = Argument {
 pub(crate) const TUNED: Argument = Argument {
     name: "tuned",
     form: ArgumentKind::Flag,
-    help: "Use the best factor, divisor and rounds for the mode, --lock 30, --passes 96 and --turns; options given explicitly override it",
+    help: "Use the best factor, divisor and rounds for the mode, --lock 30, --passes 96, --turns, and --resync for lost frames; options given explicitly override it",
 };
 
 pub(crate) const TURNS: Argument = Argument {
@@ -326,7 +332,7 @@ pub(crate) const EQUALIZE_REPORT: Argument = Argument {
 
 /// The same option, for a report that was made with it.
 pub(crate) const TUNED_REPORT: Argument = Argument {
-    help: "Use the divisor that --tuned sets for the mode, and --turns, if the report was made with --tuned; --divisor overrides it",
+    help: "Use the divisor that --tuned sets for the mode, --turns and --resync, if the report was made with --tuned; --divisor overrides it",
     ..TUNED
 };
 

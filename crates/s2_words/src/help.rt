@@ -295,7 +295,7 @@ The report, a line for each frame that REPORT calls sole or most-likely, and a l
 
 Reasons:
   no certificate    CERTIFICATES ends before the certificate of this frame
-  no symbols        SYMBOLS ends before the end of this frame
+  no symbols        SYMBOLS ends before the end of this frame, or the frame begins inside an earlier one: see --resync
   other values      the certificate is for other soft values: of another recording, or with another --divisor or --tuned
   not accepted      the certificate proves nothing with these rows
   not sole          the certificate proves only that the bits are most likely

@@ -395,6 +395,7 @@ fn audit_of<'a>(r: &mut Reader<'_, 'a>) -> Option<Request<'a>> {
         tuned: r.flag("tuned"),
         turns: r.flag("turns"),
         equalize: r.flag("equalize"),
+        resync: r.flag("resync"),
         rows: r.text("ROWS"),
         symbols: r.text("SYMBOLS"),
         report: r.text("REPORT"),

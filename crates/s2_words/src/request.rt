@@ -271,6 +271,7 @@ pub struct AuditArguments<'a> {
     pub tuned: bool,
     pub turns: bool,
     pub equalize: bool,
+    pub resync: bool,
     pub rows: &'a str,
     pub symbols: &'a str,
     pub report: &'a str,
