@@ -501,6 +501,18 @@ pub(crate) const SENT_BBFRAMES: Argument = Argument {
     ..BBFRAMES
 };
 
+pub(crate) const SENT_LABELS: Argument = Argument {
+    name: "labels",
+    form: ArgumentKind::Valued(FILE),
+    help: "Write the interleaved bits of each frame to this file, a byte for the label of each payload symbol: 0 to 3, or 0 to 7 for 8PSK",
+};
+
+pub(crate) const SENT_SYMBOLS: Argument = Argument {
+    name: "symbols-plain",
+    form: ArgumentKind::Valued(FILE),
+    help: "Write the payload symbols of each frame before scrambling to this file, in the form of SYMBOLS, without header and pilots",
+};
+
 pub(crate) const BBFRAMES_GIVEN: Argument = Argument {
     name: "bbframes",
     form: ArgumentKind::Flag,
