@@ -1,9 +1,11 @@
 //! The interleaved labels of codewords (EN 302 307-1, 5.3.3 and 5.4).
-ghost use Rattle.std.specs.Prelude.{◌≡◌, ◌*◌, ◌<◌, IfOk, OnOk, OnErr, length};
+ghost use Rattle.std.specs.Prelude.{◌≡◌, ◌+◌, ◌*◌, ◌<◌, ◌≤◌, IfOk, OnOk, OnErr, length};
 ghost use Rattle.std.specs.Io.KnownBytes.{Appends};
 ghost use Rattle.s2_mode.specs.Counts.{CanCount, CountsFault};
 ghost use Rattle.s2_mode.specs.Mode.{n_of, slots_of};
 ghost use Rattle.s2_mode.specs.Pieces.{AppendsPart};
+ghost use Rattle.s2_bits.specs.Bits.{bit_at, number};
+ghost use Rattle.s2_map.specs.Mapping.{place_of};
 ghost use Rattle.s2_records.specs.Sent.{GainsOf, GainsPartOf};
 ghost use Rattle.s2_records.specs.Vectors.{label_at, labels_of, sent_labels};
 
@@ -14,18 +16,37 @@ use s2_send::SendSink;
 use std::alloc::{AllocError, Global};
 use std::marker::Model;
 
+/// Bit i of the interleaved codeword.
+fn interleaved(mode: Mode, codeword: &Bits, i: usize) -> u8
+    requires codeword { length codeword.now ≡ n_of mode }
+    requires within { i < n_of mode }
+    ensures is { result ≡ number (bit_at codeword.now (place_of mode i)) }
+    ensures few { result ≤ 1 }
+{
+    u8::from(codeword.get(place(mode, i)))
+}
+
+/// Two bits of the interleaved codeword from bit i on, the first the higher.
+fn two_from(mode: Mode, codeword: &Bits, i: usize) -> u8
+    requires codeword { length codeword.now ≡ n_of mode }
+    requires within { i + 1 < n_of mode }
+    ensures is { result ≡ 2 * number (bit_at codeword.now (place_of mode i)) + number (bit_at codeword.now (place_of mode (i + 1))) }
+    ensures few { result ≤ 3 }
+{
+    2 * interleaved(mode, codeword, i) + interleaved(mode, codeword, i + 1)
+}
+
 /// The label of symbol s of a codeword: its two or three interleaved bits, the first the highest.
 fn label_at(mode: Mode, codeword: &Bits, s: usize) -> u8
     requires codeword { length codeword.now ≡ n_of mode }
     requires symbol { s < 90 * slots_of mode }
     ensures { result ≡ label_at mode codeword.now s }
 {
-    let width = mode.width();
-    let mut label = 0;
-    for j in 0..width {
-        label = 2 * label + u8::from(codeword.get(place(mode, width * s + j)));
+    if mode.is_qpsk() {
+        two_from(mode, codeword, 2 * s)
+    } else {
+        2 * two_from(mode, codeword, 3 * s) + interleaved(mode, codeword, 3 * s + 2)
     }
-    label
 }
 
 /// Writes the label of each symbol of a codeword, in the order of the symbols.
