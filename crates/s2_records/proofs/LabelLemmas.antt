@@ -1,5 +1,5 @@
 -- The labels of codewords: the bits of each, and its points.
-use Rattle.std.proofs.Common.{◌≡◌, ℕ, ◌+◌, ◌*◌, ◌<◌, ◌≤◌, Bool, true, false, List, Result, Ok, Err, OnOk, OnErr, map, inl, inr, refl, sym, ap, ◌∙◌, arith}
+use Rattle.std.proofs.Common.{◌≡◌, ℕ, ◌+◌, ◌*◌, ◌<◌, ◌≤◌, Bool, true, false, List, Result, Ok, Err, OnOk, OnErr, inl, inr, refl, sym, ap, ◌∙◌, arith}
 use Rattle.std.specs.List.{range_with_len}
 use Rattle.std.proofs.lemmas.Bool.{cases_Bool}
 use Rattle.std.proofs.lemmas.Simd.{map-map}
@@ -57,10 +57,10 @@ pub points_lem : PointsLaw
 points_lem m codeword = map-map (point_of m) (label_at m codeword) (range_with_len 0 (90 * slots_of m))
 
 -- what a writer took, or a part of it, beside the mode of the sink
-pub same_taken : {T E : Type 0} {P : Type 0} (m : Mode) (r : Result T E) → OnOk r P → OnOk r ((m ≡ m) × P)
-same_taken m (Ok done) h = (refl, h)
-same_taken m (Err fault) h = tt
+pub same_taken : {T E : Type 0} (P : Type 0) (m : Mode) (r : Result T E) → OnOk r P → OnOk r ((m ≡ m) × P)
+same_taken P m (Ok done) h = (refl, h)
+same_taken P m (Err fault) h = tt
 
-pub same_fails : {T E : Type 0} {P : Type 0} (m : Mode) (r : Result T E) → OnErr r P → OnErr r ((m ≡ m) × P)
-same_fails m (Ok done) h = tt
-same_fails m (Err fault) h = (refl, h)
+pub same_fails : {T E : Type 0} (P : Type 0) (m : Mode) (r : Result T E) → OnErr r P → OnErr r ((m ≡ m) × P)
+same_fails P m (Ok done) h = tt
+same_fails P m (Err fault) h = (refl, h)

@@ -1,6 +1,5 @@
-use Rattle.std.proofs.Common.{◌≡◌, ◌+◌, ◌*◌, ◌<◌, true, false, sym, ◌∙◌, arith}
-use Rattle.s2_mode.specs.Mode.{is_qpsk, n_of}
-use Rattle.s2_records.proofs.LabelLemmas.{most_bits, within_two, within_three, bit_of, two_are, three_are}
+use Rattle.std.proofs.Common.{◌+◌, ◌*◌, sym, ◌∙◌, arith}
+use Rattle.s2_records.proofs.LabelLemmas.{most_bits, within_two, within_three, two_are, three_are}
 use Rattle.s2_records.proofs.labels.label_at.Goals as goal
 
 pub overflow_mul-s : goal.overflow_mul-s

@@ -7,9 +7,9 @@ use Rattle.s2_records.proofs.labels.LabelsSendSink.take.Goals as goal
 pub returns-clause-takes : goal.returns-clause-takes
 returns-clause-takes g c =
     subst (λ old. OnOk c.write_labels.result (GainsOf g.W.CountedWrite.contents sent_labels old (record { mode = c.self.inside.mode; to = c.write_labels.new.out }) c.args.codeword.now)) c.self.view_is
-    (same_taken c.self.inside.mode c.write_labels.result c.write_labels.ensures.bytes)
+    (same_taken _ c.self.inside.mode c.write_labels.result c.write_labels.ensures.bytes)
 
 pub returns-clause-fails : goal.returns-clause-fails
 returns-clause-fails g c =
     subst (λ old. OnErr c.write_labels.result (GainsPartOf g.W.CountedWrite.contents sent_labels old (record { mode = c.self.inside.mode; to = c.write_labels.new.out }) c.args.codeword.now)) c.self.view_is
-    (same_fails c.self.inside.mode c.write_labels.result c.write_labels.ensures.part)
+    (same_fails _ c.self.inside.mode c.write_labels.result c.write_labels.ensures.part)

@@ -7,9 +7,9 @@ use Rattle.s2_records.proofs.plain_symbols.PlainSymbolsSendSink.take.Goals as go
 pub returns-clause-takes : goal.returns-clause-takes
 returns-clause-takes g c =
     subst (λ old. OnOk c.write_symbols.result (GainsOf g.W.CountedWrite.contents sent_symbols old (record { mode = c.self.inside.mode; to = c.write_symbols.new.out }) c.args.codeword.now)) c.self.view_is
-    (same_taken c.self.inside.mode c.write_symbols.result c.write_symbols.ensures.bytes)
+    (same_taken _ c.self.inside.mode c.write_symbols.result c.write_symbols.ensures.bytes)
 
 pub returns-clause-fails : goal.returns-clause-fails
 returns-clause-fails g c =
     subst (λ old. OnErr c.write_symbols.result (GainsPartOf g.W.CountedWrite.contents sent_symbols old (record { mode = c.self.inside.mode; to = c.write_symbols.new.out }) c.args.codeword.now)) c.self.view_is
-    (same_fails c.self.inside.mode c.write_symbols.result c.write_symbols.ensures.part)
+    (same_fails _ c.self.inside.mode c.write_symbols.result c.write_symbols.ensures.part)
