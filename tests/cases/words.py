@@ -149,6 +149,8 @@ RANGES = ["x", "1", "1..", "..2", "..", "2..1", "1.2", "1...2", "1..2..3", "1..=
 SENT = {
     "--codewords": "Write the codeword of each frame to this file, in the format of `demod --codewords`",
     "--bbframes": "Write the BBFRAME of each frame before scrambling to this file, in the format of `demod --bbframes`, for `join`",
+    "--labels": "Write the interleaved bits of each frame to this file, a byte for the label of each payload symbol: 0 to 3, or 0 to 7 for 8PSK",
+    "--symbols-plain": "Write the payload symbols of each frame before scrambling to this file, in the form of SYMBOLS, without header and pilots",
 }
 # Arguments that no command has, and the message.
 MISUSES = [
@@ -232,6 +234,7 @@ MISUSES = [
     *((f"demod --modcod 1 made in out {option}", f"{option}: the value is missing") for option in RECORDS),
     *((f"mod --modcod 1 made packets out {option} file", f"{option} is not an option of mod") for option in RECORDS if option not in SENT),
     *((f"mod --modcod 1 made packets out {option}", f"{option}: the value is missing") for option in SENT),
+    *((f"demod --modcod 1 made in out {option} file", f"{option} is not an option of demod") for option in SENT if option not in RECORDS),
     ("demod --modcod 1 --values one --values two made in out", "--values <FILE> is given twice"),
     ("demod --modcod 1 --dummy 1 made packets out", "--dummy is not an option of demod"),
     ("demod --modcod 1 --seed 1 made packets out", "--seed is not an option of demod"),
@@ -358,7 +361,7 @@ WORDS = [
     *((name, "--turns", "and rotate them back") for name in ("demod", "run")),
     *((name, "turn T", "ahead of those that were sent, 1 to 3") for name in ("demod", "run")),
     ("audit", "--turns", "if the report was made with --turns"),
-    *((name, "--equalize", "any amplitude and phase, and with --pilots a carrier error") for name in ("demod", "run")),
+    *((name, "--equalize", "any phase, and with --pilots a carrier error") for name in ("demod", "run")),
     ("audit", "--equalize", "if the report was made with --equalize"),
     *((name, "--figures", "to the line of each frame, and their totals to the last line") for name in ("demod", "run")),
     *((name, "header H", "wrong symbols in the header, of 90") for name in ("demod", "run")),

@@ -120,7 +120,7 @@ Notes, on standard error:
   N bytes left out in M places                         with --resync: a wrong sync byte and the bytes after it, up to the next five sync bytes
 
 Files:
-  --codewords and --bbframes write records of the frames, but not of dummy frames. Each also takes `-`.
+  --codewords, --bbframes, --labels and --symbols-plain write records of the frames, but not of dummy frames. Each also takes `-`.
   A frame's records are written before its symbols. A file keeps its contents until the rows are accepted.
 
 Example:
