@@ -29,8 +29,7 @@ use Rattle.s2_io.specs.declared.exit.Exit.{Exit}
 use Rattle.s2_io.specs.declared.fault.Fault.{Fault}
 use Rattle.s2_io.specs.declared.fault.Fault.TheVariants as faults
 use Rattle.s2_mode.specs.Mode.{symbols_in}
-use Rattle.s2_mode.specs.Mode.{Mode}
-use Rattle.s2_audit.specs.Auditors.{Reach, Terms, ReadsFrame, frame_soft, held_after, no_reach, reach_after}
+use Rattle.s2_audit.specs.Auditors.{Reach, Terms, frame_soft, held_after, no_reach, reach_after}
 use Rattle.s2_audit.specs.Reading.{last_bytes}
 use Rattle.s2_audit.proofs.AuditorLemmas.{length_last, symbols_least}
 use Rattle.s2_report.specs.Entries.{entry_in, text_of, IsLine}

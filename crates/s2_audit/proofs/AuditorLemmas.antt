@@ -61,7 +61,7 @@ module _ (m : Mode) (h place at : ℕ) (old new : List ℕ) (a b : Option (List 
       let holds : length held ≡ 4 * h = length_last (4 * h) old few in
       let front_long : length (take before held) ≡ before = length-take-le before held (omega (arith, holds)) in
       let parts : held ≡ take before held ++ last_bytes overlap old =
-          sym (take-append-drop before held) ∙ ap (λ l. take before held ++ l) (last_of_last (4 * h) overlap old (omega (arith, within)) few) in
+      sym (take-append-drop before held) ∙ ap (λ l. take before held ++ l) (last_of_last (4 * h) overlap old (omega (arith, within)) few) in
       record {
         front = take before held;
         taken = skipped ++ rest;

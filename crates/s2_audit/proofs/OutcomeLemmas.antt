@@ -1,5 +1,5 @@
 -- What is said of a frame.
-use Rattle.std.proofs.Common.{◌≡◌, ℕ, Ok, inl, inr}
+use Rattle.std.proofs.Common.{◌≡◌, Ok, inl, inr}
 use Rattle.s2_report.specs.declared.entry.Frame.{Frame}
 use Rattle.s2_audit.specs.declared.judging.Reason.TheVariants as reasons
 use Rattle.s2_audit.specs.declared.judging.Finding.{Finding}

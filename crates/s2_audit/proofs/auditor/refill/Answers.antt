@@ -1,4 +1,4 @@
-use Rattle.std.proofs.Common.{rules, refl, arith}
+use Rattle.std.proofs.Common.{refl, arith}
 use Rattle.s2_audit.proofs.ReadingLemmas.{kept_front, refilled}
 use Rattle.s2_audit.proofs.auditor.refill.Goals as goal
 

@@ -26,10 +26,10 @@ returns-clause-finds g c =
     let before = g.R.CountedRead.remaining c.args.reader.now in
     let after = g.R.CountedRead.remaining c.refill.new.reader in
     let filled : Refills (4 * (place - at)) (at - place) before after items new true =
-        subst (λ xs. Refills (4 * (place - at)) (at - place) before after xs new true) c.deref_mut.ensures.value
-        (subst (λ k. Refills (4 * k) (at - place) before after c.deref_mut.result.now new true) overlap_is
-        (subst (λ k. Refills (4 * c.saturating_sub-overlap.result) k before after c.deref_mut.result.now new true) skipped_is
-        (subst (Refills _ _ _ _ _ _) all c.in_ok-refill.ensures.refills))) in
+    subst (λ xs. Refills (4 * (place - at)) (at - place) before after xs new true) c.deref_mut.ensures.value
+    (subst (λ k. Refills (4 * k) (at - place) before after c.deref_mut.result.now new true) overlap_is
+    (subst (λ k. Refills (4 * c.saturating_sub-overlap.result) k before after c.deref_mut.result.now new true) skipped_is
+    (subst (Refills _ _ _ _ _ _) all c.in_ok-refill.ensures.refills))) in
     rw (sym c.self.view_is) (record {
       symbols = new;
       frame = frame_read m held place at items new _ _ (omega (arith, c.self.invariant.3, c.self.invariant.2.bytes)) (search rules) (omega (arith, c.if-overlap-self.false, overlap_is)) filled;
