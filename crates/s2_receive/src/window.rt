@@ -1,5 +1,5 @@
 //! Finds the next frame in a stream of symbols.
-ghost use Rattle.std.specs.Prelude.{◌≡◌, ◌+◌, ◌-◌, ◌/◌, ◌^◌, ◌<◌, ◌≤◌, ◌++◌, [], Bool, List, None, Some, length, take, drop, true, false};
+ghost use Rattle.std.specs.Prelude.{◌≡◌, ℕ, ◌+◌, ◌-◌, ◌/◌, ◌^◌, ◌<◌, ◌≤◌, ◌++◌, [], Bool, List, None, Some, length, take, drop, true, false};
 ghost use Rattle.s2_mode.specs.Limits.{header_symbols};
 ghost use Rattle.s2_receive.specs.Limits.{max_symbols};
 ghost use Rattle.s2_mode.specs.Symbols.{symbols_of};
@@ -222,17 +222,18 @@ fn skip_to_header(
     search: &mut Search,
     max_header_errors: HeaderTolerance,
     buffer: &mut [Symbol],
-    size: usize,
     held: &mut Held,
 ) -> bool
-    requires size { (header_symbols ≤ size) × (size ≤ length buffer.old) × (length buffer.old ≤ 2 ^ 32) }
+    requires size { (header_symbols ≤ length buffer.old) × (length buffer.old ≤ 2 ^ 32) }
     requires full { held.old.count ≡ length buffer.old }
     requires again { held.old.again ≡ false }
     requires place { held.old.at + held.old.count ≤ max_symbols }
     requires skipped { held.old.skipped.symbols ≤ held.old.at }
-    ensures stands { result ≡ false → (lost : List SymbolValue → Bool) → Takes (found_as search.old.sought max_header_errors) lost size (length buffer.old) (window_of held.old buffer.old)
+    ensures stands { result ≡ false → (size : ℕ) → header_symbols ≤ size → size ≤ length buffer.old → (lost : List SymbolValue → Bool)
+        → Takes (found_as search.old.sought max_header_errors) lost size (length buffer.old) (window_of held.old buffer.old)
         (passed_by (lost (take size (take held.new.count buffer.new))) size (window_of held.new buffer.new)) [] true (take size buffer.new) (Some (next.Frame held.new.at held.new.skipped)) }
-    ensures moved { result ≡ true → (lost : List SymbolValue → Bool) → Takes (found_as search.old.sought max_header_errors) lost size (length buffer.old) (window_of held.old buffer.old) (window_of held.new buffer.new) [] true (take size buffer.new) None }
+    ensures moved { result ≡ true → (size : ℕ) → header_symbols ≤ size → size ≤ length buffer.old → (lost : List SymbolValue → Bool)
+        → Takes (found_as search.old.sought max_header_errors) lost size (length buffer.old) (window_of held.old buffer.old) (window_of held.new buffer.new) [] true (take size buffer.new) None }
     ensures count { held.new.count ≤ length buffer.old }
     ensures full { result ≡ false → held.new.count ≡ length buffer.old }
     ensures fewer { result ≡ true → held.new.count < length buffer.old }
@@ -285,7 +286,7 @@ fn look_on(
     if resume(search, max_header_errors, buffer, size, held) {
         return None;
     }
-    if skip_to_header(search, max_header_errors, buffer, size, held) {
+    if skip_to_header(search, max_header_errors, buffer, held) {
         return None;
     }
     Some(Next::Frame {

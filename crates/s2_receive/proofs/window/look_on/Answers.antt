@@ -17,7 +17,7 @@ returns-then-skip_to_header-clause-takes c = λ lost.
     told_on (found_as c.args.search.now.sought c.args.max_header_errors) lost size (length buffer) (window_of held buffer) (window_of mid mid_buffer) (window_of c.skip_to_header.new.held c.skip_to_header.new.buffer) [] true
     (take size c.skip_to_header.new.buffer) None
     (λ coming any. c.resume.ensures.met lost coming (λ again few. absurd (omega (arith, long, few, c.if-held-buffer.false, (c.requires.rest again).0))))
-    (omega (arith, stays.1, stays.2, long, mid_long)) (omega (arith, stays.1)) c.resume.ensures.skipped (takes c.if-skip_to_header.true lost)
+    (omega (arith, stays.1, stays.2, long, mid_long)) (omega (arith, stays.1)) c.resume.ensures.skipped (takes c.if-skip_to_header.true size c.requires.size.0 c.requires.size.2 lost)
 
 pub returns-clause-takes : goal.returns-clause-takes
 returns-clause-takes c = λ lost.
@@ -35,4 +35,4 @@ returns-clause-takes c = λ lost.
     told_on (found_as c.args.search.now.sought c.args.max_header_errors) lost size (length buffer) (window_of held buffer) (window_of mid mid_buffer) (passed_by (lost (take size (take now.count after))) size (window_of now after)) [] true
     (take size after) (Some (next.Frame now.at now.skipped))
     (λ coming any. c.resume.ensures.met lost coming (λ again few. absurd (omega (arith, long, few, c.if-held-buffer.false, (c.requires.rest again).0))))
-    (omega (arith, stays.1, stays.2, long, mid_long)) (omega (arith, stays.1)) c.resume.ensures.skipped (takes c.if-skip_to_header.false lost)
+    (omega (arith, stays.1, stays.2, long, mid_long)) (omega (arith, stays.1)) c.resume.ensures.skipped (takes c.if-skip_to_header.false size c.requires.size.0 c.requires.size.2 lost)
