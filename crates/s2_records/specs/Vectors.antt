@@ -14,11 +14,11 @@ label_at m codeword s = label_of (width_of m) (λ j. bit_at codeword (place_of m
 abbrev pub labels_of : Mode → List Bool → List ℕ
 labels_of m codeword = map (label_at m codeword) (range_with_len 0 (90 * slots_of m))
 
--- what is written of a codeword's labels: a byte each; nothing of a word that has not the mode's n bits
+-- the record of a codeword's labels: a byte each; nothing if it has not the mode's n bits
 abbrev pub sent_labels : Mode → List Bool → List ℕ
 sent_labels m codeword = if length codeword == n_of m then labels_of m codeword else []
 
--- what is written of its symbols: the bytes of the payload, before header, pilots and scrambling
+-- the record of its symbols: the bytes of the payload, before header, pilots and scrambling
 abbrev pub sent_symbols : Mode → List Bool → List ℕ
 sent_symbols m codeword = if length codeword == n_of m then bytes_of_symbols (payload_of m codeword) else []
 
