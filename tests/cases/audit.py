@@ -184,6 +184,33 @@ def impaired_cases(symbols, report, certificates):
         yield case(report, symbols, certificates, 0 if is_fine else NO, fine if is_fine else other, words=WORDS.replace(LINK, f"{LINK} {words}"))
 
 
+def overlapping_cases(symbols, report, certificates):
+    """Of the report of a reception with --resync: the first frame has a certificate and is lost, and the second one begins inside it."""
+    lines, frames = shown(report, apart(certificates)), certified(report)
+    fine, begun = "".join(lines) + last(report), lines[0] + failed(frames[1], "no symbols")
+    assert len(frames) >= 2
+    at, end = int(frames[1][3]), int(frames[1][3]) + int(frames[-1][3]) - int(frames[-2][3])
+    for words, is_fine in (("--resync", True), ("--tuned --divisor 4096", True), ("--resync --turns", True), ("", False), ("--turns", False)):
+        yield case(report, symbols, certificates, 0 if is_fine else NO, fine if is_fine else begun, words=WORDS.replace(LINK, f"{LINK} {words}"))
+    words = WORDS.replace(LINK, f"{LINK} --resync")
+    # the first symbol of a frame is after that of the frame before, and the recording has its last one
+    for place, reason in ((0, "no symbols"), (1, "other values"), (at - 1, "other values"), (at + 1, "other values")):
+        moved = report.replace(f" at {at} ", f" at {place} ")
+        yield case(moved, symbols, certificates, NO, lines[0] + failed([*frames[1][:3], str(place)], reason), words=words)
+    for less in (1, 4, 4 * (end - at - 1000)):
+        yield case(report, symbols[: 4 * end - less], certificates, NO, lines[0] + failed(frames[1], "no symbols"), words=words)
+    # a symbol of the second frame alone, one of both, and one of its header, which the first frame has as one of its payload
+    for place, count in ((end - 1, 1), (at + 500, 0), (at, 0)):
+        spoilt = changed(symbols, 4 * place, symbols[4 * place] ^ 0x40)
+        yield case(report, spoilt, certificates, NO, "".join(lines[:count]) + failed(frames[count], "other values"), words=words)
+
+
+def slipped_cases(symbols, report, certificates):
+    """Of the report of a reception with --resync in which the lost frame has no certificate."""
+    for words in ("", "--resync"):
+        yield case(report, symbols, certificates, 0, "".join(shown(report, apart(certificates))) + last(report), words=WORDS.replace(LINK, f"{LINK} {words}"))
+
+
 def likely_cases(symbols, report, certificates):
     """A report with a frame that is most likely and not sole: if the report says sole, its certificate does not show that."""
     each = apart(certificates)

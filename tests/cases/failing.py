@@ -71,7 +71,10 @@ FAILING = [
     # each record of `mod` is one write, before the symbols of its frame
     (f"mod {LINK} --codewords out made packets sent", "out", WRITE, [(0, 0), (2025, 0)]),
     (f"mod {LINK} --bbframes out made packets sent", "out", WRITE, [(0, 0), (384, 0)]),
+    (f"mod {LINK} --labels out made packets sent", "out", WRITE, [(0, 0), (8100, 0)]),
+    (f"mod {LINK} --symbols-plain out made packets sent", "out", WRITE, [(0, 0), (32_400, 0)]),
     (f"mod {LINK} --codewords record --bbframes other made packets out", "out", WRITE, [(0, 0), (32_760, 0)]),
+    (f"mod {LINK} --labels record --symbols-plain other made packets out", "out", WRITE, [(0, 0), (32_760, 0)]),
     (f"mod {LINK} --bbframes out made packets sent", "packets", READ, [(0, 0), (384, 0)]),
 ]
 # Commands whose first call on an existing `out` truncates it.

@@ -184,6 +184,11 @@ def audit_effects(two):
     half = len(two) // 2
     ahead = {"reads": reads["reads"] | {"in": rotations.ahead(two[:half], 3) + rotations.ahead(two[half:], 1)}}
     yield Effect("--turns", f"audit {LINK} {{}} {files}", {"": other, "--turns": fine, "--tuned --divisor 4096": fine}, ahead)
+    # the report says that the second frame begins inside the first one; its certificate is not for the symbols there
+    inside = {"reads": reads["reads"] | {"report": TWO.replace("8190", "8189").encode()}}
+    first = lines[: lines.index("\n") + 1]
+    begun, elsewhere = (ended(f"{first}frame 2 at 8189 {reason}\n", NO, noted(audit.HINT)) for reason in ("no symbols", "other values"))
+    yield Effect("--resync", f"audit {LINK} {{}} {files}", {"": begun, "--resync": elsewhere, "--tuned --divisor 4096": elsewhere}, inside)
     # the same frames with three times their amplitude, whose equalized symbols are those that were sent
     faint = {"reads": reads["reads"] | {"in": equalized.through(two, 3)}}
     yield Effect("--equalize", f"audit {LINK} {{}} {files}", {"": other, "--equalize": fine, "--equalize --turns": fine}, faint)
@@ -313,7 +318,7 @@ def demod_effects(two, pilots):
     slipped = slips.without(two[: len(two) // 2] + two, slips.MIDDLE)
     both_places = [slips.FRAME - 1, 2 * slips.FRAME - 1]
     far, near = ({"code": NO, "out": slips.delivers(places, 0), "errors": ANY, "writes": {"out": ANY}} for places in (both_places[1:], both_places))
-    yield Effect("--resync", f"demod {LINK} {{}} made in out", {"": far, "--resync": near, "--resync --turns": near}, {"reads": {"in": slipped}})
+    yield Effect("--resync", f"demod {LINK} {{}} made in out", {"": far, "--resync": near, "--resync --turns": near, "--tuned": near}, {"reads": {"in": slipped}})
     # frames with three times their amplitude: equalized, their soft values are those of frames with the usual one
     usual, other = (ended(TWO, out=2 * PACKET, record=values) for values in (records.records(two)["--values"], ANY))
     ends = {"": other, "--equalize": usual, "--equalize --turns": usual}

@@ -1,14 +1,17 @@
 """The records of `demod`, `run` and `mod`: the expected files are computed from the sent symbols, as docs/formats.md describes them."""
 import re
 
+from cases import mapping
 from cases.common import ANY, LINK, NO, PACKET, TWO, WANTED, Case, fault, noted, refused_headers
 from cases.drawn import spoilt
 from cases.plain_checker import file_of
 from cases.plain_receiver import GROUP, GROUPS, Q, payloads, soft_values
 
 OPTIONS = ("--certificates", "--values", "--codewords", "--bbframes")
-# Those that `mod` has too.
-SENT = ("--codewords", "--bbframes")
+# Those of `mod`.
+SENT = ("--codewords", "--bbframes", "--labels", "--symbols-plain")
+# The MODCOD of LINK.
+MODCOD = 1
 # Bits of a BBFRAME of LINK, and the symbols of a frame.
 KBCH, FRAME = 3072, 8190
 LOST = bytes(KBCH // 8)
@@ -50,8 +53,11 @@ def records(symbols):
 
 
 def sent(symbols):
-    """What `mod` writes of the frames that it sends: what `demod` writes of them without noise."""
-    return {option: text for option, text in records(symbols).items() if option in SENT}
+    """What `mod` writes of the frames that it sends: what `demod` writes of them without noise, their labels, and the points of these."""
+    words = [word for _, word in decided(symbols)]
+    texts = {option: text for option, text in records(symbols).items() if option in SENT}
+    texts["--labels"] = b"".join(mapping.labels(MODCOD, word) for word in words)
+    return texts | {"--symbols-plain": b"".join(mapping.symbols(MODCOD, word) for word in words)}
 
 
 def both(option, text, words, code, report, packets, errors="", **more):
@@ -175,16 +181,28 @@ def sending(two, dummy):
     texts, first, line = sent(two), sent(two[: 4 * FRAME]), "packets 2 frames 2\n"
     apart, long, words = two[: 4 * FRAME] + dummy + two[4 * FRAME :] + dummy, 1_000_000 * b"l", f"mod {LINK}"
     cases = [
-        Case(f"{words} --codewords long --bbframes second made packets out", out=line, reads={"long": long}, writes={"out": two} | dict(zip(("long", "second"), texts.values()))),
+        # all four at once
+        Case(
+            f"{words} --codewords long --bbframes second --labels third --symbols-plain fourth made packets out",
+            out=line,
+            reads={"long": long},
+            writes={"out": two} | dict(zip(("long", "second", "third", "fourth"), texts.values())),
+        ),
         *(fault(f"{words} {option} {name} made packets old", f"{name} is used twice") for option in SENT for name in ("made", "packets", "old")),
         *(fault(f"{words} {option} seen made packets old", "seen is used twice", links={"seen": ("hard", "packets")}) for option in SENT),
-        fault(f"{words} --codewords old --bbframes old made packets out", "old is used twice", writes={"out": b""}),
+        *(
+            fault(f"{words} {one} old {other} old made packets out", "old is used twice", writes={"out": b""})
+            for at, one in enumerate(SENT)
+            for other in SENT[at + 1 :]
+        ),
         fault(f"{words} --codewords - made packets -", "- is used twice"),
         fault(f"{words} --codewords - --bbframes - made packets old", "- is used twice"),
         # they are opened after the others, in the order of the table and not of the line
         fault(f"{words} --bbframes none/b --codewords none/c made packets none/out", "cannot open none/out"),
         fault(f"{words} --bbframes none/b --codewords none/c made packets old", "cannot open none/c"),
-        fault(f"{words} --bbframes none/b made packets old", "cannot open none/b"),
+        fault(f"{words} --labels none/l --bbframes none/b made packets old", "cannot open none/b"),
+        fault(f"{words} --symbols-plain none/s --labels none/l made packets old", "cannot open none/l"),
+        fault(f"{words} --symbols-plain none/s made packets old", "cannot open none/s"),
     ]
     for option, text in texts.items():
         record = {"out": two, "record": text}

@@ -4,13 +4,16 @@ import struct
 
 from cases.common import ANY, LINK, NO, Case, Rule
 from cases.plain_receiver import FRAME, HEADER
-from cases.rotations import frames_of
+from cases.rotations import frames_of, in_bytes, samples, turned
 from cases.wrong_symbols import numbered
+from dummy import quarter_turns
 
 # The packets of all streams here.
 PACKETS = numbered(6)
 # The symbol of a frame at which it has the slip.
 MIDDLE = FRAME // 2
+# The number of symbols of a lost frame that also belong to the next frame.
+SHARED = 1000
 
 
 def without(symbols, place):
@@ -24,6 +27,15 @@ def with_one_more(symbols, place):
 def forged(symbols, place):
     """The symbols with the header of the first frame at a place inside another one. No frame begins there."""
     return symbols[: 4 * place] + symbols[: 4 * HEADER] + symbols[4 * (place + HEADER) :]
+
+
+def overlapping(symbols):
+    """A frame whose bits are all zero, so that it has a certificate and no header of a BBFRAME, and the symbols, which begin inside it. The symbols
+    that belong to both frames are weak: they say almost nothing of the bits of either one."""
+    zeros = samples(symbols)[:HEADER] + [turned((700, 700), turn) for turn in quarter_turns(0, FRAME - HEADER)]
+    own = samples(symbols)
+    weak = [tuple(1 if it > 0 else -1 for it in each) for each in own[:SHARED]]
+    return in_bytes([*zeros[:-SHARED], *weak, *own[SHARED:]])
 
 
 def delivers(places, lost):
@@ -58,6 +70,11 @@ def cases(made_by):
             yield received(symbols, places, FRAME * at)
             # a header that no frame follows does not count
             yield received(forged(symbols, FRAME * at + FRAME // 4), places, FRAME * at)
+    # a lost frame may have a certificate
+    places = [FRAME * at - SHARED for at in range(1, 1 + len(five) // (4 * FRAME))]
+    yield received(overlapping(five), places, 0)
+    # --tuned has the option
+    yield received(*slip(five, 1, True), FRAME, "--tuned")
     # without the option a missing symbol also costs the frame after it, and an additional one does not
     symbols, places = slip(five, 1, True)
     yield received(symbols, [it for it in places if it != 2 * FRAME - 1], FRAME, "")

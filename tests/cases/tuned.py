@@ -42,7 +42,7 @@ def best(modcod, short):
 
 def words(best, passes=PASSES):
     factor, divisor, rounds = best
-    return f"--lock {LOCK} --divisor {divisor} --rounds {rounds} --passes {passes} --factor {factor}"
+    return f"--turns --resync --lock {LOCK} --divisor {divisor} --rounds {rounds} --passes {passes} --factor {factor}"
 
 
 def neighbours(best):

@@ -1,15 +1,15 @@
 -- What is said of a frame.
-use Rattle.std.proofs.Common.{◌≡◌, ℕ, Ok, inl, inr}
+use Rattle.std.proofs.Common.{◌≡◌, Ok, inl, inr}
 use Rattle.s2_report.specs.declared.entry.Frame.{Frame}
 use Rattle.s2_audit.specs.declared.judging.Reason.TheVariants as reasons
 use Rattle.s2_audit.specs.declared.judging.Finding.{Finding}
 use Rattle.s2_audit.specs.declared.judging.Finding.TheVariants.{Shown, Failed}
 use Rattle.s2_audit.specs.declared.outcome.Outcome.{Outcome}
 use Rattle.s2_audit.specs.declared.outcome.Outcome.TheVariants as outcomes
-use Rattle.s2_audit.specs.Auditors.{Terms}
+use Rattle.s2_audit.specs.Auditors.{Reach, Terms}
 use Rattle.s2_audit.specs.Outcomes.{Evidence, FindsFrame, FrameOutcome, Says}
 
-pub frame_says : (t : Terms) (p b : ℕ) (old new : Evidence) (frame : Frame) (finding : Finding) (outcome : Outcome) → FindsFrame t p b old new frame finding → Says frame finding outcome → FrameOutcome t p b old new frame (Ok outcome)
+pub frame_says : (t : Terms) (p b : Reach) (old new : Evidence) (frame : Frame) (finding : Finding) (outcome : Outcome) → FindsFrame t p b old new frame finding → Says frame finding outcome → FrameOutcome t p b old new frame (Ok outcome)
 frame_says t p b old new frame (Shown found) outcomes.Silent h says = absurd says
 frame_says t p b old new frame (Shown found) (outcomes.Ended printed) h says = absurd says
 frame_says t p b old new frame (Shown found) (outcomes.Shown text) (inl lacks) says = cc

@@ -1,9 +1,12 @@
 -- What is read of a recording, byte by byte and symbol by symbol.
-use Rattle.std.proofs.Common.{◌≡◌, ℕ, ◌+◌, ◌*◌, ◌<◌, ◌≤◌, Bool, true, false, List, [], ◌++◌, Option, length, take, sym, subst, ◌∙◌, length-append, arith, Result, Ok, Err, IfOk}
+use Rattle.std.proofs.Common.{◌≡◌, ℕ, ◌+◌, ◌-◌, ◌*◌, ◌<◌, ◌≤◌, Bool, true, false, List, [], ◌++◌, Option, length, take, drop, sym, ap, subst, ◌∙◌, length-append, length-drop, arith, Result, Ok, Err, IfOk}
+use Rattle.std.specs.List.{copy_within}
+use lib.Seq.{paste}
 use Rattle.std.specs.Io.KnownBytes.{Consumes, IsAtEnd}
 use Rattle.std.proofs.KnownBytes.{Consumes-nil, Consumes-trans}
 use Rattle.std.proofs.lemmas.List.{length-take-le, take_all}
-use Rattle.s2_audit.specs.Reading.{EndsBefore, ReadsAt, SkipsBytes}
+use Rattle.std.proofs.lemmas.List.Edits.{take-paste}
+use Rattle.s2_audit.specs.Reading.{EndsBefore, ReadsAt, Refills, SkipsBytes, last_bytes}
 
 -- ---- skipped bytes
 
@@ -45,3 +48,20 @@ reads_less n k a b c buf (bytes, long, read) most short then end =
 pub reads_there : (n k : ℕ) (a b c : Option (List ℕ)) (buf : List ℕ) → SkipsBytes (4 * n) a b true → k ≤ length buf → length buf ≤ k → Consumes b c (take k buf) → ReadsAt n a c buf true
 reads_there n k a b c buf (bytes, long, read) most whole then =
     (bytes, long, Consumes-trans a b c bytes buf read (subst (Consumes b c) (take_all k buf (omega (arith, most, whole))) then))
+
+-- ---- a buffer that keeps its last bytes
+
+-- the front of a buffer after its last bytes were moved there
+pub kept_front : (bytes moved front : List ℕ) (kept first : ℕ) → kept ≤ length bytes → first ≡ length bytes - kept → moved ≡ copy_within bytes first (length bytes) 0 → front ≡ take kept moved → front ≡ last_bytes kept bytes
+kept_front bytes moved front kept first few where_ is front_is =
+    let last : List ℕ = drop first bytes in
+    let long : length last ≡ kept = omega (arith, length-drop first bytes, few, where_) in
+    let all : length bytes - first ≡ kept = omega (arith, few, where_) in
+    let same : kept ≡ 0 + kept = omega arith in
+    front_is ∙ ap (take kept) (is ∙ ap (λ n. paste bytes 0 last n) all) ∙ ap (λ n. take n (paste bytes 0 last kept)) same ∙ take-paste bytes 0 last kept (omega arith) (omega (arith, long))
+    ∙ take_all kept last (omega (arith, long)) ∙ ap (λ n. drop n bytes) where_
+
+pub refilled : {F : Type 0} (kept n : ℕ) (a b : Option (List ℕ)) (bytes front rest now : List ℕ) (went : Result Bool F) → front ≡ last_bytes kept bytes → now ≡ front ++ rest → length rest + kept ≡ length bytes → IfOk went (ReadsAt n a b rest) → IfOk went (Refills kept n a b bytes now)
+refilled kept n a b bytes front rest now (Ok true) is joined long reads = (rest, joined ∙ ap (λ l. l ++ rest) is, reads)
+refilled kept n a b bytes front rest now (Ok false) is joined long (part, short, read, end) = (part, omega (arith, short, long), read, end)
+refilled kept n a b bytes front rest now (Err f) is joined long reads = tt

@@ -1,5 +1,5 @@
 -- An audit: the certificates of the frames of a report, one after another, and the printed lines (own).
-use Rattle.std.specs.Prelude.{◌≡◌, ◌≢◌, ◌⊎◌, ℕ, ◌+◌, ◌*◌, ◌≤◌, ℤ, List, [], ◌++◌, All, length, map, Option, Some, None, Result, Ok, Err}
+use Rattle.std.specs.Prelude.{◌≡◌, ◌≢◌, ◌⊎◌, ℕ, ◌+◌, ◌*◌, ◌≤◌, ℤ, List, [], ◌++◌, if◌then◌else◌, All, length, map, Option, Some, None, Result, Ok, Err}
 use Rattle.std.specs.List.{flat_map, AllPairs}
 use Rattle.std.specs.Io.KnownBytes.{Appends, Consumes}
 use Rattle.s2_mode.specs.Mode.{symbols_in}
@@ -19,7 +19,7 @@ use Rattle.s2_io.specs.declared.fault.Fault.TheVariants as faults
 use Rattle.s2_report.specs.declared.entry.Frame.{Frame}
 use Rattle.s2_audit.specs.declared.outcome.Outcome.{Outcome}
 use Rattle.s2_audit.specs.declared.outcome.Outcome.TheVariants as outcomes
-use Rattle.s2_audit.specs.Auditors.{Terms, frame_soft}
+use Rattle.s2_audit.specs.Auditors.{Reach, Terms, frame_soft}
 use Rattle.s2_report.specs.Entries.{entry_in, text_of, IsLine}
 use Rattle.s2_audit.specs.Entries.{certified_in, counts_of}
 use Rattle.s2_audit.specs.Limits.{certificate_bytes, frame_bytes, max_lines}
@@ -45,6 +45,10 @@ pub record Checked : Type 0 where
 abbrev pub IsAt : List ℕ → ℕ → List ℕ → Type 0
 IsAt whole place part = (before : List ℕ) × (after : List ℕ) × (length before ≡ place) × (whole ≡ before ++ (part ++ after))
 
+-- these bytes are the last ones of a file
+abbrev pub IsLast : List ℕ → List ℕ → Type 0
+IsLast whole part = (before : List ℕ) × (whole ≡ before ++ part)
+
 -- the frame's symbols are in the recording at its position, and its certificate shows its verdict for their soft values
 pub record IsChecked (t : Terms) (recording : List ℕ) (c : Checked) : Type 0 where
   pub place : IsAt recording (4 * c.frame.at) c.symbols
@@ -57,18 +61,23 @@ pub record IsChecked (t : Terms) (recording : List ℕ) (c : Checked) : Type 0 w
 abbrev pub line_of : Checked → List ℕ
 line_of c = shown_line c.frame (cost c.file.soft c.file.bits)
 
--- the first symbol of a later frame is at or after the end of an earlier one
+-- how many symbols after the first one of a frame a later one may begin: one if lost frames were searched again, else a
+-- frame's
+abbrev pub least_step : Terms → ℕ
+least_step t = if t.resync then 1 else symbols_in t.mode
+
+-- a later frame begins at least so many symbols after an earlier one
 abbrev pub LieApart : Terms → (earlier later : Checked) → Type 0
-LieApart t earlier later = earlier.frame.at + symbols_in t.mode ≤ later.frame.at
+LieApart t earlier later = earlier.frame.at + least_step t ≤ later.frame.at
 
 -- a line that an audit reads
 abbrev pub IsReadable : List ℕ → Type 0
 IsReadable line = IsLine line × (entry_in line ≢ None)
 
 -- These lines of the report were read, and each of their frames that is reported sole or most likely is shown by the
--- next certificate. No two of these frames overlap. This number of symbols was read, and the line of each of these
--- frames is printed
-pub record Audits (t : Terms) (report report_new : Option (List ℕ)) (old new : Evidence) (out out_new : Option (List ℕ)) (lines : List (List ℕ)) (place : ℕ) : Type 0 where
+-- next certificate. No two of these frames overlap, or with `resync` each begins after the first symbols of those before
+-- it. This number of symbols was read, and the line of each of these frames is printed
+pub record Audits (t : Terms) (report report_new : Option (List ℕ)) (old new : Evidence) (out out_new : Option (List ℕ)) (lines : List (List ℕ)) (reach : Reach) : Type 0 where
   pub checked : List Checked
   pub recording : List ℕ
   pub readable : All IsReadable lines
@@ -77,7 +86,8 @@ pub record Audits (t : Terms) (report report_new : Option (List ℕ)) (old new :
   pub apart : AllPairs (LieApart t) checked
   pub report_read : Consumes report report_new (text_of lines)
   pub symbols_read : Consumes old.symbols new.symbols recording
-  pub symbols_long : length recording ≡ 4 * place
+  pub symbols_long : length recording ≡ 4 * reach.place
+  pub held : IsLast recording reach.held
   pub certificates_read : Consumes old.certificates new.certificates (flat_map (λ c. c.block) checked)
   pub printed : Appends out out_new (flat_map line_of checked)
 
@@ -115,13 +125,13 @@ last_of (Err f) = Err f
 -- Some lines were audited, and the audit ends with the next one. Or one audit takes no more lines than these
 pub record AuditsToEnd (t : Terms) (report report_new : Option (List ℕ)) (old new : Evidence) (out out_new : Option (List ℕ)) (result : Result Exit Fault) : Type 0 where
   pub lines : List (List ℕ)
-  pub place : ℕ
+  pub reach : Reach
   pub report_between : Option (List ℕ)
   pub between : Evidence
   pub out_between : Option (List ℕ)
   pub behind : Standing
-  pub audits : Audits t report report_between old between out out_between lines place
-  pub last : LineIs t (length lines + 1) (standing place (counts_of lines)) behind report_between report_new between new out_between out_new (last_of result)
+  pub audits : Audits t report report_between old between out out_between lines reach
+  pub last : LineIs t (length lines + 1) (standing reach (counts_of lines)) behind report_between report_new between new out_between out_new (last_of result)
       ⊎ ((result ≡ Err faults.Read) × (length lines ≡ max_lines) × (out_new ≡ out_between))
 
 -- one audit takes no more lines than these

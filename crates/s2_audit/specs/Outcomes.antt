@@ -1,7 +1,6 @@
 -- The audit of one report line: the line, and for a certified frame its certificate and its symbols (own).
-use Rattle.std.specs.Prelude.{◌≡◌, ◌⊎◌, ℕ, ◌+◌, ◌<◌, ℤ, true, false, List, [], ◌∷◌, ◌++◌, length, codes, Option, Result, Ok, Err, ⊤}
+use Rattle.std.specs.Prelude.{◌≡◌, ◌⊎◌, ℕ, ◌<◌, ℤ, true, false, List, [], ◌∷◌, ◌++◌, length, codes, Option, Result, Ok, Err, ⊤}
 use Rattle.std.specs.Io.KnownBytes.{Consumes, IsAtEnd}
-use Rattle.s2_mode.specs.Mode.{symbols_in}
 use Rattle.s2_check.specs.Verdicts.{is_certified}
 use Rattle.s2_io.specs.declared.exit.Exit.TheVariants as exits
 use Rattle.s2_io.specs.declared.fault.Fault.{Fault}
@@ -17,31 +16,31 @@ use Rattle.s2_audit.specs.declared.judging.Finding.{Finding}
 use Rattle.s2_audit.specs.declared.judging.Finding.TheVariants.{Shown, Failed}
 use Rattle.s2_audit.specs.declared.outcome.Outcome.{Outcome}
 use Rattle.s2_audit.specs.declared.outcome.Outcome.TheVariants as outcomes
-use Rattle.s2_audit.specs.Auditors.{Terms, ReadsFrame, LacksFrame, frame_soft}
+use Rattle.s2_audit.specs.Auditors.{Reach, Terms, ReadsFrame, LacksFrame, frame_soft, reach_after}
 use Rattle.s2_audit.specs.Entries.{counted_with}
 use Rattle.s2_audit.specs.Limits.{certificate_bytes}
 use Rattle.s2_audit.specs.Lines.{end_line, failed_line, left_over_line, shown_line}
 use Rattle.s2_audit.specs.Showing.{Finds}
 
 -- The symbols of a frame were read. This is found of a certificate, for their soft values
-pub record JudgesBlock (t : Terms) (place behind : ℕ) (before after : Option (List ℕ)) (block : List ℕ) (frame : Frame) (finding : Finding) : Type 0 where
+pub record JudgesBlock (t : Terms) (was is : Reach) (before after : Option (List ℕ)) (block : List ℕ) (frame : Frame) (finding : Finding) : Type 0 where
   pub symbols : List ℕ
-  pub symbols_read : ReadsFrame t.mode place before after frame.at symbols
+  pub symbols_read : ReadsFrame t.mode was before after frame.at symbols
   pub found : Finds t.rows (frame_soft t symbols) frame.verdict block finding
-  pub behind_it : behind ≡ frame.at + symbols_in t.mode
+  pub reach_is : is ≡ reach_after t frame.at symbols
 
 -- the symbols of a frame are not in the recording
-abbrev pub LacksSymbols : Terms → (place : ℕ) → Option (List ℕ) → Option (List ℕ) → Frame → Finding → Type 0
-LacksSymbols t place before after frame finding =
-    (finding ≡ Failed reasons.NoSymbols) × LacksFrame t.mode place before after frame.at
+abbrev pub LacksSymbols : Terms → (was : Reach) → Option (List ℕ) → Option (List ℕ) → Frame → Finding → Type 0
+LacksSymbols t was before after frame finding =
+    (finding ≡ Failed reasons.NoSymbols) × LacksFrame t.mode was before after frame.at
 
 -- the finding on a frame by a certificate, unless memory ran out or a read failed
-abbrev pub FindsByBlock : Terms → (place behind : ℕ) → Option (List ℕ) → Option (List ℕ) → List ℕ → Frame → Result Finding Fault → Type 0
-FindsByBlock t place behind before after block frame (Ok finding) =
-    LacksSymbols t place before after frame finding ⊎ JudgesBlock t place behind before after block frame finding
-FindsByBlock t place behind before after block frame (Err faults.Read) = ⊤
-FindsByBlock t place behind before after block frame (Err faults.NoMemory) = ⊤
-FindsByBlock t place behind before after block frame (Err f) = ⊥
+abbrev pub FindsByBlock : Terms → (was is : Reach) → Option (List ℕ) → Option (List ℕ) → List ℕ → Frame → Result Finding Fault → Type 0
+FindsByBlock t was is before after block frame (Ok finding) =
+    LacksSymbols t was before after frame finding ⊎ JudgesBlock t was is before after block frame finding
+FindsByBlock t was is before after block frame (Err faults.Read) = ⊤
+FindsByBlock t was is before after block frame (Err faults.NoMemory) = ⊤
+FindsByBlock t was is before after block frame (Err f) = ⊥
 
 -- the unread bytes of the recording and of the certificates, if they are known
 pub record Evidence : Type 0 where
@@ -53,11 +52,11 @@ abbrev pub evidence_by : {R : Type 0} → (R → Option (List ℕ)) → R → R 
 evidence_by remaining symbols certificates = record { symbols = remaining symbols; certificates = remaining certificates }
 
 -- the next certificate was read, and then the symbols of a frame
-pub record Judges (t : Terms) (place behind : ℕ) (old new : Evidence) (frame : Frame) (finding : Finding) : Type 0 where
+pub record Judges (t : Terms) (was is : Reach) (old new : Evidence) (frame : Frame) (finding : Finding) : Type 0 where
   pub block : List ℕ
   pub long : length block ≡ certificate_bytes t.mode
   pub read : Consumes old.certificates new.certificates block
-  pub judged : JudgesBlock t place behind old.symbols new.symbols block frame finding
+  pub judged : JudgesBlock t was is old.symbols new.symbols block frame finding
 
 -- no certificate is left
 abbrev pub LacksCertificate : Evidence → Evidence → Finding → Type 0
@@ -65,17 +64,17 @@ LacksCertificate old new finding =
     (finding ≡ Failed reasons.NoCertificate) × Consumes old.certificates new.certificates [] × IsAtEnd new.certificates
 
 -- the next certificate was read, and then the symbols of a frame are not in the recording
-pub record LacksOnlySymbols (t : Terms) (place : ℕ) (old new : Evidence) (frame : Frame) (finding : Finding) : Type 0 where
+pub record LacksOnlySymbols (t : Terms) (was : Reach) (old new : Evidence) (frame : Frame) (finding : Finding) : Type 0 where
   pub block : List ℕ
   pub long : length block ≡ certificate_bytes t.mode
   pub read : Consumes old.certificates new.certificates block
-  pub lacks : LacksSymbols t place old.symbols new.symbols frame finding
+  pub lacks : LacksSymbols t was old.symbols new.symbols frame finding
 
 -- The finding on a frame, by the next certificate and by its symbols. The reason is that of the first test that fails:
 -- a certificate is left, the recording has the symbols, and the certificate shows the verdict for them
-abbrev pub FindsFrame : Terms → (place behind : ℕ) → Evidence → Evidence → Frame → Finding → Type 0
-FindsFrame t place behind old new frame finding =
-    LacksCertificate old new finding ⊎ (LacksOnlySymbols t place old new frame finding ⊎ Judges t place behind old new frame finding)
+abbrev pub FindsFrame : Terms → (was is : Reach) → Evidence → Evidence → Frame → Finding → Type 0
+FindsFrame t was is old new frame finding =
+    LacksCertificate old new finding ⊎ (LacksOnlySymbols t was old new frame finding ⊎ Judges t was is old new frame finding)
 
 -- the fault of a certificate that is cut
 abbrev pub cut_fault : Fault
@@ -87,22 +86,22 @@ IsCut t old new =
     (bytes : List ℕ) × (0 < length bytes) × (length bytes < certificate_bytes t.mode) × Consumes old.certificates new.certificates bytes × IsAtEnd new.certificates
 
 -- the finding on a frame, unless its certificate is cut, memory ran out or a read failed
-abbrev pub AuditsFrame : Terms → (place behind : ℕ) → Evidence → Evidence → Frame → Result Finding Fault → Type 0
-AuditsFrame t place behind old new frame (Ok finding) = FindsFrame t place behind old new frame finding
-AuditsFrame t place behind old new frame (Err faults.Read) = ⊤
-AuditsFrame t place behind old new frame (Err faults.NoMemory) = ⊤
-AuditsFrame t place behind old new frame (Err f) = (f ≡ cut_fault) × IsCut t old new
+abbrev pub AuditsFrame : Terms → (was is : Reach) → Evidence → Evidence → Frame → Result Finding Fault → Type 0
+AuditsFrame t was is old new frame (Ok finding) = FindsFrame t was is old new frame finding
+AuditsFrame t was is old new frame (Err faults.Read) = ⊤
+AuditsFrame t was is old new frame (Err faults.NoMemory) = ⊤
+AuditsFrame t was is old new frame (Err f) = (f ≡ cut_fault) × IsCut t old new
 
 -- the outcome of a certified frame: its line if it is proved; else its line with the reason ends the audit, with exit 2
-abbrev pub FrameOutcome : Terms → (place behind : ℕ) → Evidence → Evidence → Frame → Result Outcome Fault → Type 0
-FrameOutcome t place behind old new frame (Ok outcomes.Silent) = ⊥
-FrameOutcome t place behind old new frame (Ok (outcomes.Shown text)) =
-    (found : ℤ) × Judges t place behind old new frame (Shown found) × (text ≡ shown_line frame found)
-FrameOutcome t place behind old new frame (Ok (outcomes.Ended printed)) =
-    (reason : Reason) × FindsFrame t place behind old new frame (Failed reason) × (printed.text ≡ failed_line frame reason) × (printed.exit ≡ exits.No)
-FrameOutcome t place behind old new frame (Err faults.Read) = ⊤
-FrameOutcome t place behind old new frame (Err faults.NoMemory) = ⊤
-FrameOutcome t place behind old new frame (Err f) = (f ≡ cut_fault) × IsCut t old new
+abbrev pub FrameOutcome : Terms → (was is : Reach) → Evidence → Evidence → Frame → Result Outcome Fault → Type 0
+FrameOutcome t was is old new frame (Ok outcomes.Silent) = ⊥
+FrameOutcome t was is old new frame (Ok (outcomes.Shown text)) =
+    (found : ℤ) × Judges t was is old new frame (Shown found) × (text ≡ shown_line frame found)
+FrameOutcome t was is old new frame (Ok (outcomes.Ended printed)) =
+    (reason : Reason) × FindsFrame t was is old new frame (Failed reason) × (printed.text ≡ failed_line frame reason) × (printed.exit ≡ exits.No)
+FrameOutcome t was is old new frame (Err faults.Read) = ⊤
+FrameOutcome t was is old new frame (Err faults.NoMemory) = ⊤
+FrameOutcome t was is old new frame (Err f) = (f ≡ cut_fault) × IsCut t old new
 
 -- the outcome of a finding
 abbrev pub Says : Frame → Finding → Outcome → Type 0
@@ -111,15 +110,15 @@ Says frame (Failed reason) (outcomes.Ended printed) = (printed.text ≡ failed_l
 Says frame finding outcome = ⊥
 
 -- nothing is read or printed for it
-abbrev pub SilentOutcome : (place behind : ℕ) → Evidence → Evidence → Result Outcome Fault → Type 0
-SilentOutcome place behind old new result = (result ≡ Ok outcomes.Silent) × (behind ≡ place) × (new ≡ old)
+abbrev pub SilentOutcome : (was is : Reach) → Evidence → Evidence → Result Outcome Fault → Type 0
+SilentOutcome was is old new result = (result ≡ Ok outcomes.Silent) × (is ≡ was) × (new ≡ old)
 
 -- the outcome of an entry; only a frame that is reported sole or most likely needs a certificate
-abbrev pub EntryOutcome : Terms → (place behind : ℕ) → Evidence → Evidence → Entry → Result Outcome Fault → Type 0
-EntryOutcome t place behind old new entries.Other result = SilentOutcome place behind old new result
-EntryOutcome t place behind old new (entries.Frame frame) result =
-    ((is_certified frame.verdict ≡ false) × SilentOutcome place behind old new result)
-    ⊎ ((is_certified frame.verdict ≡ true) × FrameOutcome t place behind old new frame result)
+abbrev pub EntryOutcome : Terms → (was is : Reach) → Evidence → Evidence → Entry → Result Outcome Fault → Type 0
+EntryOutcome t was is old new entries.Other result = SilentOutcome was is old new result
+EntryOutcome t was is old new (entries.Frame frame) result =
+    ((is_certified frame.verdict ≡ false) × SilentOutcome was is old new result)
+    ⊎ ((is_certified frame.verdict ≡ true) × FrameOutcome t was is old new frame result)
 
 -- at the end of the report: the counts and exit 0 if no certificate is left over, else exit 2
 abbrev pub EndOutcome : Counts → Option (List ℕ) → Option (List ℕ) → Result Outcome Fault → Type 0
@@ -131,9 +130,9 @@ EndOutcome counts old new (Ok (outcomes.Ended printed)) =
 EndOutcome counts old new (Err faults.Read) = ⊤
 EndOutcome counts old new (Err f) = ⊥
 
--- the state before a report line: the place in the recording, and the counts so far
+-- the state before a report line: how far the recording was read, and the counts so far
 pub record Standing : Type 0 where
-  pub place : ℕ
+  pub reach : Reach
   pub counts : Counts
 
 -- a line of the report was read
@@ -141,7 +140,7 @@ pub record LineOutcome (t : Terms) (was is : Standing) (report report_new : Opti
   pub line : List ℕ
   pub entry : Entry
   pub given : GivesEntry report report_new line entry
-  pub outcome : EntryOutcome t was.place is.place old new entry result
+  pub outcome : EntryOutcome t was.reach is.reach old new entry result
   pub counted_is : is.counts ≡ counted_with was.counts entry
 
 -- the report is at its end
@@ -161,6 +160,6 @@ HasOutcome t number was is report report_new old new result =
     LineOutcome t was is report report_new old new result
     ⊎ (LastOutcome was.counts report report_new old new result ⊎ StoppedOutcome number report report_new result)
 
--- a place and counts
-abbrev pub standing : ℕ → Counts → Standing
-standing place counts = record { place = place; counts = counts }
+-- a reach and counts
+abbrev pub standing : Reach → Counts → Standing
+standing reach counts = record { reach = reach; counts = counts }

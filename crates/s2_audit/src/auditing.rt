@@ -1,6 +1,7 @@
 //! The loop over the lines of a report.
 ghost use Rattle.std.specs.Prelude.{◌≡◌, ◌≢◌, ◌⊎◌, ◌+◌, ◌^◌, ◌<◌, Err};
 ghost use Rattle.s2_mode.specs.Counts.{CanCount};
+ghost use Rattle.s2_audit.specs.Auditors.{no_reach};
 ghost use Rattle.s2_audit.specs.Outcomes.{HasOutcome, evidence_by, standing};
 ghost use Rattle.s2_audit.specs.Auditing.{AuditsToEnd, LineIs, PrintsOutcome, ReachesLimit};
 
@@ -27,7 +28,7 @@ fn outcome<R: CountedRead>(
     requires symbols { CanCount (R.count symbols.old) }
     requires certificates { CanCount (R.count certificates.old) }
     requires few { (counts.old.frames < 2 ^ 62) × (counts.old.sole < 2 ^ 62) × (counts.old.most_likely < 2 ^ 62) }
-    ensures outcomes { let ends = evidence_by R.remaining in HasOutcome auditor.old.terms number (standing auditor.old.place counts.old) (standing auditor.new.place counts.new)
+    ensures outcomes { let ends = evidence_by R.remaining in HasOutcome auditor.old.terms number (standing auditor.old.reach counts.old) (standing auditor.new.reach counts.new)
         (R.remaining report.old) (R.remaining report.new) (ends symbols.old certificates.old) (ends symbols.new certificates.new) result }
     ensures terms { auditor.new.terms ≡ auditor.old.terms }
     ensures read { result ≡ Err Fault.Read → R.count report.new + R.count symbols.new + R.count certificates.new ≡ R.count report.old + R.count symbols.old + R.count certificates.old + 1 }
@@ -82,7 +83,7 @@ fn audit_line<R: CountedRead, O: CountedWrite>(
     requires certificates { CanCount (R.count certificates.old) }
     requires out { CanCount (O.count out.old) }
     requires few { (counts.old.frames < 2 ^ 62) × (counts.old.sole < 2 ^ 62) × (counts.old.most_likely < 2 ^ 62) }
-    ensures line { let ends = evidence_by R.remaining in LineIs auditor.old.terms number (standing auditor.old.place counts.old) (standing auditor.new.place counts.new)
+    ensures line { let ends = evidence_by R.remaining in LineIs auditor.old.terms number (standing auditor.old.reach counts.old) (standing auditor.new.reach counts.new)
         (R.remaining report.old) (R.remaining report.new) (ends symbols.old certificates.old) (ends symbols.new certificates.new) (O.contents out.old) (O.contents out.new) result }
     ensures terms { auditor.new.terms ≡ auditor.old.terms }
     ensures read { result ≡ Err Fault.Read → R.count report.new + R.count symbols.new + R.count certificates.new ≡ R.count report.old + R.count symbols.old + R.count certificates.old + 1 }
@@ -117,7 +118,7 @@ pub(crate) fn audit_lines<R: CountedRead, O: CountedWrite>(
     requires symbols { CanCount (R.count symbols.old) }
     requires certificates { CanCount (R.count certificates.old) }
     requires out { CanCount (O.count out.old) }
-    requires place { auditor.old.place ≡ 0 }
+    requires reach { auditor.old.reach ≡ no_reach }
     ensures audits { let ends = evidence_by R.remaining in AuditsToEnd auditor.old.terms (R.remaining report.old) (R.remaining report.new)
         (ends symbols.old certificates.old) (ends symbols.new certificates.new) (O.contents out.old) (O.contents out.new) result }
     ensures read { result ≡ Err Fault.Read → (R.count report.new + R.count symbols.new + R.count certificates.new ≡ R.count report.old + R.count symbols.old + R.count certificates.old + 1) ⊎ ReachesLimit (R.remaining report.old) (R.remaining report.new) }

@@ -7,9 +7,9 @@ ghost use Rattle.s2_mode.specs.Symbols.{symbols_of};
 ghost use Rattle.s2_plframe.specs.Payload.{received_payload};
 ghost use Rattle.s2_equalize.specs.Wanted.{equalizer_by, levelled};
 ghost use Rattle.s2_soft.specs.Soft.{soft_values};
-ghost use Rattle.s2_audit.specs.Auditors.{terms_of, upright, FindsOrLacks, TakesBlock};
+ghost use Rattle.s2_audit.specs.Auditors.{held_after, no_reach, terms_of, upright, FindsOrLacks, TakesBlock};
 ghost use Rattle.s2_audit.specs.Limits.{certificate_bytes, frame_bytes};
-ghost use Rattle.s2_audit.specs.Reading.{ReadsAt, SkipsBytes};
+ghost use Rattle.s2_audit.specs.Reading.{ReadsAt, Refills, SkipsBytes};
 ghost use Rattle.s2_audit.specs.Showing.{Finds};
 
 use crate::demodulation::Demodulation;
@@ -87,6 +87,26 @@ fn read_at<R: CountedRead>(
     Ok(true)
 }
 
+/// Fills the buffer with its own last bytes, and then with those of the reader after skipped symbols. False if the reader
+/// has fewer.
+fn refill<R: CountedRead>(
+    reader: &mut R,
+    kept: usize,
+    skipped: u64,
+    bytes: &mut [u8],
+) -> Result<bool, ReadFault>
+    requires reader { CanCount (R.count reader.old) }
+    requires kept { kept ≤ length bytes.old }
+    ensures refills { IfOk result (Refills kept skipped (R.remaining reader.old) (R.remaining reader.new) bytes.old bytes.new) }
+    ensures size { length bytes.new ≡ length bytes.old }
+    ensures cause { CountsFault (R.count reader.old) (R.count reader.new) result }
+{
+    let first = bytes.len() - kept;
+    bytes.copy_within(first.., 0);
+    let (_, rest) = bytes.split_at_mut(kept);
+    read_at(reader, skipped, rest)
+}
+
 /// Rotates a frame's symbols back, or leaves them unchanged.
 fn turn_back(mode: Mode, turns: bool, symbols: &mut [Symbol])
     requires frame { length symbols.old ≡ symbols_in mode }
@@ -154,6 +174,14 @@ fn find_by_bytes(
     );
 }
 
+/// How many of a frame's last symbols a later frame may begin with: all but one if lost frames were searched again, else
+/// none.
+fn held_after(mode: Mode, resync: bool) -> usize
+    ensures { result ≡ held_after mode resync }
+{
+    if resync { mode.symbols() - 1 } else { 0 }
+}
+
 /// The bytes of a certificate of version 2 of a mode.
 fn certificate_bytes(mode: Mode) -> usize
     ensures { result ≡ certificate_bytes mode }
@@ -161,7 +189,8 @@ fn certificate_bytes(mode: Mode) -> usize
     13 + 2 * mode.n() + (mode.n() + 7) / 8 + 6 * (360 * mode.q())
 }
 
-/// The state of an audit: the rows and the options of a link, and memory for one frame and one certificate.
+/// The state of an audit: the rows and the options of a link, and memory for one frame and one certificate. A later frame
+/// may begin among the last `held` symbols of the frame that was read last.
 pub(crate) struct Auditor<'a> {
     matrix: &'a Matrix,
     mode: Mode,
@@ -169,6 +198,7 @@ pub(crate) struct Auditor<'a> {
     gold: Gold,
     equalizer: FrameEqualizer,
     place: u64,
+    held: usize,
     bytes: Vec<u8>,
     symbols: Vec<Symbol>,
     payload: Vec<Symbol>,
@@ -185,6 +215,7 @@ impl Drop for Auditor<'_> {
             gold: _,
             equalizer: _,
             place: _,
+            held: _,
             bytes: _,
             symbols: _,
             payload: _,
@@ -195,22 +226,24 @@ impl Drop for Auditor<'_> {
 }
 
 impl<'a> Model for Auditor<'a> {
-    ghost use Rattle.std.specs.Prelude.{◌≡◌, length};
-    ghost use Rattle.s2_mode.specs.Mode.{shape_in};
+    ghost use Rattle.std.specs.Prelude.{◌≡◌, ◌*◌, ◌≤◌, length};
+    ghost use Rattle.s2_mode.specs.Mode.{shape_in, symbols_in};
     ghost use Rattle.s2_equalize.specs.Wanted.{equalizer_by};
     ghost use Rattle.s2_audit.specs.Auditors.{AuditorState, HasRoom};
+    ghost use Rattle.s2_audit.specs.Reading.{last_bytes};
 
     ghost Value = { AuditorState };
 
     ghost view = { λ d. record {
-      terms = record { rows = d.matrix.now; mode = d.mode; number = d.gold; divisor = d.how.divisor; turns = d.how.turns; equalize = d.how.equalize };
-      place = d.place;
+      terms = record { rows = d.matrix.now; mode = d.mode; number = d.gold; divisor = d.how.divisor; turns = d.how.turns; equalize = d.how.equalize; resync = d.how.resync };
+      reach = record { place = d.place; held = last_bytes (4 * d.held) d.bytes.items };
       soft = d.soft.items;
       block = d.block.items;
     } };
 
     ghost invariant = { λ d. (d.matrix.now.shape ≡ shape_in d.mode) × (d.equalizer.equalizer ≡ equalizer_by d.how.equalize d.mode d.gold)
-        × HasRoom d.mode (length d.bytes.items) (length d.symbols.items) (length d.payload.items) (length d.soft.items) (length d.block.items) };
+        × HasRoom d.mode (length d.bytes.items) (length d.symbols.items) (length d.payload.items) (length d.soft.items) (length d.block.items)
+        × (d.held ≤ symbols_in d.mode) };
 }
 
 impl<'a> Auditor<'a> {
@@ -221,7 +254,7 @@ impl<'a> Auditor<'a> {
         how: Demodulation,
     ) -> Result<Auditor<'a>, AllocError>
         ensures terms { IfOk result (λ d. d.terms ≡ terms_of link.now how) }
-        ensures place { IfOk result (λ d. d.place ≡ 0) }
+        ensures reach { IfOk result (λ d. d.reach ≡ no_reach) }
     {
         let mode = link.mode();
         let origin = Symbol { i: 0, q: 0 };
@@ -232,6 +265,7 @@ impl<'a> Auditor<'a> {
             gold: Gold::of(alloc, link.number())?,
             equalizer: FrameEqualizer::new(alloc, mode, link.number(), how.equalize)?,
             place: 0,
+            held: 0,
             bytes: vec![in alloc; 0u8; 4 * mode.symbols()]?,
             symbols: vec![in alloc; origin; mode.symbols()]?,
             payload: vec![in alloc; origin; 90 * mode.slots()]?,
@@ -271,10 +305,12 @@ impl<'a> Auditor<'a> {
         ensures block { self.new.block ≡ self.old.block }
         ensures cause { CountsFault (R.count reader.old) (R.count reader.new) result }
     {
-        if at < self.place {
+        let overlap = self.place.saturating_sub(at);
+        if overlap > self.held as u64 {
             return Ok(false);
         }
-        if !read_at(reader, at - self.place, &mut self.bytes)? {
+        let skipped = at.saturating_sub(self.place);
+        if !refill(reader, 4 * overlap as usize, skipped, &mut self.bytes)? {
             return Ok(false);
         }
         find_by_bytes(
@@ -288,6 +324,7 @@ impl<'a> Auditor<'a> {
             &mut self.soft,
         );
         self.place = at + self.mode.symbols() as u64;
+        self.held = held_after(self.mode, self.how.resync);
         Ok(true)
     }
 

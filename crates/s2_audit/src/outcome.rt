@@ -34,7 +34,7 @@ fn find_by_block<R: CountedRead>(
 ) -> Result<Finding, Fault<'static>>
     requires symbols { CanCount (R.count symbols.old) }
     requires at { frame.at < max_symbols }
-    ensures finds { FindsByBlock auditor.old.terms auditor.old.place auditor.new.place (R.remaining symbols.old) (R.remaining symbols.new) auditor.old.block frame result }
+    ensures finds { FindsByBlock auditor.old.terms auditor.old.reach auditor.new.reach (R.remaining symbols.old) (R.remaining symbols.new) auditor.old.block frame result }
     ensures terms { auditor.new.terms ≡ auditor.old.terms }
     ensures read { result ≡ Err Fault.Read → R.count symbols.new ≡ R.count symbols.old + 1 }
     ensures no_read { result ≢ Err Fault.Read → R.count symbols.new ≡ R.count symbols.old }
@@ -64,7 +64,7 @@ fn audit_frame<R: CountedRead>(
     requires symbols { CanCount (R.count symbols.old) }
     requires certificates { CanCount (R.count certificates.old) }
     requires at { frame.at < max_symbols }
-    ensures audits { let ends = evidence_by R.remaining in AuditsFrame auditor.old.terms auditor.old.place auditor.new.place (ends symbols.old certificates.old) (ends symbols.new certificates.new) frame result }
+    ensures audits { let ends = evidence_by R.remaining in AuditsFrame auditor.old.terms auditor.old.reach auditor.new.reach (ends symbols.old certificates.old) (ends symbols.new certificates.new) frame result }
     ensures terms { auditor.new.terms ≡ auditor.old.terms }
     ensures read { result ≡ Err Fault.Read → R.count symbols.new + R.count certificates.new ≡ R.count symbols.old + R.count certificates.old + 1 }
     ensures no_read { result ≢ Err Fault.Read → (R.count symbols.new ≡ R.count symbols.old) × (R.count certificates.new ≡ R.count certificates.old) }
@@ -105,7 +105,7 @@ fn frame_outcome<R: CountedRead>(
     requires symbols { CanCount (R.count symbols.old) }
     requires certificates { CanCount (R.count certificates.old) }
     requires at { frame.at < max_symbols }
-    ensures outcome { let ends = evidence_by R.remaining in FrameOutcome auditor.old.terms auditor.old.place auditor.new.place (ends symbols.old certificates.old) (ends symbols.new certificates.new) frame result }
+    ensures outcome { let ends = evidence_by R.remaining in FrameOutcome auditor.old.terms auditor.old.reach auditor.new.reach (ends symbols.old certificates.old) (ends symbols.new certificates.new) frame result }
     ensures terms { auditor.new.terms ≡ auditor.old.terms }
     ensures read { result ≡ Err Fault.Read → R.count symbols.new + R.count certificates.new ≡ R.count symbols.old + R.count certificates.old + 1 }
     ensures no_read { result ≢ Err Fault.Read → (R.count symbols.new ≡ R.count symbols.old) × (R.count certificates.new ≡ R.count certificates.old) }
@@ -127,7 +127,7 @@ pub(crate) fn entry_outcome<R: CountedRead>(
     requires symbols { CanCount (R.count symbols.old) }
     requires certificates { CanCount (R.count certificates.old) }
     requires small { IsSmallEntry entry }
-    ensures outcome { let ends = evidence_by R.remaining in EntryOutcome auditor.old.terms auditor.old.place auditor.new.place (ends symbols.old certificates.old) (ends symbols.new certificates.new) entry result }
+    ensures outcome { let ends = evidence_by R.remaining in EntryOutcome auditor.old.terms auditor.old.reach auditor.new.reach (ends symbols.old certificates.old) (ends symbols.new certificates.new) entry result }
     ensures terms { auditor.new.terms ≡ auditor.old.terms }
     ensures read { result ≡ Err Fault.Read → R.count symbols.new + R.count certificates.new ≡ R.count symbols.old + R.count certificates.old + 1 }
     ensures no_read { result ≢ Err Fault.Read → (R.count symbols.new ≡ R.count symbols.old) × (R.count certificates.new ≡ R.count certificates.old) }

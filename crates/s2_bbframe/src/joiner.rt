@@ -84,15 +84,14 @@ fn incomplete_by(inside: bool, held: usize, syncd: u16, field: &[u8]) -> usize
 }
 
 // how the run continues: with the held body if SYNCD names its next place, else after the place that SYNCD names
-fn resumed(was_inside: bool, body: &[u8], held: usize, syncd: u16, field: &[u8]) -> Option<Join>
+fn resumed(was_inside: bool, held: usize, syncd: u16, field: &[u8]) -> Option<Join>
     requires held { held ≤ body_bytes }
-    requires body { length body.now ≡ body_bytes }
     requires some { 0 < length field.now }
     requires syncd { (syncd ≡ no_syncd) ⊎ (syncd / 8 < length field.now) }
-    ensures lost { result ≡ None → fed (if was_inside then Some (take held body.now) else None) syncd field.now ≡ still None }
+    ensures lost { result ≡ None → (body : List ℕ) → length body ≡ body_bytes → fed (if was_inside then Some (take held body) else None) syncd field.now ≡ still None }
     ensures start { IfSome result (λ r. r.start ≤ body_bytes) }
     ensures from { IfSome result (λ r. r.from ≤ length field.now) }
-    ensures run { IfSome result (λ r. fed (if was_inside then Some (take held body.now) else None) syncd field.now ≡ inside (run_of (take r.start body.now) (drop r.from field.now))) }
+    ensures run { IfSome result (λ r. (body : List ℕ) → length body ≡ body_bytes → fed (if was_inside then Some (take held body) else None) syncd field.now ≡ inside (run_of (take r.start body) (drop r.from field.now))) }
 {
     if was_inside && usize::from(syncd) == next_place(held, field) {
         return Some(Join {
@@ -160,13 +159,7 @@ impl Joiner {
             return nothing;
         }
         let was_inside = mem::take(&mut self.inside);
-        let Some(Join { start, from }) = resumed(
-            was_inside,
-            &self.body,
-            self.held,
-            header.syncd,
-            field,
-        ) else {
+        let Some(Join { start, from }) = resumed(was_inside, self.held, header.syncd, field) else {
             return nothing;
         };
         let Bodies { held, good, bad } = read_bodies(

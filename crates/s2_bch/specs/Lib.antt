@@ -10,5 +10,6 @@ pub mod Codes
 pub mod Decoding
 pub mod Workspaces
 pub mod Ready
+pub mod Errors
 pub mod Division
 pub mod Registers

@@ -7,6 +7,7 @@ ghost use Rattle.s2_bch.specs.Generators.{generator_of};
 ghost use Rattle.s2_bch.specs.Ready.{IsWorkspace};
 ghost use Rattle.s2_bch.specs.Codes.{IsBchWord, IsBchWordOf, IsWithin};
 ghost use Rattle.s2_bch.specs.Decoding.{nearest};
+ghost use Rattle.s2_bch.specs.Errors.{order_of, HaveSameValuesIn, IsOnlyIn};
 
 use crate::corrector::FieldWorkspace;
 use crate::divider::{encode_into, rest, table_of};
@@ -174,21 +175,13 @@ fn decode(
 
 /// Flips bits in a copy of the word: the only ones whose change can make it a codeword, at most t.
 /// Returns their number. `rest` is the remainder of its division.
-fn correct_errors(
-    workspace: &mut Workspace,
-    mode: Mode,
-    rest: &[bool],
-    candidate: &mut [bool],
-) -> usize
-    requires valid { IsMode mode }
-    requires sizes { HasCodeSizes mode }
-    requires workspace { IsWorkspace mode workspace.old }
-    requires word { length candidate.old ≡ k_of mode }
-    requires rest { rest.now ≡ rest_of (drop 1 (generator_of mode)) (kbch_of mode) candidate.old }
-    ensures workspace { IsWorkspace mode workspace.new }
-    ensures size { length candidate.new ≡ k_of mode }
+fn correct_errors(workspace: &mut Workspace, rest: &[bool], candidate: &mut [bool]) -> usize
+    requires short { length candidate.old < order_of workspace.old }
+    requires rest { HaveSameValuesIn workspace.old rest.now candidate.old }
+    ensures same { workspace.new ≡ workspace.old }
+    ensures size { length candidate.new ≡ length candidate.old }
     ensures count { result ≡ differences (length candidate.old) candidate.old candidate.new }
-    ensures only { (v : List Bool) → IsBchWord mode v → differences (length candidate.old) candidate.old v ≤ t_of mode → candidate.new ≡ v }
+    ensures only { IsOnlyIn workspace.old candidate.old candidate.new }
 {
     match workspace {
         Workspace::Normal(workspace) => workspace.correct_errors(16, rest, candidate),
@@ -218,7 +211,7 @@ fn correct(
     ensures unchanged { IfNone result (word.new ≡ word.old) }
 {
     candidate.copy_from_slice(word);
-    let count = correct_errors(workspace, mode, bits, candidate);
+    let count = correct_errors(workspace, bits, candidate);
     if count > mode.t() {
         return None;
     }

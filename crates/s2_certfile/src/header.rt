@@ -1,5 +1,5 @@
 //! The front and the header of a file. Each reader returns a value and the bytes after it.
-ghost use Rattle.std.specs.Prelude.{◌≡◌, IfOk};
+ghost use Rattle.std.specs.Prelude.{◌≡◌, ℕ, IfOk};
 ghost use Rattle.std.specs.Int.{w16, w32};
 ghost use Rattle.s2_mode.specs.Shape.{shape_of};
 ghost use Rattle.s2_certfile.specs.Format.{letter_at, version_at, front_at, number_at, count_at, header_at, IsCount, IsHeader};
@@ -97,12 +97,11 @@ fn number32(bytes: &[u8]) -> Result<(u32, &[u8]), CertFault>
 fn read_count(
     version: Version,
     group: u16,
-    groups: u16,
     q: u16,
     bytes: &[u8],
 ) -> Result<(usize, &[u8]), CertFault>
-    ensures is { Reads (λ x. (x.0, x.1.now)) result (count_at version (shape_of group groups q) bytes.now) }
-    ensures counted { IfOk result (λ x. IsCount version (shape_of group groups q) x.0) }
+    ensures is { (groups : ℕ) → Reads (λ x. (x.0, x.1.now)) result (count_at version (shape_of group groups q) bytes.now) }
+    ensures counted { IfOk result (λ x. (groups : ℕ) → IsCount version (shape_of group groups q) x.0) }
 {
     match version {
         Version::Listed => {
@@ -123,7 +122,7 @@ pub(crate) fn read_header(version: Version, bytes: &[u8]) -> Result<(FileHeader,
     let (groups, rest) = number16(rest)?;
     let (q, rest) = number16(rest)?;
     let (scale, rest) = number16(rest)?;
-    let (count, rest) = read_count(version, group, groups, q, rest)?;
+    let (count, rest) = read_count(version, group, q, rest)?;
     let Some(shape) = Shape::new(usize::from(group), usize::from(groups), usize::from(q)) else {
         return Err(CertFault::Shape);
     };

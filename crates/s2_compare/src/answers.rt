@@ -3,6 +3,7 @@ ghost use Rattle.std.specs.Prelude.{◌≡◌, ◌≢◌, ◌≤◌, ◌*◌, Ma
 ghost use Rattle.s2_bits.specs.Bits.{differences};
 ghost use Rattle.s2_mode.specs.Limits.{max_bits};
 ghost use Rattle.s2_mode.specs.Shape.{code_bits};
+ghost use Rattle.s2_rows.specs.Rows.{Rows};
 ghost use Rattle.s2_matrix.specs.Code.{code_of, IsCodeword};
 ghost use Rattle.s2_check.specs.Cost.{cost, IsMostLikely};
 ghost use Rattle.s2_check.specs.Checking.{IsCertificate};
@@ -70,14 +71,9 @@ fn shown_by(matrix: &Matrix, view: &CertView<'_>) -> Option<Verdict>
 }
 
 /// The answer for a codeword that is not the certified one.
-fn codeword_answer(matrix: &Matrix, view: &CertView<'_>, word: &Bits, changed: usize) -> Compared
-    requires certificate { IsCertificate matrix.now view.now }
-    requires likely { IsMostLikely (code_of matrix.now) view.now.soft view.now.bits }
+fn codeword_answer(view: &CertView<'_>, word: &Bits, changed: usize) -> Compared
     requires long { length word.now ≡ code_bits view.now.rows.shape }
-    requires codeword { IsCodeword (code_of matrix.now) word.now }
-    requires other { word.now ≢ view.now.bits }
-    requires changed { changed ≡ changed_bits view.now word.now }
-    ensures { AnswersWord matrix.now view.now word.now result }
+    ensures { (rows : Rows) → IsCertificate rows view.now → IsMostLikely (code_of rows) view.now.soft view.now.bits → IsCodeword (code_of rows) word.now → word.now ≢ view.now.bits → changed ≡ changed_bits view.now word.now → AnswersWord rows view.now word.now result }
 {
     let cost = cost_under(view, word);
     let best = view.cost();
@@ -116,7 +112,7 @@ fn word_answer(
         };
     }
     match matrix.odd_check(word) {
-        None => codeword_answer(matrix, view, word, changed),
+        None => codeword_answer(view, word, changed),
         Some(_) => Compared::NoCodeword {
             checks: odd_checks(matrix, word, odd),
             changed,

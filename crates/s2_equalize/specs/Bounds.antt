@@ -49,7 +49,10 @@ smoothed_bound = 2 ^ 22
 abbrev pub factor_bound : ℕ
 factor_bound = 2 ^ 14
 
+-- rotations over up to four blocks
+abbrev pub turns_bound : ℕ
+turns_bound = 2 ^ 19
+
 -- a list has the rotations over 0 to 4 blocks
-pub record AreTurns (c : Complex) (list : List Complex) : Type 0 where
-  pub each : (n : ℕ) → n < 5 → complex_at list n ≡ turns c n
-  pub small : (n : ℕ) → n < 5 → IsWithin (2 ^ 19) (complex_at list n)
+abbrev pub AreTurns : Complex → List Complex → Type 0
+AreTurns c list = (n : ℕ) → n < 5 → complex_at list n ≡ turns c n

@@ -1,6 +1,6 @@
 //! The rotation of the carrier from block to block.
 ghost use Rattle.std.specs.Prelude.{◌≡◌, ℕ, ◌*◌, ◌^◌, ◌≤◌, ◌<◌, length};
-ghost use Rattle.s2_equalize.specs.Bounds.{AreTurns, AreWithin, gain_bound, turn_sum_bound};
+ghost use Rattle.s2_equalize.specs.Bounds.{AreTurns, AreWithin, gain_bound, turn_sum_bound, turns_bound};
 ghost use Rattle.s2_equalize.specs.Complex.{IsWithin, root};
 ghost use Rattle.s2_equalize.specs.Complex as by_complex;
 ghost use Rattle.s2_equalize.specs.Gains.{turn_of, turn_sum};
@@ -73,7 +73,8 @@ pub(crate) fn turned_once(a: Complex, turn: Complex) -> Complex
 /// The rotations over 0 to 4 blocks.
 pub(crate) fn turns(turn: Complex) -> [Complex; 5]
     requires { IsWithin 32768 turn }
-    ensures { AreTurns turn result }
+    ensures are { AreTurns turn result }
+    ensures most { AreWithin turns_bound result }
 {
     let one = turned_once(NO_TURN, turn);
     let two = turned_once(one, turn);

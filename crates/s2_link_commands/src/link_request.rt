@@ -3,10 +3,10 @@ ghost use Rattle.std.specs.Prelude.{◌≡◌, ◌≢◌, ◌+◌, ◌≤◌, If
 ghost use Rattle.s2_mode.specs.Counts.{CanCount};
 ghost use Rattle.s2_io.specs.Files.{CanStart};
 ghost use Rattle.s2_io.specs.Screens.{CanNote};
-ghost use Rattle.s2_receive.specs.Sinks.{wanted_count};
+ghost use Rattle.s2_link_commands.specs.Failed.{records_failed};
 
 use crate::opening::{Reading, Watching, open_link};
-use crate::records::{Records, finish_command, open_records};
+use crate::records::{RecordNames, Records, finish_command, open_records};
 use crate::setup::setup_of;
 use s2_commands::{DemodOptions, LinkFiles, RunOptions, demod_command, mod_command, run_command};
 use s2_io::{Console, Disk, Exit, Meter, Output, Pace, Show, Terminal, Truncating};
@@ -15,9 +15,7 @@ use s2_mode::{CountedRead, CountedWrite, Mode};
 use s2_notes::{exit_after, note_beginning, note_left_out};
 use s2_opening::{Opens, Unserved, show_on};
 use s2_resync::LeftOut;
-use s2_words::{
-    DemodArguments, LinkArguments, ModArguments, Progress, RecordArguments, RunArguments, Seeds,
-};
+use s2_words::{DemodArguments, LinkArguments, ModArguments, Progress, RunArguments, Seeds};
 use std::alloc::Global;
 use std::time::Clock;
 
@@ -36,7 +34,7 @@ struct FileWords<'a> {
     /// The names of its row file, its input and its output, in the order in which they are opened.
     names: [&'a str; 3],
     reading: Reading,
-    records: RecordArguments<'a>,
+    records: RecordNames<'a>,
     progress: Progress,
     /// The name of its packet file, if it reads one and notes are not suppressed.
     noted_packets: Option<&'a str>,
@@ -57,7 +55,7 @@ fn sending_words<'a>(words: &ModArguments<'a>) -> FileWords<'a> {
             buffered: true,
             resync: words.resync,
         },
-        records: words.records,
+        records: RecordNames::Sent(words.records),
         progress: words.progress,
         noted_packets: noted(words.quiet, words.packets),
         notes_gaps: false,
@@ -73,7 +71,7 @@ fn receiving_words<'a>(words: &DemodArguments<'a>) -> FileWords<'a> {
             buffered: false,
             resync: false,
         },
-        records: words.records,
+        records: RecordNames::Received(words.records),
         progress: words.progress,
         noted_packets: None,
         notes_gaps: !words.notes.quiet,
@@ -88,7 +86,7 @@ fn looping_words<'a>(words: &RunArguments<'a>) -> FileWords<'a> {
             buffered: true,
             resync: words.resync,
         },
-        records: words.records,
+        records: RecordNames::Received(words.records),
         progress: words.progress,
         noted_packets: noted(words.notes.quiet, words.packets),
         notes_gaps: false,
@@ -179,13 +177,11 @@ fn run_on_files<I: CountedRead, W: Output, F: Output, O: CountedWrite, E: Counte
     alloc: Global,
 ) -> Exit
     requires files { CanStart files.old }
-    requires records { wanted_count (λ t. F.count t.to) records.old.0 + (wanted_count (λ t. F.count t.to) records.old.1.0
-        + (wanted_count (λ t. F.count t.to) records.old.1.1.0 + wanted_count (λ b. F.count b.to.to) records.old.1.1.1)) ≡ 0 }
+    requires records { records_failed (λ t. F.count t.to) (λ b. F.count b.to.to) records.old ≡ 0 }
     requires console { CanNote console.old }
     requires notes { CanCount (E.count notes.old) }
     ensures quiet { result ≢ Exit.Fault → CanCount console.new.errors_failed }
-    ensures few { wanted_count (λ t. F.count t.to) records.new.0 + (wanted_count (λ t. F.count t.to) records.new.1.0
-        + (wanted_count (λ t. F.count t.to) records.new.1.1.0 + wanted_count (λ b. F.count b.to.to) records.new.1.1.1)) ≤ 1 }
+    ensures few { records_failed (λ t. F.count t.to) (λ b. F.count b.to.to) records.new ≤ 1 }
 {
     match request {
         LinkRequest::Mod(words) => mod_command(
@@ -193,15 +189,15 @@ fn run_on_files<I: CountedRead, W: Output, F: Output, O: CountedWrite, E: Counte
             setup,
             words,
             files,
-            &mut records.1.1,
+            &mut records.1,
             console,
             notes,
         ),
         LinkRequest::Demod(_, options) => {
-            demod_command(alloc, setup, options, files, records, console, notes)
+            demod_command(alloc, setup, options, files, &mut records.0, console, notes)
         }
         LinkRequest::Run(_, options) => {
-            run_command(alloc, setup, options, files, records, console, notes)
+            run_command(alloc, setup, options, files, &mut records.0, console, notes)
         }
     }
 }
@@ -220,8 +216,7 @@ fn open_all<'a, 'm, P: Opens<'a>, M: Meter>(
 ) -> Result<Opened<'m, P::Input, P::Output, M>, Unserved<'a>>
     requires { P.opened opener.old ≡ 0 }
     ensures start { IfOk result (λ files. CanStart files.0) }
-    ensures fresh { IfOk result (λ files. wanted_count (λ t. P.Output.count t.to) files.1.0 + (wanted_count (λ t. P.Output.count t.to) files.1.1.0
-        + (wanted_count (λ t. P.Output.count t.to) files.1.1.1.0 + wanted_count (λ b. P.Output.count b.to.to) files.1.1.1.1)) ≡ 0) }
+    ensures fresh { IfOk result (λ files. records_failed (λ t. P.Output.count t.to) (λ b. P.Output.count b.to.to) files.1 ≡ 0) }
 {
     let files = open_link(opener, alloc, meter, unseen, words.names, words.reading)?;
     let records = open_records(opener, alloc, mode, words.records)?;

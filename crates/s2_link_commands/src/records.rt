@@ -1,22 +1,42 @@
 //! The files of records: opened, each with the sink that writes to it, and finished.
 ghost use Rattle.std.specs.Prelude.{◌≡◌, ◌≢◌, ◌+◌, ◌<◌, ◌≤◌, IfOk, OnErr, OnOk};
 ghost use Rattle.s2_receive.specs.Sinks.{wanted_count};
+ghost use Rattle.s2_link_commands.specs.Failed.{received_failed, records_failed, sent_failed};
 
 use s2_io::{Exit, Output, Truncating};
 use s2_mode::{Mode, WriteFault};
 use s2_opening::{Opens, Unserved};
-use s2_records::{Bbframes, Certificates, Codewords, Values};
-use s2_words::RecordArguments;
+use s2_records::{Bbframes, Certificates, Codewords, Labels, PlainSymbols, Values};
+use s2_words::{RecordArguments, SentRecordArguments};
 use std::alloc::Global;
 
-/// The sinks of records, each if its file is given. Frames go to them in this order.
-pub(crate) type Records<W> = (
+/// The sinks of a receiver's records, each if its file is given. Frames go to them in this order.
+type ReceivedRecords<W> = (
     Option<Certificates<W>>,
     (
         Option<Values<W>>,
         (Option<Codewords<W>>, Option<Bbframes<W>>),
     ),
 );
+
+/// The sinks of a transmitter's records, each if its file is given. Frames go to them in this order.
+type SentRecords<W> = (
+    Option<Codewords<W>>,
+    (
+        Option<Bbframes<W>>,
+        (Option<Labels<W>>, Option<PlainSymbols<W>>),
+    ),
+);
+
+/// The sinks of records: those of the receiver, and those of the transmitter. A command has sinks of one end only.
+pub(crate) type Records<W> = (ReceivedRecords<W>, SentRecords<W>);
+
+/// The names of a command's files of records.
+#[derive(Clone, Copy)]
+pub(crate) enum RecordNames<'a> {
+    Received(RecordArguments<'a>),
+    Sent(SentRecordArguments<'a>),
+}
 
 /// Opens a file of certificates, if a name is given.
 fn open_certificates<'a, P: Opens<'a>>(
@@ -102,22 +122,102 @@ fn open_bbframes<'a, P: Opens<'a>>(
     }
 }
 
-/// Opens the files of records, those that are given, after the other files.
-pub(crate) fn open_records<'a, P: Opens<'a>>(
+/// Opens a file of labels, if a name is given.
+fn open_labels<'a, P: Opens<'a>>(
+    opener: &mut P,
+    alloc: Global,
+    mode: Mode,
+    name: Option<&'a str>,
+) -> Result<Option<Labels<Truncating<P::Output>>>, Unserved<'a>>
+    requires room { P.opened opener.old < 8 }
+    ensures room { OnOk result (P.opened opener.new ≤ P.opened opener.old + 1) }
+    ensures fresh { IfOk result (λ made. wanted_count (λ sink. P.Output.count sink.to.to) made ≡ 0) }
+{
+    let Some(name) = name else {
+        return Ok(None);
+    };
+    let file = Truncating::new(opener.write(name)?);
+    match Labels::new(alloc, mode, file) {
+        Ok(sink) => Ok(Some(sink)),
+        Err(_) => Err(Unserved::NoMemory),
+    }
+}
+
+/// Opens a file of symbols before scrambling, if a name is given.
+fn open_plain_symbols<'a, P: Opens<'a>>(
+    opener: &mut P,
+    alloc: Global,
+    mode: Mode,
+    name: Option<&'a str>,
+) -> Result<Option<PlainSymbols<Truncating<P::Output>>>, Unserved<'a>>
+    requires room { P.opened opener.old < 8 }
+    ensures room { OnOk result (P.opened opener.new ≤ P.opened opener.old + 1) }
+    ensures fresh { IfOk result (λ made. wanted_count (λ sink. P.Output.count sink.to.to) made ≡ 0) }
+{
+    let Some(name) = name else {
+        return Ok(None);
+    };
+    let file = Truncating::new(opener.write(name)?);
+    match PlainSymbols::new(alloc, mode, file) {
+        Ok(sink) => Ok(Some(sink)),
+        Err(_) => Err(Unserved::NoMemory),
+    }
+}
+
+/// Opens the files of a receiver's records, those that are given.
+fn open_received<'a, P: Opens<'a>>(
     opener: &mut P,
     alloc: Global,
     mode: Mode,
     words: RecordArguments<'a>,
-) -> Result<Records<Truncating<P::Output>>, Unserved<'a>>
+) -> Result<ReceivedRecords<Truncating<P::Output>>, Unserved<'a>>
     requires room { P.opened opener.old ≤ 4 }
-    ensures fresh { IfOk result (λ made. wanted_count (λ file. P.Output.count file.to) made.0 + (wanted_count (λ file. P.Output.count file.to) made.1.0
-        + (wanted_count (λ file. P.Output.count file.to) made.1.1.0 + wanted_count (λ sink. P.Output.count sink.to.to) made.1.1.1)) ≡ 0) }
+    ensures fresh { IfOk result (λ made. received_failed (λ file. P.Output.count file.to) (λ sink. P.Output.count sink.to.to) made ≡ 0) }
 {
     let certificates = open_certificates(opener, alloc, mode, words.certificates)?;
     let values = open_values(opener, alloc, mode, words.values)?;
     let codewords = open_codewords(opener, alloc, mode, words.codewords)?;
     let bbframes = open_bbframes(opener, alloc, mode, words.bbframes)?;
     Ok((certificates, (values, (codewords, bbframes))))
+}
+
+/// Opens the files of a transmitter's records, those that are given.
+fn open_sent<'a, P: Opens<'a>>(
+    opener: &mut P,
+    alloc: Global,
+    mode: Mode,
+    words: SentRecordArguments<'a>,
+) -> Result<SentRecords<Truncating<P::Output>>, Unserved<'a>>
+    requires room { P.opened opener.old ≤ 4 }
+    ensures fresh { IfOk result (λ made. sent_failed (λ file. P.Output.count file.to) (λ sink. P.Output.count sink.to.to) made ≡ 0) }
+{
+    let codewords = open_codewords(opener, alloc, mode, words.codewords)?;
+    let bbframes = open_bbframes(opener, alloc, mode, words.bbframes)?;
+    let labels = open_labels(opener, alloc, mode, words.labels)?;
+    let symbols = open_plain_symbols(opener, alloc, mode, words.plain_symbols)?;
+    Ok((codewords, (bbframes, (labels, symbols))))
+}
+
+/// Opens the files of records, those that are given, after the other files.
+pub(crate) fn open_records<'a, P: Opens<'a>>(
+    opener: &mut P,
+    alloc: Global,
+    mode: Mode,
+    names: RecordNames<'a>,
+) -> Result<Records<Truncating<P::Output>>, Unserved<'a>>
+    requires room { P.opened opener.old ≤ 4 }
+    ensures fresh { IfOk result (λ made. records_failed (λ file. P.Output.count file.to) (λ sink. P.Output.count sink.to.to) made ≡ 0) }
+{
+    match names {
+        RecordNames::Received(words) => {
+            let received = open_received(opener, alloc, mode, words)?;
+            Ok((received, (None, (None, (None, None)))))
+        }
+        RecordNames::Sent(words) => {
+            let sent = open_sent(opener, alloc, mode, words)?;
+            Ok(((None, (None, (None, None))), sent))
+        }
+    }
 }
 
 /// Truncates a file if nothing was written to it.
@@ -130,10 +230,11 @@ fn finish_file<W: Output + Drop>(file: Option<Truncating<W>>) -> Result<(), Writ
     }
 }
 
-/// Truncates each file of records to which nothing was written.
-fn finish_records<W: Output + Drop>(records: Records<Truncating<W>>) -> Result<(), WriteFault>
-    requires { wanted_count (λ t. W.count t.to) records.0 + (wanted_count (λ t. W.count t.to) records.1.0
-        + (wanted_count (λ t. W.count t.to) records.1.1.0 + wanted_count (λ b. W.count b.to.to) records.1.1.1)) ≤ 1 }
+/// Truncates each file of a receiver's records to which nothing was written.
+fn finish_received<W: Output + Drop>(
+    records: ReceivedRecords<Truncating<W>>,
+) -> Result<(), WriteFault>
+    requires { received_failed (λ t. W.count t.to) (λ b. W.count b.to.to) records ≤ 1 }
 {
     let (certificates, (values, (codewords, bbframes))) = records;
     let certificates = finish_file(certificates.map(Certificates::into_inner));
@@ -143,6 +244,28 @@ fn finish_records<W: Output + Drop>(records: Records<Truncating<W>>) -> Result<(
     certificates.and(values).and(codewords).and(bbframes)
 }
 
+/// Truncates each file of a transmitter's records to which nothing was written.
+fn finish_sent<W: Output + Drop>(records: SentRecords<Truncating<W>>) -> Result<(), WriteFault>
+    requires { sent_failed (λ t. W.count t.to) (λ b. W.count b.to.to) records ≤ 1 }
+{
+    let (codewords, (bbframes, (labels, symbols))) = records;
+    let codewords = finish_file(codewords.map(Codewords::into_inner));
+    let bbframes = finish_file(bbframes.map(Bbframes::into_inner));
+    let labels = finish_file(labels.map(Labels::into_inner));
+    let symbols = finish_file(symbols.map(PlainSymbols::into_inner));
+    codewords.and(bbframes).and(labels).and(symbols)
+}
+
+/// Truncates each file of records to which nothing was written.
+fn finish_records<W: Output + Drop>(records: Records<Truncating<W>>) -> Result<(), WriteFault>
+    requires { records_failed (λ t. W.count t.to) (λ b. W.count b.to.to) records ≤ 1 }
+{
+    let (received, sent) = records;
+    let received = finish_received(received);
+    let sent = finish_sent(sent);
+    received.and(sent)
+}
+
 /// The end of a command with records. If its output was begun, each file of records to which nothing was written is
 /// truncated.
 pub(crate) fn finish_command<W: Output + Drop>(
@@ -150,8 +273,7 @@ pub(crate) fn finish_command<W: Output + Drop>(
     begun: bool,
     records: Records<Truncating<W>>,
 ) -> Result<Exit, WriteFault>
-    requires { wanted_count (λ t. W.count t.to) records.0 + (wanted_count (λ t. W.count t.to) records.1.0
-        + (wanted_count (λ t. W.count t.to) records.1.1.0 + wanted_count (λ b. W.count b.to.to) records.1.1.1)) ≤ 1 }
+    requires { records_failed (λ t. W.count t.to) (λ b. W.count b.to.to) records ≤ 1 }
     ensures { OnErr result (exit ≢ Exit.Fault) }
 {
     if !begun {

@@ -3,7 +3,7 @@ use Rattle.s2_modem.proofs.Names.{◌≡◌, ℕ, zero, suc, ◌+◌, ◌*◌, �
 use Rattle.std.specs.Prelude.{negsuc, ◌+ℤ◌, ◌-ℤ◌, ◌*ℤ◌, unsigned_abs}
 use lib.IntN.{pos-*ℤ-pos, negsuc-*ℤ-negsuc, *ℤ_comm}
 use Rattle.std.specs.List.{sum_by}
-use Rattle.s2_modem.specs.Correlation.{correlation, correlation_over, plus}
+use Rattle.s2_message.specs.Correlation.{correlation, correlation_over, plus}
 use Rattle.s2_modem.specs.Front.{clean_correlation}
 use Rattle.s2_plframe.specs.Search.{mismatches}
 use Rattle.s2_plframe.specs.Header.{header_of}

@@ -113,18 +113,21 @@ pub use Rattle.s2_receive.proofs.Reception.{front, gives}
 pub use Rattle.s2_receive.proofs.RunLemmas.{after-append, lines-append, packets-append}
 pub use Rattle.s2_receive.proofs.SameSymbols.{all_met, same_met}
 pub use Rattle.s2_receive.proofs.StepLemmas.{symbols_least}
-pub use Rattle.s2_modem.specs.Errors.{error_at, known_places, payload_places, squared_distance}
-pub use Rattle.s2_modem.specs.Figures.{FigureMeter, meter_of, sent_frame}
-unfoldable pub use Rattle.s2_modem.specs.Figures.{figures_of}
-pub use Rattle.s2_modem.specs.Header.{symbol_energy}
-unfoldable pub use Rattle.s2_modem.specs.Header.{energy_of, header_errors}
+pub use Rattle.s2_message.specs.Errors.{error_at, known_places, payload_places, squared_distance}
+pub use Rattle.s2_message.specs.Figures.{FigureMeter, meter_of, sent_frame}
+unfoldable pub use Rattle.s2_message.specs.Figures.{figures_of}
+pub use Rattle.s2_message.specs.Header.{symbol_energy}
+unfoldable pub use Rattle.s2_message.specs.Header.{energy_of, header_errors}
 pub use Rattle.s2_modem.specs.Both.{AreBytes, FramePlace, IsByte, IsDelivered, IsDeliveredCertified, ReceivesAll, certified_lines, energy_over, run_places, sent_symbols, sums_over, totals_of}
 pub use Rattle.s2_modem.specs.Front.{IsCleanFrame, clean_energy, clean_figures, clean_figures_by}
 pub use Rattle.s2_modem.specs.Headline.{ArrivalLaw, BothCodesLaw, CorrectsWithin, IsSent, ReceivesAllLaw, ReceivesScattered, ScatteredFrameLaw, sent_places}
-pub use Rattle.s2_modem.specs.DeciderState.{Derotating, FindsWord, DeciderState, Reads, decides, decision_held, figures_found, meter_by, upright}
+pub use Rattle.s2_message.specs.declared.options.FrameOptions.{FrameOptions}
+pub use Rattle.s2_message.specs.Decisions.{bits_decision, decision_with, delivered_by, field_in, header_in, levelled_frame, measured, message_of, outcome_by, quarters, received_word, soft_frame, upright_frame, word_decision}
+pub use Rattle.s2_message.specs.Reading.{FrameReader, HasFrame, decision_held}
+pub use Rattle.s2_modem.specs.DeciderState.{DeciderState, decides}
 pub use Rattle.s2_modem.specs.Promise.{Arriving, CallsLaw, Headline, IsCutAt, IsHeadline, IsNext, IsReadable, FramePromises, IsFrameAt, KeepsHeadline, Place, report_at, RunsHeadline, closed_packets, decision_from, found_at, frame_from, is_delivered, passed_at, past, stands, wrong_bits}
 pub use Rattle.s2_modem.specs.Reception.{AllAsLikely, TrueReports, IsAsLikely, IsCertifiedBy, IsCorrected, Receiver, is_searched_again, link_rules, rules_for, seen, sought_by}
-pub use Rattle.s2_modem.specs.Reports.{IsUndecided, decided_symbols, decision_by, decision_on, delivered_by, field_in, figures_by, frame_soft, frame_turn, header_in, measured, message_of, outcome_by, received_word, upright_symbols}
+pub use Rattle.s2_modem.specs.Reports.{IsUndecided, decided_symbols, decision_by, decision_of, decision_on, figures_by, frame_soft, frame_turn, options_of, upright_symbols}
 unfoldable pub use Rattle.s2_modem.specs.Reports.{frame_decision}
 pub use Rattle.s2_modem.specs.Steps.{DeliversAll}
 pub use Rattle.s2_modem.specs.Streams.{AreEach, CameWithoutNoise, FirstFramesLaw, IsClear, IsHeard, IsWholeFrame, OneStreamLaw, places_in}

@@ -14,9 +14,9 @@ use Rattle.s2_plframe.specs.declared.receive.found.Found.TheVariants as founds
 use Rattle.s2_soft.specs.Divisors.{IsDivisor}
 use Rattle.s2_soft.specs.Soft.{soft_values}
 use Rattle.s2_soft.specs.Clean.{DecidesTo}
-use Rattle.s2_modem.specs.Errors.{known_places, payload_places}
-use Rattle.s2_modem.specs.Figures.{sent_frame}
-use Rattle.s2_modem.specs.Header.{symbol_energy}
+use Rattle.s2_message.specs.Errors.{known_places, payload_places}
+use Rattle.s2_message.specs.Figures.{sent_frame}
+use Rattle.s2_message.specs.Header.{symbol_energy}
 use Rattle.s2_tuning.specs.Tuning.{Tuning}
 use Rattle.s2_report.specs.declared.figures.Correlation.{Correlation}
 use Rattle.s2_report.specs.declared.figures.Figures.{Figures}

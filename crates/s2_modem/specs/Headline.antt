@@ -26,7 +26,8 @@ use Rattle.s2_send.specs.Laws.{IsLinkOf, ReadFails}
 use Rattle.s2_send.specs.Transmitter.{Transmitter}
 use Rattle.s2_send.specs.Sending.{AreCodewords, TransmitterRuns, joined}
 use Rattle.s2_send.specs.Frames.{IsCodewordFor}
-use Rattle.s2_modem.specs.Reports.{frame_soft, received_word, message_of, frame_decision}
+use Rattle.s2_message.specs.Decisions.{received_word, message_of}
+use Rattle.s2_modem.specs.Reports.{frame_soft, frame_decision}
 use Rattle.s2_report.specs.ReportLines.{end_line}
 use Rattle.s2_modem.specs.Reception.{link_rules, ReceivesTotals}
 use Rattle.s2_modem.specs.Both.{AreBytes, FramePlace, IsDelivered, IsDeliveredCertified, ReceivesAll, certified_lines, run_places, totals_of}

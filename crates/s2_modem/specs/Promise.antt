@@ -33,7 +33,8 @@ use Rattle.s2_report.specs.declared.report.Outcome.{Outcome}
 use Rattle.s2_report.specs.declared.report.Outcome.TheVariants.{Delivered}
 use Rattle.s2_report.specs.declared.report.Report.{Report}
 use Rattle.s2_report.specs.declared.totals.Totals.{Totals}
-use Rattle.s2_modem.specs.Reports.{frame_soft, frame_decision, received_word}
+use Rattle.s2_message.specs.Decisions.{received_word}
+use Rattle.s2_modem.specs.Reports.{frame_soft, frame_decision}
 use Rattle.s2_modem.specs.Reception.{Receiver, ReceivesTotals, IsAsLikely, AllAsLikely, IsCorrected, TrueReports, is_searched_again, link_rules, rules_for, seen, sought_by}
 use Rattle.s2_modem.specs.Both.{AreBytes}
 use Rattle.s2_modem.specs.Streams.{IsWholeFrame, IsClear, AreEach}

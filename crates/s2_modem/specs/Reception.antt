@@ -36,7 +36,8 @@ use Rattle.s2_bbframe.specs.declared.header.Header.{Header}
 use Rattle.s2_scramble.specs.Baseband.{scrambled}
 use Rattle.s2_report.specs.declared.report.Outcome.{Outcome}
 use Rattle.s2_report.specs.declared.report.Outcome.TheVariants.{Delivered, NoWord, BadHeader}
-use Rattle.s2_modem.specs.Reports.{frame_soft, frame_decision, received_word, message_of, header_in, field_in, IsUndecided}
+use Rattle.s2_message.specs.Decisions.{received_word, message_of, header_in, field_in}
+use Rattle.s2_modem.specs.Reports.{frame_soft, frame_decision, IsUndecided}
 
 -- the frames that are sought: those of the link's mode, in all four rotations if the tuning says so
 abbrev pub sought_by : Link → Tuning → Sought

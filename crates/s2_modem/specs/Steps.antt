@@ -4,7 +4,8 @@ use Rattle.s2_mode.specs.declared.symbols.Symbol.{Symbol}
 use Rattle.s2_bbframe.specs.DataStream.{header_at}
 use Rattle.s2_link.specs.Link.{Link}
 use Rattle.s2_tuning.specs.Tuning.{Tuning}
-use Rattle.s2_modem.specs.Reports.{message_of, frame_decision}
+use Rattle.s2_message.specs.Decisions.{message_of}
+use Rattle.s2_modem.specs.Reports.{frame_decision}
 use Rattle.s2_modem.specs.Both.{IsDeliveredCertified}
 use Rattle.s2_modem.specs.Headline.{IsSent, AllCorrected}
 use Rattle.s2_modem.specs.Streams.{IsWholeFrame, IsClear}

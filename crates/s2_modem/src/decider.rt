@@ -1,71 +1,65 @@
 //! From a frame's symbols to the message that it carries.
 ghost use Rattle.std.specs.Prelude.{◌≡◌, IfOk};
-ghost use Rattle.s2_modem.specs.Reports.{IsUndecided};
+ghost use Rattle.s2_modem.specs.Reports.{IsUndecided, options_of};
 
-use crate::corrector::Corrector;
-use crate::demodulator::Demodulator;
-use crate::derotator::Derotator;
-use crate::figures::{find_figures, meter_for};
-use crate::header::header_energy;
-use crate::message::MessageReader;
-use crate::meter::FigureMeter;
 use s2_bits::Bits;
 use s2_check::{CertView, Verdict};
-use s2_equalize::FrameEqualizer;
 use s2_judge::Judge;
 use s2_link::{Link, RollOff};
-use s2_mode::{Mode, Symbol};
+use s2_message::{FrameOptions, FrameReader};
+use s2_mode::Symbol;
 use s2_receive::{Decide, Decided, Frame};
 use s2_report::Outcome;
 use s2_tuning::Tuning;
 use std::alloc::{AllocError, Global};
 use std::marker::Model;
 
-/// Decides the frames of a link, in its own buffers. It has a finder of figures and an equalizer, and rotates frames back,
-/// only if the tuning says so.
+/// How frames are read by a tuning.
+fn options_of(tuning: Tuning) -> FrameOptions
+    ensures { result ≡ options_of tuning }
+{
+    FrameOptions {
+        divisor: tuning.divisor(),
+        turns: tuning.has_turns(),
+        equalize: tuning.has_equalizer(),
+        figures: tuning.has_figures(),
+    }
+}
+
+/// Decides the frames of a link, in its own buffers. It finds figures, equalizes frames, and rotates them back, only if
+/// the tuning says so.
 pub(crate) struct Decider<'a> {
-    mode: Mode,
     roll_off: RollOff,
-    demodulator: Demodulator,
     judge: Judge<'a>,
-    corrector: Corrector,
-    reader: MessageReader,
-    derotator: Derotator,
-    equalizer: FrameEqualizer,
-    meter: Option<FigureMeter>,
+    reader: FrameReader,
     last: Decided,
 }
 
 impl<'a> Drop for Decider<'a> {
     fn drop(self) {
         let Decider {
-            mode: _,
             roll_off: _,
-            demodulator: _,
             judge: _,
-            corrector: _,
             reader: _,
-            derotator: _,
-            equalizer: _,
-            meter: _,
             last: _,
         } = self;
     }
 }
 
 impl<'a> Model for Decider<'a> {
-    ghost use Rattle.s2_modem.specs.DeciderState.{DeciderState, IsDeciderState, decision_held};
+    ghost use Rattle.s2_message.specs.Reading.{decision_held};
+    ghost use Rattle.s2_modem.specs.DeciderState.{DeciderState, IsDeciderState};
 
     ghost Value = { DeciderState };
 
     ghost view = { λ d. record {
-      link = record { setup = record { mode = d.mode; number = d.demodulator.number; roll_off = d.roll_off }; rows = d.judge.rows };
+      link = record { setup = record { mode = d.reader.mode; number = d.reader.number; roll_off = d.roll_off }; rows = d.judge.rows };
       tuning = d.judge.tuning;
-      last = decision_held d.mode d.judge.soft d.judge.bits d.judge.certificate d.corrector.word d.last d.reader.field;
+      last = decision_held d.reader.mode d.judge.soft d.judge.bits d.judge.certificate d.reader.word d.last d.reader.field;
       field = d.reader.field;
     } };
 
-    ghost invariant = { λ d. IsDeciderState d.mode d.judge.rows d.judge.tuning d.demodulator d.corrector.mode d.reader d.derotator d.equalizer d.meter d.last };
+    ghost invariant = { λ d. IsDeciderState d.judge.rows d.judge.tuning d.reader d.last };
 }
 
 impl<'a> Decider<'a> {
@@ -90,22 +84,11 @@ impl<'a> Decider<'a> {
             energy: 0,
             turn: 0,
         };
-        let demodulator = Demodulator::new(alloc, link, tuning.divisor())?;
-        let corrector = Corrector::new(alloc, mode)?;
-        let reader = MessageReader::new(alloc, mode)?;
-        let derotator = Derotator::new(alloc, mode, tuning.has_turns())?;
-        let equalizer = FrameEqualizer::new(alloc, mode, link.number(), tuning.has_equalizer())?;
-        let meter = meter_for(alloc, link, tuning)?;
+        let reader = FrameReader::new(alloc, mode, link.number(), options_of(tuning))?;
         Ok(Decider {
-            mode,
             roll_off: link.roll_off(),
-            demodulator,
             judge: Judge::new(alloc, link.matrix(), tuning)?,
-            corrector,
             reader,
-            derotator,
-            equalizer,
-            meter,
             last,
         })
     }
@@ -135,7 +118,7 @@ impl<'a> Decider<'a> {
     pub(crate) fn message(&self) -> &[bool]
         ensures { result.now ≡ self.now.last.message }
     {
-        &self.corrector.word().truths()[..self.mode.kbch()]
+        self.reader.message()
     }
 }
 
@@ -154,23 +137,15 @@ impl<'a> Decide for Decider<'a> {
     /// Decides a frame, exactly as the definition says for its symbols, after rotating them back and equalizing them if the
     /// tuning says so. The figures are those of the symbols before the equalizer.
     fn decide(&mut self, symbols: &[Symbol]) {
-        let turn = self.derotator.derotate(symbols);
-        let upright = self.derotator.upright(symbols);
-        self.equalizer.equalize(upright);
-        let levelled = self.equalizer.levelled(upright);
-        self.demodulator.find_soft(levelled, self.judge.soft_mut());
+        self.reader.find_soft(symbols, self.judge.soft_mut());
         let verdict = self.judge.decide();
-        let found = self.corrector.correct(self.judge.word());
-        let (outcome, header) = self.reader.read_outcome(found, self.corrector.word());
-        let figures = find_figures(&mut self.meter, upright, &self.judge);
-        self.last = Decided {
+        self.last = self.reader.read(
+            symbols,
+            self.judge.soft(),
+            self.judge.word(),
             verdict,
-            outcome,
-            header,
-            figures,
-            energy: header_energy(symbols),
-            turn,
-        };
+            self.judge.rounds(),
+        );
     }
 
     fn decided(&self) -> Decided {

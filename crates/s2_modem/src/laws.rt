@@ -1,5 +1,5 @@
 //! Laws, which follow from the definitions alone. Each is the clause of a call that does nothing.
-ghost use Rattle.s2_modem.specs.Correlation.{ScalingLaw};
+ghost use Rattle.s2_message.specs.Correlation.{ScalingLaw};
 ghost use Rattle.s2_modem.specs.Front.{CleanFrameLaw};
 ghost use Rattle.s2_modem.specs.Headline.{LikelyFrameLaw, SoleFrameLaw, BothCodesLaw, ScatteredFrameLaw, ReceivesAllLaw, ArrivalLaw};
 ghost use Rattle.s2_modem.specs.Streams.{FirstFramesLaw, OneStreamLaw};

@@ -43,22 +43,9 @@
 //! ```
 #![tactic(auto)]
 
-mod changed;
-mod corrector;
-mod correlation_sums;
-mod correlations;
 mod decider;
 mod demodulation;
-mod demodulator;
-mod derotator;
-mod distances;
-mod errors;
-mod figures;
-mod header;
 pub mod laws;
-mod message;
-mod meter;
-mod pilots;
 mod receiver;
 
 pub use demodulation::{DemodFault, demodulate};

@@ -4,7 +4,7 @@
 use crate::errors::write_note;
 use crate::names::shown;
 use s2_io::{Disk, Role, Terminal, is_standard};
-use s2_words::{RecordArguments, Request};
+use s2_words::Request;
 use std::alloc::{AllocError, Global};
 use std::fs::OpenOptions;
 use std::io::Read;
@@ -36,13 +36,13 @@ fn linked<'a>(
     rows: &'a str,
     from: &'a str,
     to: &'a str,
-    records: RecordArguments<'a>,
+    records: [Option<&'a str>; 4],
 ) -> Names<'a> {
-    let [certificates, values, codewords, bbframes] = records.names();
+    let [first, second, third, fourth] = records;
     Names {
         texts: [Some(rows), None],
         data: [Some(from), None, None],
-        written: [Some(to), certificates, values, codewords, bbframes],
+        written: [Some(to), first, second, third, fourth],
     }
 }
 
@@ -81,9 +81,18 @@ fn names_of<'a>(request: &Request<'a>) -> Names<'a> {
             [Some(words.certificates), Some(words.words), None],
             None,
         ),
-        Request::Mod(words) => linked(words.rows, words.packets, words.symbols, words.records),
-        Request::Demod(words) => linked(words.rows, words.symbols, words.packets, words.records),
-        Request::Run(words) => linked(words.rows, words.packets, words.to, words.records),
+        Request::Mod(words) => {
+            let records = words.records.names();
+            linked(words.rows, words.packets, words.symbols, records)
+        }
+        Request::Demod(words) => {
+            let records = words.records.names();
+            linked(words.rows, words.symbols, words.packets, records)
+        }
+        Request::Run(words) => {
+            let records = words.records.names();
+            linked(words.rows, words.packets, words.to, records)
+        }
     }
 }
 

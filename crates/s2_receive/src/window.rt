@@ -58,7 +58,9 @@ impl Held {
     }
 }
 
-/// Puts the symbols of these bytes after those that are held.
+/// Puts the symbols of these bytes after those that are held. Its loop is made of vectors only while it is a function of its
+/// own.
+#[inline(never)]
 fn fill(bytes: &[u8], buffer: &mut [Symbol], held: &mut Held)
     requires room { held.old.count + length bytes.now / 4 ≤ length buffer.old }
     ensures window { window_of held.new buffer.new ≡ record (window_of held.old buffer.old) { symbols = take held.old.count buffer.old ++ symbols_of bytes.now } }

@@ -7,6 +7,7 @@ pub mod KnownLemmas
 pub mod Blocks
 pub mod Lines
 pub mod Streams
+pub mod LabelLemmas
 pub mod Sizes
 pub mod ValueLines
 pub mod Written

@@ -6,7 +6,7 @@ use Rattle.std.proofs.KnownBytes.{Appends-nil, Appends-trans}
 use Rattle.s2_records.specs.Laws.{RecordsLaw, BbframesLaw, records_of, bbframes_of}
 use Rattle.s2_certfile.specs.Field.{bytes_of_bits}
 use Rattle.s2_records.specs.Records.{bbframe_bytes}
-use Rattle.s2_records.specs.Sent.{WordsLaw, SentLaw, sent_bbframe}
+use Rattle.s2_records.specs.Sent.{WordsLaw, SentLaw}
 
 module _ {W : Type 0} (contents : W → Option (List ℕ)) where
   pub records_lem : RecordsLaw contents
@@ -28,9 +28,9 @@ module _ {W : Type 0} (contents : W → Option (List ℕ)) where
       Appends-trans (contents old) (contents mid) (contents new) (bytes_of_bits first) (flat_map bytes_of_bits later) here (words_lem mid new later rest)
 
   pub sent_lem : SentLaw contents
-  sent_lem old new [] same =
+  sent_lem bytes old new [] same =
       (ap (λ f. f.mode) same, subst (λ f. Appends (contents old.to) (contents f.to) []) (sym same) (Appends-nil (contents old.to)))
-  sent_lem old new (first ∷ later) (mid, here, rest) =
-      let next = sent_lem mid new later rest in
-      let after : Appends (contents mid.to) (contents new.to) (flat_map (sent_bbframe old.mode) later) = subst (λ m. Appends (contents mid.to) (contents new.to) (flat_map (sent_bbframe m) later)) here.0 next.1 in
-      (next.0 ∙ here.0, Appends-trans (contents old.to) (contents mid.to) (contents new.to) (sent_bbframe old.mode first) (flat_map (sent_bbframe old.mode) later) here.1 after)
+  sent_lem bytes old new (first ∷ later) (mid, here, rest) =
+      let next = sent_lem bytes mid new later rest in
+      let after : Appends (contents mid.to) (contents new.to) (flat_map (bytes old.mode) later) = subst (λ m. Appends (contents mid.to) (contents new.to) (flat_map (bytes m) later)) here.0 next.1 in
+      (next.0 ∙ here.0, Appends-trans (contents old.to) (contents mid.to) (contents new.to) (bytes old.mode first) (flat_map (bytes old.mode) later) here.1 after)

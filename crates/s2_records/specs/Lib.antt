@@ -6,4 +6,5 @@ pub mod JoinLaws
 pub mod Values
 pub mod Records
 pub mod Sent
+pub mod Vectors
 pub mod Laws

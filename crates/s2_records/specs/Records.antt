@@ -62,7 +62,7 @@ Gains contents bytes old new after_gap decision = Appends (contents old) (conten
 abbrev pub GainsPart : {W : Type 0} → (W → Option (List ℕ)) → (Decision → List ℕ) → Taking W
 GainsPart contents bytes old new after_gap decision = AppendsPart (bytes decision) (contents old) (contents new)
 
--- a sink of BBFRAMEs: its mode, and its writer
+-- a sink of BBFRAMEs, of labels or of symbols: its mode, and its writer
 pub record Framing (W : Type 0) : Type 0 where
   pub mode : Mode
   pub to : W

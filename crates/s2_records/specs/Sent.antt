@@ -27,13 +27,13 @@ GainsWord contents old new codeword = Appends (contents old) (contents new) (byt
 abbrev pub GainsWordPart : {W : Type 0} → (W → Option (List ℕ)) → Taking W
 GainsWordPart contents old new codeword = AppendsPart (bytes_of_bits codeword) (contents old) (contents new)
 
--- the writer of a sink of BBFRAMEs took exactly the BBFRAME of a codeword
-abbrev pub GainsSent : {W : Type 0} → (W → Option (List ℕ)) → Taking (Framing W)
-GainsSent contents old new codeword = (new.mode ≡ old.mode) × Appends (contents old.to) (contents new.to) (sent_bbframe old.mode codeword)
+-- the writer of a sink of a mode took exactly the record of a codeword: these bytes
+abbrev pub GainsOf : {W : Type 0} → (W → Option (List ℕ)) → (Mode → List Bool → List ℕ) → Taking (Framing W)
+GainsOf contents bytes old new codeword = (new.mode ≡ old.mode) × Appends (contents old.to) (contents new.to) (bytes old.mode codeword)
 
 -- a write failed: its writer took a part of it, from the first byte on, and not all
-abbrev pub GainsSentPart : {W : Type 0} → (W → Option (List ℕ)) → Taking (Framing W)
-GainsSentPart contents old new codeword = (new.mode ≡ old.mode) × AppendsPart (sent_bbframe old.mode codeword) (contents old.to) (contents new.to)
+abbrev pub GainsPartOf : {W : Type 0} → (W → Option (List ℕ)) → (Mode → List Bool → List ℕ) → Taking (Framing W)
+GainsPartOf contents bytes old new codeword = (new.mode ≡ old.mode) × AppendsPart (bytes old.mode codeword) (contents old.to) (contents new.to)
 
 -- ---- laws
 
@@ -42,11 +42,11 @@ abbrev pub WordsLaw : {W : Type 0} → (W → Option (List ℕ)) → Type 0
 WordsLaw {W} contents =
     (old new : W) (codewords : List (List Bool)) → TakesCodewords (GainsWord contents) old new codewords → Appends (contents old) (contents new) (flat_map bytes_of_bits codewords)
 
--- and a sink of BBFRAMEs has written their BBFRAMEs
+-- and a sink of a mode has written their records
 abbrev pub SentLaw : {W : Type 0} → (W → Option (List ℕ)) → Type 0
 SentLaw {W} contents =
-    (old new : Framing W) (codewords : List (List Bool)) → TakesCodewords (GainsSent contents) old new codewords
-    → (new.mode ≡ old.mode) × Appends (contents old.to) (contents new.to) (flat_map (sent_bbframe old.mode) codewords)
+    (bytes : Mode → List Bool → List ℕ) (old new : Framing W) (codewords : List (List Bool)) → TakesCodewords (GainsOf contents bytes) old new codewords
+    → (new.mode ≡ old.mode) × Appends (contents old.to) (contents new.to) (flat_map (bytes old.mode) codewords)
 
 -- Suppose a frame is delivered, its decided word is a codeword, and its message the first Kbch bits of it. Then both ends
 -- write the same bytes: the receiver for the frame, and the transmitter for the codeword

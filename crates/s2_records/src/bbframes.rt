@@ -7,7 +7,7 @@ ghost use Rattle.s2_mode.specs.Pieces.{AppendsPart};
 ghost use Rattle.s2_certfile.specs.Field.{bytes_of_bits};
 ghost use Rattle.s2_scramble.specs.Baseband.{scrambled};
 ghost use Rattle.s2_records.specs.Records.{GainsBbframe, GainsBbframePart, has_bbframe};
-ghost use Rattle.s2_records.specs.Sent.{GainsSent, GainsSentPart};
+ghost use Rattle.s2_records.specs.Sent.{GainsOf, GainsPartOf, sent_bbframe};
 
 use crate::words::write_bits;
 use s2_bits::Bits;
@@ -177,9 +177,9 @@ impl<W: CountedWrite> Sink for Bbframes<W> {
 }
 
 impl<W: CountedWrite> SendSink for Bbframes<W> {
-    ghost takes = { GainsSent W.contents };
+    ghost takes = { GainsOf W.contents sent_bbframe };
 
-    ghost fails = { GainsSentPart W.contents };
+    ghost fails = { GainsPartOf W.contents sent_bbframe };
 
     ghost count = { λ b. W.count b.to };
 

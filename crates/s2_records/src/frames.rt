@@ -1,11 +1,10 @@
 //! One BBFRAME: its header, and its data field joined on (EN 302 307-1, 5.1).
-ghost use Rattle.std.specs.Prelude.{◌≡◌, ◌*◌, ◌≤◌, true, length, take, IfOk};
+ghost use Rattle.std.specs.Prelude.{◌≡◌, ◌+◌, ◌*◌, ◌/◌, ◌≤◌, true, length, take, IfOk};
 ghost use Rattle.s2_mode.specs.Mode.{HasCodeSizes};
 ghost use Rattle.s2_bbframe.specs.Headers.{has_valid_lengths, header_of_bytes};
 ghost use Rattle.s2_bbframe.specs.Joining.{step};
 ghost use Rattle.s2_bbframe.specs.Limits.{max_field_bytes, packet_bytes, packets_room};
 ghost use Rattle.s2_receive.specs.Laws.{joined};
-ghost use Rattle.s2_receive.specs.Decider.{HasPlace};
 ghost use Rattle.s2_records.specs.Counting.{counts_by, IsFew};
 ghost use Rattle.s2_records.specs.Frames.{frame_bytes, field_of, event_of};
 ghost use Rattle.s2_records.specs.Limits.{header_size};
@@ -34,13 +33,11 @@ fn header_in(mode: Mode, frame: &[u8]) -> Result<Header, HeaderFault>
     Header::read(&bytes, mode)
 }
 
-/// The data field of a BBFRAME with this header, which is one of its mode.
-fn field_in<'a>(mode: Mode, header: &Header, frame: &'a [u8]) -> &'a [u8]
-    requires sizes { HasCodeSizes mode }
-    requires frame { length frame.now ≡ frame_bytes mode }
-    requires valid { has_valid_lengths mode header.now ≡ true }
+/// The data field of a BBFRAME with this header.
+fn field_in<'a>(header: &Header, frame: &'a [u8]) -> &'a [u8]
+    requires within { header_size + header.now.dfl / 8 ≤ length frame.now }
     ensures field { result.now ≡ field_of header.now frame.now }
-    ensures place { HasPlace result.now header.now }
+    ensures size { length result.now ≡ header.now.dfl / 8 }
 {
     let (_, rest) = frame.split_at(HEADER_BYTES);
     let (field, _) = rest.split_at(usize::from(header.dfl / 8));
@@ -69,7 +66,7 @@ pub(crate) fn join_frame(
         joiner.gap();
         return FrameCounts::none();
     };
-    let fed = joiner.feed(&header, field_in(mode, &header, frame), packets);
+    let fed = joiner.feed(&header, field_in(&header, frame), packets);
     FrameCounts {
         delivered: 1,
         packets: fed.good as u64,

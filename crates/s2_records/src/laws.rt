@@ -3,6 +3,7 @@ ghost use Rattle.s2_records.specs.JoinLaws.{ZerosLaw, TogetherLaw, RoundTripLaw}
 ghost use Rattle.s2_records.specs.Laws.{BbframesLaw, JoinedLaw, ReadBackLaw, RecordsLaw, ValuesLaw, WholeLaw};
 ghost use Rattle.s2_records.specs.Limits.{LimitsLaw};
 ghost use Rattle.s2_records.specs.Sent.{BothEndsLaw, SentLaw, WordsLaw};
+ghost use Rattle.s2_records.specs.Vectors.{PointsLaw};
 
 use s2_mode::CountedWrite;
 
@@ -46,9 +47,15 @@ pub fn words<W: CountedWrite>()
     ensures { WordsLaw W.contents }
 {}
 
-/// A sink of BBFRAMEs that took a transmitter's codewords has written their BBFRAMEs, one after another.
+/// A sink of BBFRAMEs, of labels or of symbols that took a transmitter's codewords has written the record of each, one
+/// after another.
 pub fn sent<W: CountedWrite>()
     ensures { SentLaw W.contents }
+{}
+
+/// The symbols of a codeword are the constellation points of its labels.
+pub fn points()
+    ensures { PointsLaw }
 {}
 
 /// Both ends write the same. Suppose a frame is delivered, its decided word is a codeword, and its message the first

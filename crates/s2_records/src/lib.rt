@@ -9,7 +9,8 @@
 //!
 //! [`Codewords`] and [`Bbframes`] are also [`s2_send::SendSink`]s: they write the codewords that a transmitter sends,
 //! and their BBFRAMEs ([`laws::words`], [`laws::sent`]). A receiver that delivers such a frame writes the same bytes
-//! ([`laws::both_ends`]).
+//! ([`laws::both_ends`]). [`Labels`] and [`PlainSymbols`] are sinks of a transmitter only. They write the labels of the
+//! interleaved bits (5.3.3), and their constellation points (5.4) before pilots and scrambling ([`laws::points`]).
 //!
 //! A BBFRAME that was not delivered is replaced by zeros, so a file of them has whole BBFRAMEs ([`laws::whole`]). A line
 //! of values is read as these values ([`laws::values`]).
@@ -40,8 +41,10 @@ mod join;
 mod join_counts;
 mod join_report;
 mod joining;
+mod labels;
 pub mod laws;
 mod limits;
+mod plain_symbols;
 mod values;
 mod words;
 
@@ -50,5 +53,7 @@ pub use certificates::Certificates;
 pub use codewords::Codewords;
 pub use frames::frame_bytes;
 pub use join::join_command;
+pub use labels::Labels;
 pub use limits::MAX_FRAMES;
+pub use plain_symbols::PlainSymbols;
 pub use values::Values;

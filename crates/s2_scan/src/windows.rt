@@ -1,5 +1,5 @@
 //! The positions of a block of bytes, one after the other.
-ghost use Rattle.std.specs.Prelude.{◌≡◌, ◌+◌, ◌*◌, ◌-◌, ◌/◌, ◌^◌, ◌<◌, ◌≤◌, ◌++◌, nat_lt, [], true, false, length, if◌then◌else◌, OnOk};
+ghost use Rattle.std.specs.Prelude.{ℕ, List, ◌≡◌, ◌+◌, ◌*◌, ◌-◌, ◌/◌, ◌^◌, ◌<◌, ◌≤◌, ◌++◌, nat_lt, [], true, false, length, if◌then◌else◌, OnOk};
 ghost use Rattle.s2_plframe.specs.Header.{header_bit, dummy_mode};
 ghost use Rattle.s2_plframe.specs.Inside.{IsHeader, IsWindow};
 ghost use Rattle.s2_scan.specs.Forms.{is_little};
@@ -60,11 +60,9 @@ fn signs_in(form: usize, orders: Orders) -> Signs
     }
 }
 
-/// The decided bits of a window in a form.
-fn seen_as(form: usize, window: &[u8], orders: Orders) -> u128
-    requires big { HoldsWindow false window.now orders.big.odd orders.big.even }
-    requires little { HoldsWindow true window.now orders.little.odd orders.little.even }
-    ensures { IsWindow (passing.seen_as form window.now) result }
+/// The decided bits of a window in a form, from its signs in both byte orders.
+fn seen_as(form: usize, orders: Orders) -> u128
+    ensures { (window : List ℕ) → HoldsWindow false window orders.big.odd orders.big.even → HoldsWindow true window orders.little.odd orders.little.even → IsWindow (passing.seen_as form window) result }
 {
     undo(form % ORIENTATIONS, signs_in(form, orders)).window()
 }
@@ -93,7 +91,7 @@ fn push_window(
     ensures { OnOk result (passes.new.items ≡ passes.old.items ++ passing.passes_at position window.now) }
 {
     for form in 0..FORMS {
-        let seen = seen_as(form, window, orders);
+        let seen = seen_as(form, orders);
         push_form(numbers, seen, position, form, window, passes)?;
     }
     Ok(())

@@ -55,12 +55,13 @@ fn number_of(words: NumberArguments) -> Number {
     }
 }
 
-/// How the soft values of a report on a mode were made.
+/// How a report on a mode was made.
 pub(crate) fn demodulation_of(mode: &Mode, words: &AuditArguments<'_>) -> Option<Demodulation> {
     Some(Demodulation {
         divisor: divisor_by(mode, words.tuned, number_of(words.divisor))?,
         turns: words.turns || words.tuned,
         equalize: words.equalize,
+        resync: words.resync || words.tuned,
     })
 }
 

@@ -150,7 +150,8 @@ fn tuning_with(best: Best, wanted: Wanted) -> Option<Tuning>
     let tuning = figured_by(wanted.figures, certified_by(wanted.uncertified, tuning));
     let turns = is_set(wanted.turns, wanted.tuned);
     let tuning = equalized_by(wanted.equalize, turned_by(turns, tuning));
-    Some(resynced_by(wanted.resync, tuning))
+    let resync = is_set(wanted.resync, wanted.tuned);
+    Some(resynced_by(resync, tuning))
 }
 
 /// The tuning of a receiver of a mode by what is asked. `None` if a number is out of its range.

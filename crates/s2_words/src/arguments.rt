@@ -227,6 +227,12 @@ pub(crate) const RESYNC_BOTH: Argument = Argument {
     ..RESYNC
 };
 
+/// The same name, for a report that was made with it.
+pub(crate) const RESYNC_REPORT: Argument = Argument {
+    help: "Allow a frame to begin inside an earlier one, lost or not, if the report was made with --resync",
+    ..RESYNC
+};
+
 pub(crate) const ROUNDS: Argument = Argument {
     name: "rounds",
     form: ArgumentKind::Valued(Value {
@@ -297,7 +303,7 @@ pub(crate) const UNCERTIFIED: Argument = Argument {
 pub(crate) const TUNED: Argument = Argument {
     name: "tuned",
     form: ArgumentKind::Flag,
-    help: "Use the best factor, divisor and rounds for the mode, --lock 30, --passes 96 and --turns; options given explicitly override it",
+    help: "Use the best factor, divisor and rounds for the mode, --lock 30, --passes 96, --turns, and --resync for lost frames; options given explicitly override it",
 };
 
 pub(crate) const TURNS: Argument = Argument {
@@ -315,7 +321,7 @@ pub(crate) const TURNS_REPORT: Argument = Argument {
 pub(crate) const EQUALIZE: Argument = Argument {
     name: "equalize",
     form: ArgumentKind::Flag,
-    help: "Divide each symbol by the complex gain of the channel, estimated from header and pilots: any amplitude and phase, and with --pilots a carrier error",
+    help: "Divide each symbol by the complex gain of the channel, estimated from header and pilots: amplitudes of 150 to 6000, any phase, and with --pilots a carrier error",
 };
 
 /// The same option, for a report that was made with it.
@@ -326,7 +332,7 @@ pub(crate) const EQUALIZE_REPORT: Argument = Argument {
 
 /// The same option, for a report that was made with it.
 pub(crate) const TUNED_REPORT: Argument = Argument {
-    help: "Use the divisor that --tuned sets for the mode, and --turns, if the report was made with --tuned; --divisor overrides it",
+    help: "Use the divisor that --tuned sets for the mode, --turns and --resync, if the report was made with --tuned; --divisor overrides it",
     ..TUNED
 };
 
@@ -499,6 +505,18 @@ pub(crate) const SENT_CODEWORDS: Argument = Argument {
 pub(crate) const SENT_BBFRAMES: Argument = Argument {
     help: "Write the BBFRAME of each frame before scrambling to this file, in the format of `demod --bbframes`, for `join`",
     ..BBFRAMES
+};
+
+pub(crate) const SENT_LABELS: Argument = Argument {
+    name: "labels",
+    form: ArgumentKind::Valued(FILE),
+    help: "Write the interleaved bits of each frame to this file, a byte for the label of each payload symbol: 0 to 3, or 0 to 7 for 8PSK",
+};
+
+pub(crate) const SENT_SYMBOLS: Argument = Argument {
+    name: "symbols-plain",
+    form: ArgumentKind::Valued(FILE),
+    help: "Write the payload symbols of each frame before scrambling to this file, in the form of SYMBOLS, without header and pilots",
 };
 
 pub(crate) const BBFRAMES_GIVEN: Argument = Argument {

@@ -120,7 +120,7 @@ Notes, on standard error:
   N bytes left out in M places                         with --resync: a wrong sync byte and the bytes after it, up to the next five sync bytes
 
 Files:
-  --codewords and --bbframes write records of the frames, but not of dummy frames. Each also takes `-`.
+  --codewords, --bbframes, --labels and --symbols-plain write records of the frames, but not of dummy frames. Each also takes `-`.
   A frame's records are written before its symbols. A file keeps its contents until the rows are accepted.
 
 Example:
@@ -295,7 +295,7 @@ The report, a line for each frame that REPORT calls sole or most-likely, and a l
 
 Reasons:
   no certificate    CERTIFICATES ends before the certificate of this frame
-  no symbols        SYMBOLS ends before the end of this frame
+  no symbols        SYMBOLS ends before the end of this frame, or the frame begins inside an earlier one: see --resync
   other values      the certificate is for other soft values: of another recording, or with another --divisor or --tuned
   not accepted      the certificate proves nothing with these rows
   not sole          the certificate proves only that the bits are most likely

@@ -32,7 +32,7 @@ pub use request::{
     AuditArguments, ChannelArguments, CheckArguments, CodeArguments, CompareArguments,
     DemodArguments, ExitBy, JoinArguments, JudgeArguments, LinkArguments, ModArguments,
     ModesArguments, NoiseArguments, NoteArguments, NumberArguments, Progress, RecordArguments,
-    Request, RowsArguments, RunArguments, ScanArguments, Seeds, ShapeArguments, StrengthArguments,
-    TableArguments, TuningArguments, WordsArguments,
+    Request, RowsArguments, RunArguments, ScanArguments, Seeds, SentRecordArguments,
+    ShapeArguments, StrengthArguments, TableArguments, TuningArguments, WordsArguments,
 };
 pub use unread::Unread;

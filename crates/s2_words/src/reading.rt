@@ -9,8 +9,8 @@ use crate::request::{
     AuditArguments, ChannelArguments, CheckArguments, CodeArguments, CompareArguments,
     DemodArguments, ExitBy, JoinArguments, JudgeArguments, LinkArguments, ModArguments,
     ModesArguments, NoiseArguments, NoteArguments, NumberArguments, Progress, RecordArguments,
-    Request, RowsArguments, RunArguments, ScanArguments, Seeds, ShapeArguments, StrengthArguments,
-    TableArguments, TuningArguments, WordsArguments,
+    Request, RowsArguments, RunArguments, ScanArguments, Seeds, SentRecordArguments,
+    ShapeArguments, StrengthArguments, TableArguments, TuningArguments, WordsArguments,
 };
 use crate::seed_range::read_seeds;
 use crate::unread::Unread;
@@ -221,12 +221,12 @@ fn records_of<'a>(r: &mut Reader<'_, 'a>) -> RecordArguments<'a> {
 }
 
 /// The records of a transmitter.
-fn sent_records_of<'a>(r: &mut Reader<'_, 'a>) -> RecordArguments<'a> {
-    RecordArguments {
-        certificates: None,
-        values: None,
+fn sent_records_of<'a>(r: &mut Reader<'_, 'a>) -> SentRecordArguments<'a> {
+    SentRecordArguments {
         codewords: r.given("codewords"),
         bbframes: r.given("bbframes"),
+        labels: r.given("labels"),
+        plain_symbols: r.given("symbols-plain"),
     }
 }
 
@@ -395,6 +395,7 @@ fn audit_of<'a>(r: &mut Reader<'_, 'a>) -> Option<Request<'a>> {
         tuned: r.flag("tuned"),
         turns: r.flag("turns"),
         equalize: r.flag("equalize"),
+        resync: r.flag("resync"),
         rows: r.text("ROWS"),
         symbols: r.text("SYMBOLS"),
         report: r.text("REPORT"),

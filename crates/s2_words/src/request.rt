@@ -141,7 +141,7 @@ pub enum Progress {
 }
 
 /// `mod`: a link, the number of frames between dummy frames (0 for none), and whether it continues after a wrong sync byte.
-/// Also whether notes are left out, whether progress is shown, the records (codewords and BBFRAMEs), and the files.
+/// Also whether notes are left out, whether progress is shown, the records, and the files.
 #[derive(Clone, Copy)]
 pub struct ModArguments<'a> {
     pub link: LinkArguments,
@@ -149,7 +149,7 @@ pub struct ModArguments<'a> {
     pub resync: bool,
     pub quiet: bool,
     pub progress: Progress,
-    pub records: RecordArguments<'a>,
+    pub records: SentRecordArguments<'a>,
     pub rows: &'a str,
     pub packets: &'a str,
     pub symbols: &'a str,
@@ -186,8 +186,7 @@ pub struct NoteArguments {
     pub quiet: bool,
 }
 
-/// The given files of records: certificates, soft values, words and BBFRAMEs. The words are decided bits, or the
-/// transmitted codewords.
+/// The given files of a receiver's records: certificates, soft values, decided bits and BBFRAMEs.
 #[derive(Clone, Copy)]
 pub struct RecordArguments<'a> {
     pub certificates: Option<&'a str>,
@@ -206,6 +205,28 @@ impl<'a> RecordArguments<'a> {
             bbframes,
         } = self;
         [certificates, values, codewords, bbframes]
+    }
+}
+
+/// The given files of a transmitter's records: codewords, BBFRAMEs, labels, and symbols before scrambling.
+#[derive(Clone, Copy)]
+pub struct SentRecordArguments<'a> {
+    pub codewords: Option<&'a str>,
+    pub bbframes: Option<&'a str>,
+    pub labels: Option<&'a str>,
+    pub plain_symbols: Option<&'a str>,
+}
+
+impl<'a> SentRecordArguments<'a> {
+    /// The names of the files, in the order in which they are opened.
+    pub fn names(self) -> [Option<&'a str>; 4] {
+        let SentRecordArguments {
+            codewords,
+            bbframes,
+            labels,
+            plain_symbols,
+        } = self;
+        [codewords, bbframes, labels, plain_symbols]
     }
 }
 
@@ -271,6 +292,7 @@ pub struct AuditArguments<'a> {
     pub tuned: bool,
     pub turns: bool,
     pub equalize: bool,
+    pub resync: bool,
     pub rows: &'a str,
     pub symbols: &'a str,
     pub report: &'a str,

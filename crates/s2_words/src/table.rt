@@ -6,9 +6,10 @@ use crate::arguments::{
     EXIT_BY, FACTOR, FIGURES, FIRST, GROUP, GROUP_OR_MODE, GROUPS, GROUPS_OR_MODE, HARD, LEVEL,
     LOCK, MODCOD, MODCOD_OR_NONE, NOISY_SYMBOLS, NUMBER, PACKETS, PACKETS_MADE, PACKETS_RECEIVED,
     PASSES, PILOTS, PROGRESS, Q, Q_OR_MODE, QUIET, QUIET_AND_STILL, RATE, RECORDING, REPORT,
-    RESYNC, RESYNC_BOTH, RESYNC_FRAMES, ROLL_OFF, ROLL_OFF_READ, ROUNDS, ROWS, SEED, SEED_OR_SEEDS,
-    SEEDS, SENT_BBFRAMES, SENT_CODEWORDS, SHORT, SOFT_VALUES, STRICT, SYMBOLS, SYMBOLS_MADE, TUNED,
-    TUNED_REPORT, TURNS, TURNS_REPORT, UNCERTIFIED, VALUES, WEIGHT, WORDS,
+    RESYNC, RESYNC_BOTH, RESYNC_FRAMES, RESYNC_REPORT, ROLL_OFF, ROLL_OFF_READ, ROUNDS, ROWS, SEED,
+    SEED_OR_SEEDS, SEEDS, SENT_BBFRAMES, SENT_CODEWORDS, SENT_LABELS, SENT_SYMBOLS, SHORT,
+    SOFT_VALUES, STRICT, SYMBOLS, SYMBOLS_MADE, TUNED, TUNED_REPORT, TURNS, TURNS_REPORT,
+    UNCERTIFIED, VALUES, WEIGHT, WORDS,
 };
 
 /// The commands.
@@ -115,11 +116,23 @@ pub(crate) fn commands() -> &'static [CommandHelp] {
 /// The arguments of `modes`, in order.
 static MODES_ARGUMENTS: [Argument; 4] = [RATE, MODCOD_OR_NONE, SHORT, QUIET];
 
+fn modes_arguments() -> &'static [Argument] {
+    &MODES_ARGUMENTS
+}
+
 /// The arguments of `rows`, in order.
 static ROWS_ARGUMENTS: [Argument; 6] = [GROUP, GROUPS, Q, WEIGHT, SEED, QUIET];
 
+fn rows_arguments() -> &'static [Argument] {
+    &ROWS_ARGUMENTS
+}
+
 /// The arguments of `table`, in order.
 static TABLE_ARGUMENTS: [Argument; 4] = [MODCOD, SHORT, QUIET, ROWS];
+
+fn table_arguments() -> &'static [Argument] {
+    &TABLE_ARGUMENTS
+}
 
 /// The arguments of `judge`, in order.
 static JUDGE_ARGUMENTS: [Argument; 14] = [
@@ -139,11 +152,19 @@ static JUDGE_ARGUMENTS: [Argument; 14] = [
     SOFT_VALUES,
 ];
 
+fn judge_arguments() -> &'static [Argument] {
+    &JUDGE_ARGUMENTS
+}
+
 /// The arguments of `check`, in order.
 static CHECK_ARGUMENTS: [Argument; 4] = [EACH_CERTIFICATE, QUIET, ROWS, CERTIFICATE_READ];
 
+fn check_arguments() -> &'static [Argument] {
+    &CHECK_ARGUMENTS
+}
+
 /// The arguments of `mod`, in order.
-static MOD_ARGUMENTS: [Argument; 14] = [
+static MOD_ARGUMENTS: [Argument; 16] = [
     MODCOD,
     SHORT,
     PILOTS,
@@ -155,10 +176,16 @@ static MOD_ARGUMENTS: [Argument; 14] = [
     PROGRESS,
     SENT_CODEWORDS,
     SENT_BBFRAMES,
+    SENT_LABELS,
+    SENT_SYMBOLS,
     ROWS,
     PACKETS,
     SYMBOLS_MADE,
 ];
+
+fn mod_arguments() -> &'static [Argument] {
+    &MOD_ARGUMENTS
+}
 
 /// The arguments of `noise`, in order.
 static NOISE_ARGUMENTS: [Argument; 7] = [
@@ -170,6 +197,10 @@ static NOISE_ARGUMENTS: [Argument; 7] = [
     CLEAN_SYMBOLS,
     NOISY_SYMBOLS,
 ];
+
+fn noise_arguments() -> &'static [Argument] {
+    &NOISE_ARGUMENTS
+}
 
 /// The arguments of `demod`, in order.
 static DEMOD_ARGUMENTS: [Argument; 28] = [
@@ -202,6 +233,10 @@ static DEMOD_ARGUMENTS: [Argument; 28] = [
     SYMBOLS,
     PACKETS_MADE,
 ];
+
+fn demod_arguments() -> &'static [Argument] {
+    &DEMOD_ARGUMENTS
+}
 
 /// The arguments of `run`, in order.
 static RUN_ARGUMENTS: [Argument; 33] = [
@@ -240,14 +275,26 @@ static RUN_ARGUMENTS: [Argument; 33] = [
     PACKETS_RECEIVED,
 ];
 
+fn run_arguments() -> &'static [Argument] {
+    &RUN_ARGUMENTS
+}
+
 /// The arguments of `scan`, in order.
 static SCAN_ARGUMENTS: [Argument; 4] = [FIRST, QUIET_AND_STILL, PROGRESS, RECORDING];
+
+fn scan_arguments() -> &'static [Argument] {
+    &SCAN_ARGUMENTS
+}
 
 /// The arguments of `join`, in order.
 static JOIN_ARGUMENTS: [Argument; 4] = [MODCOD, SHORT, BBFRAMES_READ, PACKETS_MADE];
 
+fn join_arguments() -> &'static [Argument] {
+    &JOIN_ARGUMENTS
+}
+
 /// The arguments of `audit`, in order.
-static AUDIT_ARGUMENTS: [Argument; 13] = [
+static AUDIT_ARGUMENTS: [Argument; 14] = [
     MODCOD,
     SHORT,
     PILOTS,
@@ -255,6 +302,7 @@ static AUDIT_ARGUMENTS: [Argument; 13] = [
     ROLL_OFF_READ,
     DIVISOR_OF_REPORT,
     TURNS_REPORT,
+    RESYNC_REPORT,
     EQUALIZE_REPORT,
     TUNED_REPORT,
     ROWS,
@@ -262,6 +310,10 @@ static AUDIT_ARGUMENTS: [Argument; 13] = [
     REPORT,
     CERTIFICATES_READ,
 ];
+
+fn audit_arguments() -> &'static [Argument] {
+    &AUDIT_ARGUMENTS
+}
 
 /// The arguments of `compare`, in order.
 static COMPARE_ARGUMENTS: [Argument; 11] = [
@@ -278,22 +330,26 @@ static COMPARE_ARGUMENTS: [Argument; 11] = [
     WORDS,
 ];
 
+fn compare_arguments() -> &'static [Argument] {
+    &COMPARE_ARGUMENTS
+}
+
 /// The arguments of a command.
 pub(crate) fn arguments_of(command: CommandName) -> &'static [Argument] {
     match command {
-        CommandName::Modes => &MODES_ARGUMENTS,
-        CommandName::Rows => &ROWS_ARGUMENTS,
-        CommandName::Table => &TABLE_ARGUMENTS,
-        CommandName::Judge => &JUDGE_ARGUMENTS,
-        CommandName::Check => &CHECK_ARGUMENTS,
-        CommandName::Mod => &MOD_ARGUMENTS,
-        CommandName::Noise => &NOISE_ARGUMENTS,
-        CommandName::Demod => &DEMOD_ARGUMENTS,
-        CommandName::Run => &RUN_ARGUMENTS,
-        CommandName::Scan => &SCAN_ARGUMENTS,
-        CommandName::Join => &JOIN_ARGUMENTS,
-        CommandName::Audit => &AUDIT_ARGUMENTS,
-        CommandName::Compare => &COMPARE_ARGUMENTS,
+        CommandName::Modes => modes_arguments(),
+        CommandName::Rows => rows_arguments(),
+        CommandName::Table => table_arguments(),
+        CommandName::Judge => judge_arguments(),
+        CommandName::Check => check_arguments(),
+        CommandName::Mod => mod_arguments(),
+        CommandName::Noise => noise_arguments(),
+        CommandName::Demod => demod_arguments(),
+        CommandName::Run => run_arguments(),
+        CommandName::Scan => scan_arguments(),
+        CommandName::Join => join_arguments(),
+        CommandName::Audit => audit_arguments(),
+        CommandName::Compare => compare_arguments(),
     }
 }
 

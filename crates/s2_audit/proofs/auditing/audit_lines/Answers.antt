@@ -7,7 +7,7 @@ use Rattle.s2_audit.proofs.auditing.audit_lines.Goals as goal
 
 pub lines-init : goal.lines-init
 lines-init g c = record {
-  progress = begins _ _ _ _ _ c.requires.place c.none-counts.ensures;
+  progress = begins _ _ _ _ _ c.requires.reach c.none-counts.ensures;
   terms = search rules;
   report = search rules;
   symbols = search rules;
@@ -20,10 +20,10 @@ audit_line-requires-clause-few g c = few_counts _ _ _ _ _ _ _ _ _ c.lines.invari
 
 pub returns-in-Ok-Some-clause-audits : goal.returns-in-Ok-Some-clause-audits
 returns-in-Ok-Some-clause-audits g c =
-    ends_by (standing c.audit_line.new.auditor.place c.audit_line.new.counts) (Ok c.in-Ok-Some.exit) c.lines.invariant.terms (c.in-Ok-Some.is ∙ ap Ok c.in-Ok-Some.field-0-is) c.lines.invariant.progress c.audit_line.ensures.line
+    ends_by (standing c.audit_line.new.auditor.reach c.audit_line.new.counts) (Ok c.in-Ok-Some.exit) c.lines.invariant.terms (c.in-Ok-Some.is ∙ ap Ok c.in-Ok-Some.field-0-is) c.lines.invariant.progress c.audit_line.ensures.line
 
 pub returns-in-Err-clause-audits : goal.returns-in-Err-clause-audits
-returns-in-Err-clause-audits g c = ends_by (standing c.audit_line.new.auditor.place c.audit_line.new.counts) (Err c.in-Err.fault) c.lines.invariant.terms c.in-Err.is c.lines.invariant.progress c.audit_line.ensures.line
+returns-in-Err-clause-audits g c = ends_by (standing c.audit_line.new.auditor.reach c.audit_line.new.counts) (Err c.in-Err.fault) c.lines.invariant.terms c.in-Err.is c.lines.invariant.progress c.audit_line.ensures.line
 
 pub lines-preserved : goal.lines-preserved
 lines-preserved g c =

@@ -8,7 +8,7 @@ abbrev pub invariant-lines : goal.invariant-lines
 invariant-lines g l = record {
   progress : Progress l.fn.auditor.terms l.line (g.R.CountedRead.remaining l.fn.report) (g.R.CountedRead.remaining l.report)
       (evidence_by g.R.CountedRead.remaining l.fn.symbols l.fn.certificates) (evidence_by g.R.CountedRead.remaining l.symbols l.certificates)
-      (g.O.CountedWrite.contents l.fn.out) (g.O.CountedWrite.contents l.out) (standing l.auditor.place l.counts);
+      (g.O.CountedWrite.contents l.fn.out) (g.O.CountedWrite.contents l.out) (standing l.auditor.reach l.counts);
   terms : l.auditor.terms ≡ l.fn.auditor.terms;
   report : g.R.Counted.count l.report ≡ g.R.Counted.count l.fn.report;
   symbols : g.R.Counted.count l.symbols ≡ g.R.Counted.count l.fn.symbols;

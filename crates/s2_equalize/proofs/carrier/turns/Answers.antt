@@ -39,9 +39,20 @@ turned_once-four-requires-clause-a c =
     let two = c.turned_once-two.ensures.most (2 * 32768) one in
     within_more (2 * (2 * (2 * 32768))) (2 ^ 22) c.turned_once-three.result (omega arith) (c.turned_once-three.ensures.most (2 * (2 * 32768)) two)
 
-pub returns : goal.returns
-returns c =
+pub returns-clause-are : goal.returns-clause-are
+returns-clause-are c =
     let turn = c.args.turn in
+    let one = c.turned_once-one.result in
+    let two = c.turned_once-two.result in
+    let three = c.turned_once-three.result in
+    let one_is = c.turned_once-one.ensures.is ∙ next_is turn no_turn 0 (none_is turn) in
+    let two_is = c.turned_once-two.ensures.is ∙ next_is turn one 1 one_is in
+    let three_is = c.turned_once-three.ensures.is ∙ next_is turn two 2 two_is in
+    let four_is = c.turned_once-four.ensures.is ∙ next_is turn three 3 three_is in
+    one_of_five _ (none_is turn) one_is two_is three_is four_is
+
+pub returns-clause-most : goal.returns-clause-most
+returns-clause-most c =
     let one = c.turned_once-one.result in
     let two = c.turned_once-two.result in
     let three = c.turned_once-three.result in
@@ -50,15 +61,8 @@ returns c =
     let two_most = c.turned_once-two.ensures.most (2 * 32768) one_most in
     let three_most = c.turned_once-three.ensures.most (2 * (2 * 32768)) two_most in
     let four_most = c.turned_once-four.ensures.most (2 * (2 * (2 * 32768))) three_most in
-    let one_is = c.turned_once-one.ensures.is ∙ next_is turn no_turn 0 (none_is turn) in
-    let two_is = c.turned_once-two.ensures.is ∙ next_is turn one 1 one_is in
-    let three_is = c.turned_once-three.ensures.is ∙ next_is turn two 2 two_is in
-    let four_is = c.turned_once-four.ensures.is ∙ next_is turn three 3 three_is in
-    record {
-      each = one_of_five _ (none_is turn) one_is two_is three_is four_is;
-      small = one_of_five _ (within_more 32768 (2 ^ 19) no_turn (omega arith) no_turn_within)
-          (within_more (2 * 32768) (2 ^ 19) one (omega arith) one_most)
-          (within_more (2 * (2 * 32768)) (2 ^ 19) two (omega arith) two_most)
-          (within_more (2 * (2 * (2 * 32768))) (2 ^ 19) three (omega arith) three_most)
-          (within_more (2 * (2 * (2 * (2 * 32768)))) (2 ^ 19) four (omega arith) four_most);
-    }
+    one_of_five _ (within_more 32768 (2 ^ 19) no_turn (omega arith) no_turn_within)
+    (within_more (2 * 32768) (2 ^ 19) one (omega arith) one_most)
+    (within_more (2 * (2 * 32768)) (2 ^ 19) two (omega arith) two_most)
+    (within_more (2 * (2 * (2 * 32768))) (2 ^ 19) three (omega arith) three_most)
+    (within_more (2 * (2 * (2 * (2 * 32768)))) (2 ^ 19) four (omega arith) four_most)

@@ -8,14 +8,14 @@ use Rattle.s2_equalize.proofs.smoothing.mean_gain.Goals as goal
 
 pub returns-clause-is : goal.returns-clause-is
 unfolding mean_gain
-returns-clause-is c =
+returns-clause-is c turn are =
     let gains = c.args.gains.now in
     let k = c.args.k in
-    let f = λ (j : ℕ). scaled (weight j) (turned gains c.args.turn k j) in
+    let f = λ (j : ℕ). scaled (weight j) (turned gains turn k j) in
     let at : c.saturating_sub-at.result ≡ first_near k = c.saturating_sub-at.ensures in
     let count : c.min-end.result - c.saturating_sub-at.result ≡ count_near gains k = ap₂ (λ (x : ℕ) (y : ℕ). x - y) c.min-end.ensures at in
     let total = c.weighted-near.ensures.weight ∙ ap₂ weights at count in
-    let sum = c.weighted-near.ensures.sum ∙ ap₂ (sum_from f) at count in
+    let sum = c.weighted-near.ensures.sum turn are ∙ ap₂ (sum_from f) at count in
     c.over.ensures ∙ ap₂ (λ (n : ℕ) (s : Complex). over (32768 * n) s) total sum
 
 pub returns-clause-most : goal.returns-clause-most

@@ -18,11 +18,11 @@ back gains c k l lt =
     sym (ap (λ b. cond b (times (complex_at gains l) (turns c (k - l))) (times_conjugate (complex_at gains l) (turns c (l - k)))) (lt-leb l k lt))
 
 pub returns-then-l-k-clause-is : goal.returns-then-l-k-clause-is
-returns-then-l-k-clause-is c =
+returns-then-l-k-clause-is c turn are =
     let near : c.args.k - c.args.l < 5 = omega arith in
     c.times.ensures
-    ∙ (ap (times (complex_at c.args.gains.now c.args.l)) (c.requires.turns.each (c.args.k - c.args.l) near)
-    ∙ on c.args.gains.now c.args.turn c.args.k c.args.l c.if-l-k.true)
+    ∙ (ap (times (complex_at c.args.gains.now c.args.l)) (are (c.args.k - c.args.l) near)
+    ∙ on c.args.gains.now turn c.args.k c.args.l c.if-l-k.true)
 
 pub returns-then-l-k-clause-most : goal.returns-then-l-k-clause-most
 returns-then-l-k-clause-most c =
@@ -30,14 +30,14 @@ returns-then-l-k-clause-most c =
     let turn = complex_at c.args.turns.now (c.args.k - c.args.l) in
     subst (IsWithin turned_bound) (sym c.times.ensures)
     (within_more (2 * (gain_bound * 2 ^ 19)) turned_bound (times gain turn) (omega arith)
-    (times_within gain_bound (2 ^ 19) gain turn (c.requires.gains c.args.l c.requires.inside) (c.requires.turns.small (c.args.k - c.args.l) (omega arith))))
+    (times_within gain_bound (2 ^ 19) gain turn (c.requires.gains c.args.l c.requires.inside) (c.requires.turns (c.args.k - c.args.l) (omega arith))))
 
 pub returns-else-l-k-clause-is : goal.returns-else-l-k-clause-is
-returns-else-l-k-clause-is c =
+returns-else-l-k-clause-is c turn are =
     let near : c.args.l - c.args.k < 5 = omega arith in
     c.times_conjugate.ensures
-    ∙ (ap (times_conjugate (complex_at c.args.gains.now c.args.l)) (c.requires.turns.each (c.args.l - c.args.k) near)
-    ∙ back c.args.gains.now c.args.turn c.args.k c.args.l c.if-l-k.false)
+    ∙ (ap (times_conjugate (complex_at c.args.gains.now c.args.l)) (are (c.args.l - c.args.k) near)
+    ∙ back c.args.gains.now turn c.args.k c.args.l c.if-l-k.false)
 
 pub returns-else-l-k-clause-most : goal.returns-else-l-k-clause-most
 returns-else-l-k-clause-most c =
@@ -45,4 +45,4 @@ returns-else-l-k-clause-most c =
     let turn = complex_at c.args.turns.now (c.args.l - c.args.k) in
     subst (IsWithin turned_bound) (sym c.times_conjugate.ensures)
     (within_more (2 * (gain_bound * 2 ^ 19)) turned_bound (times_conjugate gain turn) (omega arith)
-    (times_conjugate_within gain_bound (2 ^ 19) gain turn (c.requires.gains c.args.l c.requires.inside) (c.requires.turns.small (c.args.l - c.args.k) (omega arith))))
+    (times_conjugate_within gain_bound (2 ^ 19) gain turn (c.requires.gains c.args.l c.requires.inside) (c.requires.turns (c.args.l - c.args.k) (omega arith))))

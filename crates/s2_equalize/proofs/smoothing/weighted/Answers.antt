@@ -28,10 +28,11 @@ pub loop-l-init : goal.loop-l-init
 loop-l-init c =
     let at = c.args.at in
     let none : 0 ≡ at - at = omega arith in
-    let f = λ (j : ℕ). scaled (weight j) (turned c.args.gains.now c.args.turn c.args.k j) in
     record {
       counted = weights_none at ∙ ap (weights at) none;
-      summed = sum_none f at ∙ ap (sum_from f at) none;
+      summed = λ turn _.
+          let f = λ (j : ℕ). scaled (weight j) (turned c.args.gains.now turn c.args.k j) in
+          sum_none f at ∙ ap (sum_from f at) none;
       most = origin_within (turned_bound * 0);
       least = omega arith;
       few = omega arith;
@@ -42,15 +43,21 @@ loop-l-preserved c =
     let l = c.loop-l.l in
     let at = c.args.at in
     let before = c.loop-l.invariant in
-    let f = λ (j : ℕ). scaled (weight j) (turned c.args.gains.now c.args.turn c.args.k j) in
     let least : at ≤ l = omega arith in
-    let term : c.scaled.result ≡ f l = c.scaled.ensures ∙ ap₂ scaled c.weight-weight.ensures.is c.turned-gain.ensures.is in
     let term_most = subst (IsWithin (c.weight-weight.result * turned_bound)) (sym c.scaled.ensures) (scaled_within c.weight-weight.result turned_bound c.turned-gain.result c.turned-gain.ensures.most) in
     record {
       counted = counted_more at l c.loop-l.all.weight c.weight-weight.result least before.counted c.weight-weight.ensures.is;
-      summed = c.plus-all.ensures ∙ summed_more f at l c.loop-l.all.sum c.scaled.result least before.summed term;
+      summed = λ turn are.
+          let f = λ (j : ℕ). scaled (weight j) (turned c.args.gains.now turn c.args.k j) in
+          let term : c.scaled.result ≡ f l = c.scaled.ensures ∙ ap₂ scaled c.weight-weight.ensures.is (c.turned-gain.ensures.is turn are) in
+          c.plus-all.ensures ∙ summed_more f at l c.loop-l.all.sum c.scaled.result least (before.summed turn are) term;
       most = subst (IsWithin (turned_bound * (c.loop-l.all.weight + c.weight-weight.result))) (sym c.plus-all.ensures)
           (within_both c.loop-l.all.weight c.weight-weight.result c.loop-l.all.sum c.scaled.result before.most term_most);
       least = omega arith;
       few = omega arith;
     }
+
+pub returns-clause-sum : goal.returns-clause-sum
+returns-clause-sum c turn are =
+    let end : c.loop-l.l - c.args.at ≡ c.args.end - c.args.at = omega arith in
+    c.loop-l.invariant.summed turn are ∙ ap (sum_from (λ j. scaled (weight j) (turned c.args.gains.now turn c.args.k j)) c.args.at) end

@@ -15,3 +15,6 @@ unfolding passes_at forms
 returns c =
     let end : c.loop-form.form ≡ 16 = omega arith in
     c.loop-form.invariant ∙ ap (λ n. c.args.passes.now.items ++ flat_map (passes_in_form c.args.position c.args.window.now) (range_with_len 0 n)) end
+
+pub push_form-requires-clause-seen : goal.push_form-requires-clause-seen
+push_form-requires-clause-seen c = c.seen_as-seen.ensures c.args.window.now c.requires.big c.requires.little
