@@ -2,7 +2,11 @@
 
 A receiver's frames are a function of the symbols. After a frame its search depends on the frame's position only: it is directly after
 a frame, and holds no symbols. So two receivers that report a frame at one position report the same frames from there on. A new receiver
-is put in that state by a dummy frame before its first symbol. The packets and their counts come from `s2 join`, which reads the BBFRAMEs."""
+is put in that state by a dummy frame before its first symbol. The packets and their counts come from `s2 join`, which reads the BBFRAMEs.
+
+With `--resync` a frame is reported 90 symbols later, and the search after a lost frame depends on the symbols of one frame more. A receiver
+whose symbols end before these decides as at the end of the stream. So its frames count up to the first one that lacks such symbols, and a
+receiver with more symbols goes on from there."""
 import argparse
 import collections
 import contextlib
@@ -37,7 +41,7 @@ STANDARD = ("-", "/dev/stdout")
 CERTIFIED = ("sole", "most-likely")
 # The options of demod that are passed on, each with the name of its value if it has one.
 OPTIONS = {"modcod": "M", "short": None, "pilots": None, "number": "N", "ro": "R", "rounds": "K", "passes": "P", "uncertified": None}
-OPTIONS |= {"divisor": "D", "factor": "F", "lock": "H", "turns": None, "equalize": None, "tuned": None, "figures": None, "exit-by": "BY"}
+OPTIONS |= {"divisor": "D", "factor": "F", "lock": "H", "turns": None, "resync": None, "equalize": None, "tuned": None, "figures": None, "exit-by": "BY"}
 FRAME = re.compile(rb"frame \d+ at (\d+) (([a-z-]+) (fixed \d+|lost).*)\n")
 CUT = re.compile(rb"cut at (\d+) symbols (\d+)\n")
 END = re.compile(rb"end frames (\d+) delivered (\d+) packets (\d+) bad (\d+)")
@@ -136,7 +140,8 @@ def symbols_in(path, stretch):
 
 class Receiver(typing.NamedTuple):
     """How s2 is called on a stretch: program, options, row file, and the records that it writes. Also the symbols of a frame, the symbols of its
-    payload and its bits, the bytes of a BBFRAME, and the bytes of a dummy frame and of a header of the mode, in hexadecimal."""
+    payload and its bits, the bytes of a BBFRAME, and the bytes of a dummy frame and of a header of the mode, in hexadecimal. `ahead`: the symbols
+    after a frame that have come when it is reported, none or a header's with --resync."""
 
     program: str
     words: list
@@ -148,6 +153,15 @@ class Receiver(typing.NamedTuple):
     bbframe: int
     dummy: str
     header: str
+    ahead: int
+
+    def over(self):
+        """The symbols that a stretch shares with the next one: both have a whole frame in common."""
+        return 2 * self.size + self.ahead
+
+    def reach(self, frame):
+        """The symbols from a frame's first one on that decide its line and the search after it."""
+        return self.size * (2 if self.ahead and not frame.delivered else 1) + self.ahead
 
     def call(self, stretch, symbols, folder, records):
         """Runs s2 on a stretch. The folder gets its report, its notes and its records."""
@@ -222,14 +236,17 @@ def receiver_of(chosen, program, rows, records):
             payload = int(symbols[0]) - HEADER
             sizes = int(symbols[chosen.pilots]), payload, payload * (2 if name.startswith("qpsk") else 3), int(kbch) // 8
             known = sent[-SYMBOL * DUMMY :].hex(), sent[: SYMBOL * HEADER].hex()
-            return Receiver(program, words, rows, list(records), *sizes, *known), tried.stderr
+            # --tuned includes --resync
+            ahead = HEADER if chosen.resync or chosen.tuned else 0
+            return Receiver(program, words, rows, list(records), *sizes, *known, ahead), tried.stderr
     raise Fault(f"s2 modes does not list the mode {chosen.modcod}")
 
 
 class Reception:
-    """What a receiver reported of a stretch, with positions of the whole stream, and its records."""
+    """What a receiver reported of a stretch, with positions of the whole stream, and its records. `frames`: those that count; all if the stream
+    `ends` with the stretch. `others`: those after them."""
 
-    def __init__(self, receiver, stretch, folder):
+    def __init__(self, receiver, stretch, folder, ends=False):
         self.receiver, self.stretch, self.folder = receiver, stretch, folder
         self.offset = stretch.start - DUMMY * stretch.follows
         self.frames, self.cut, before = [], None, stretch.start
@@ -237,19 +254,26 @@ class Reception:
             for line in report:
                 if found := FRAME.fullmatch(line):
                     at, verdict, outcome = int(found[1]) + self.offset, found[3].decode(), found[4]
-                    self.frames.append(Frame(at, found[2], before, verdict in CERTIFIED, outcome != b"lost"))
+                    self.frames.append(Frame(at, found[2], min(before, at), verdict in CERTIFIED, outcome != b"lost"))
                     before = at + receiver.size
                 elif found := CUT.fullmatch(line):
                     self.cut = int(found[1]) + self.offset, int(found[2])
-        self.index = {frame.at: number for number, frame in enumerate(self.frames)}
         self.notes = text_of(f"{folder}/notes")
         # If all that lies between frames is skipped, no dummy frame is there.
-        rest = (self.cut[0] if self.cut else stretch.stop) - before
+        end = self.cut[0] if self.cut else stretch.stop
+        rest = max(0, end - before)
         between = [frame.at - frame.before for frame in self.frames]
         self.has_dummies = sum(between) + rest * (self.cut is not None or rest >= HEADER) != self.passed_over()[0]
         self.gaps = {number: distance > 0 for number, distance in enumerate(between)}
+        # what a receiver found before a frame, by its number
+        self.skipped = {}
         if self.has_dummies and os.path.exists(f"{folder}/bbframes"):
             self.find_gaps()
+        count = sum(1 for _ in itertools.takewhile(lambda it: ends or it.at + receiver.reach(it) <= stretch.stop, self.frames))
+        self.frames, self.others = self.frames[:count], self.frames[count:]
+        self.index = {frame.at: number for number, frame in enumerate(self.frames)}
+        # the position at which the search continues after the last frame that counts
+        self.next = self.others[0].before if self.others else min(before, end)
 
     def passed_over(self):
         """The number of symbols skipped, of their places, and the first one."""
@@ -428,8 +452,10 @@ class Whole:
 
     def __init__(self, receiver, symbols, room, outputs, quiet):
         self.receiver, self.symbols, self.room, self.outputs, self.quiet = receiver, symbols, room, outputs, quiet
-        # The position after the last frame; the same, or that of the last symbol that is known to be in no frame; whether there is a frame, and the positions of the last frames.
-        self.end, self.cursor, self.follows, self.known = 0, 0, False, []
+        # The symbols that had come when the last frame was reported, and the positions of the last frames.
+        self.end, self.known = 0, []
+        # The position at which the search continues, which may be moved on over symbols in no frame; whether it is directly after a frame.
+        self.cursor, self.follows = 0, False
         self.count, self.first, self.certified, self.joiner = collections.Counter(), 0, True, Joiner()
         # the sums of figures; the lost frames with a refused header; until a frame is delivered, the energy of all headers
         self.figures, self.refused, self.energy = [], 0, 0
@@ -438,24 +464,24 @@ class Whole:
         # the least distance from the cursor at which it is tried to move it on without a frame
         self.least = 2 * DUMMY
 
-    def go_on(self, stop):
+    def go_on(self, stop, ends=False):
         """A receiver in the state of this one continues up to a position. What it reported."""
-        reception = self.tried(Stretch(self.cursor, stop, self.follows), self.receiver.records)
-        self.take(reception, 0)
-        shutil.rmtree(reception.folder)
+        with self.tried(Stretch(self.cursor, stop, self.follows), self.receiver.records, ends=ends) as reception:
+            self.take(reception, 0)
         return reception
 
-    def tried(self, stretch, records=(), after=b""):
+    @contextlib.contextmanager
+    def tried(self, stretch, records=(), after=b"", ends=False):
         folder = tempfile.mkdtemp(prefix="more.", dir=self.room)
         self.receiver.call(stretch, itertools.chain(self.symbols(stretch), [after]), folder, records)
-        return Reception(self.receiver, stretch, folder)
+        yield Reception(self.receiver, stretch, folder, ends)
+        shutil.rmtree(folder)
 
     def counted(self, stretch, after=b""):
         """The cut frame in a stretch without whole ones, the number of symbols skipped before it, and the first of them."""
-        reception = self.tried(stretch, after=after)
-        shutil.rmtree(reception.folder)
-        symbols, _, first = reception.passed_over()
-        return reception.cut, symbols, first
+        with self.tried(stretch, after=after) as reception:
+            symbols, _, first = reception.passed_over()
+            return None if reception.frames or reception.others else reception.cut, symbols, first
 
     def gap(self, reception, number):
         """The symbols skipped before a frame: how many, and the first."""
@@ -463,10 +489,10 @@ class Whole:
         distance = frame.at - frame.before
         if reception.gaps[number] is False or distance < DUMMY or not reception.has_dummies:
             return distance if reception.gaps[number] else 0, frame.before
-        # With its header alone the frame is cut.
-        _, symbols, first = self.counted(Stretch(frame.before, frame.at + HEADER, follows))
-        reception.gaps[number] = symbols > 0
-        return symbols, first
+        if number not in reception.skipped:
+            # With its header alone the frame is cut.
+            _, *reception.skipped[number] = self.counted(Stretch(frame.before, frame.at + HEADER, follows))
+        return reception.skipped[number]
 
     def pass_over(self, stop):
         """Moves the cursor on if no frame came, so that the symbols before it need not be kept. It moves if all symbols up to a position are
@@ -491,9 +517,9 @@ class Whole:
             return
         self.least = 2 * (stop - self.cursor)
 
-    def note_gap(self, symbols, *notes):
-        """The immediate notes on symbols without a frame, if there are enough for a frame."""
-        if symbols >= self.receiver.size and not self.quiet:
+    def note_gap(self, came, *notes):
+        """The immediate notes on symbols without a frame, if two frames' lengths of them have come."""
+        if came - self.end >= 2 * self.receiver.size and not self.quiet:
             sys.stderr.buffer.write(b"".join(b"s2: note: %b\n" % it for it in notes))
             sys.stderr.buffer.flush()
 
@@ -507,13 +533,13 @@ class Whole:
             self.count["places"] += 1
 
     def refused_from(self, reception, number):
-        """The refused headers of the frames from this number on. If some before it are lost, a receiver runs on these alone."""
-        count, before = reception.refused(), reception.frames[:number]
-        if not count or all(it.delivered for it in before):
-            return count
-        one = self.tried(reception.stretch._replace(stop=before[-1].at + self.receiver.size))
-        shutil.rmtree(one.folder)
-        return count - one.refused()
+        """The refused headers of the frames from this number on: those of the others that are lost are subtracted, by a receiver on each alone."""
+        count = reception.refused()
+        for frame in [*reception.frames[:number], *reception.others] if count else []:
+            if not frame.delivered:
+                with self.tried(Stretch(frame.at, frame.at + self.receiver.size, True)) as one:
+                    count -= one.refused()
+        return count
 
     def energy_of(self, frame):
         """The sum of I * I + Q * Q over a frame's header."""
@@ -556,7 +582,7 @@ class Whole:
         self.no_frame = self.no_frame or NO_FRAME.search(reception.notes)
         ahead, tried = 1, self.cursor
         while (number := self.meets(reception)) is None:
-            later = [frame.at + self.receiver.size for frame in reception.frames if frame.at >= self.cursor]
+            later = [it.at + self.receiver.reach(it) for it in reception.frames if it.at >= self.cursor]
             if not later or tried == reception.stretch.stop:
                 return
             tried = later[ahead - 1] if ahead <= len(later) else reception.stretch.stop
@@ -578,39 +604,41 @@ class Whole:
             self.count["delivered"] += frame.delivered
             self.certified &= frame.certified and frame.delivered
             self.count_figures(frame)
-            self.note_gap(frame.at - self.end, b"no frame since symbol %d" % self.end, b"frames again from symbol %d" % frame.at)
+            came = min(frame.at + size + self.receiver.ahead, reception.stretch.stop)
+            self.note_gap(came, b"no frame since symbol %d" % self.end, b"frames again from symbol %d" % (came - size))
             self.outputs.tell(b"frame %d at %d %b\n" % (self.count["frames"], frame.at, frame.words))
             self.known.append(frame.at)
-            self.end = frame.at + size
+            self.end = came
         if frames:
             self.refused += self.refused_from(reception, number)
             self.energy = 0 if self.count["delivered"] else self.energy + sum(map(self.energy_of, frames))
-            self.cursor, self.follows, self.least = frames[-1].at + size, True, 2 * DUMMY
+            self.cursor, self.follows, self.least = reception.next, True, 2 * DUMMY
             for name in self.receiver.records:
                 self.copy(reception, name, number)
             self.outputs.flush()
 
     def copy(self, reception, name, number):
-        """Copies the records of the frames from this number on."""
-        before, path = reception.frames[:number], f"{reception.folder}/{name}"
-        every, skipped = len(reception.frames), number
-        if name == "certificates":
-            every, skipped = sum(it.certified for it in reception.frames), sum(it.certified for it in before)
-        if name == "bbframes":
-            skipped += sum(self.gap(reception, it)[0] > 0 for it in range(number))
-        with open(path, "rb") as file:
+        """Copies the records of the frames that count, from this number on."""
+        every, count = [*reception.frames, *reception.others], len(reception.frames)
+
+        def records(stop):
+            """The number of records of the frames before this one."""
+            if name == "certificates":
+                return sum(it.certified for it in every[:stop])
+            return stop + (sum(self.gap(reception, it)[0] > 0 for it in range(stop)) if name == "bbframes" else 0)
+
+        with open(f"{reception.folder}/{name}", "rb") as file:
             if name == "values":
-                collections.deque(itertools.islice(file, number), 0)
-            elif name == "bbframes":
-                file.seek(skipped * self.receiver.bbframe)
-            else:
-                file.seek(skipped * (os.path.getsize(path) // max(1, every)))
-            size = self.receiver.bbframe if name == "bbframes" else BLOCK
-            while piece := file.read(size):
+                for line in itertools.islice(file, number, count):
+                    self.outputs.put(name, line)
+                return
+            size = self.receiver.bbframe if name == "bbframes" else os.fstat(file.fileno()).st_size // max(1, records(len(every)))
+            file.seek(records(number) * size)
+            for _ in range(records(number), records(count)):
                 if name == "bbframes":
-                    self.put_bbframe(piece)
+                    self.put_bbframe(file.read(size))
                 else:
-                    self.outputs.put(name, piece)
+                    self.outputs.put(name, file.read(size))
 
     def put_bbframe(self, frame):
         self.outputs.put("bbframes", frame)
@@ -638,7 +666,7 @@ class Whole:
         """The stream ends here: the remaining symbols, the end line, the notes, and the exit status."""
         cut = None
         while self.cursor < total:
-            reception = self.go_on(total)
+            reception = self.go_on(total, True)
             self.no_frame, cut = self.no_frame or NO_FRAME.search(reception.notes), reception.cut
             if reception.frames:
                 continue
@@ -650,7 +678,7 @@ class Whole:
             self.count_gap(symbols, first)
             break
         # a receiver knows it when it has read one frame's length more
-        self.note_gap(total - self.end - self.receiver.size, b"no frame since symbol %d" % self.end)
+        self.note_gap(total, b"no frame since symbol %d" % self.end)
         if cut:
             self.outputs.tell(b"cut at %d symbols %d\n" % cut)
             self.joiner.drop()
