@@ -27,8 +27,8 @@ mode_by modcod is_short has_pilots = mode_of modcod (is_set is_short) (is_set ha
 
 -- numbers that name a mode
 pub record NameMode (modcod is_short has_pilots : ℕ) : Type 0 where
-  pub is_short : is_short ≤ 1
-  pub has_pilots : has_pilots ≤ 1
+  pub short : is_short ≤ 1
+  pub pilots : has_pilots ≤ 1
   pub mode : IsMode (mode_by modcod is_short has_pilots)
 
 -- why numbers name no mode
