@@ -66,7 +66,7 @@ MakesShapeCode text shape (Err refusal) = ((refusal ≡ BadShape) × (IsShape sh
 
 -- ---- options
 
--- members of options that have values which they can have
+-- the members of options with few values have one of these
 pub record HaveValues (o : Options) : Type 0 where
   pub is_short : o.is_short ≤ 1
   pub has_pilots : o.has_pilots ≤ 1
@@ -80,11 +80,11 @@ pub record HaveValues (o : Options) : Type 0 where
   pub dummy_every : o.dummy_every ≤ 65535
   pub reserved : o.reserved ≡ replicate 13 0
 
--- options of their size, with such members
+-- options of their size, with such values
 abbrev pub AreOptions : Options → Type 0
 AreOptions o = (o.size ≡ 128) × HaveValues o
 
--- why options are refused before their numbers are read
+-- why options are refused for their size or such a value
 abbrev pub RefusesOptions : Options → Refusal → Type 0
 RefusesOptions o BadSize = o.size ≢ 128
 RefusesOptions o BadOption = (o.size ≡ 128) × (HaveValues o → ⊥)
@@ -113,7 +113,7 @@ pub record NameLink (o : Options) (rows : Rows) : Type 0 where
   pub mode : IsMode (mode_in o)
   pub set_up : IsSetUp (setup_in o) rows
 
--- why options name no link on rows, though their members have values which they can have
+-- why options of such values name no link on rows
 abbrev pub RefusesSetup : Options → Rows → Refusal → Type 0
 RefusesSetup o rows refusal =
     ((refusal ≡ BadMode) × (IsMode (mode_in o) → ⊥))
@@ -142,7 +142,7 @@ MakesSender (Some code) o (Err refusal) = RefusesLinkOf o code.matrix.now refusa
 abbrev pub SuitMode : Options → Rows → Type 0
 SuitMode o rows = o.modcod ≢ 0 → (IsMode (mode_in o) × (rows.shape ≡ shape_in (mode_in o)))
 
--- why options name no judge of rows, though their members have values which they can have
+-- why options of such values name no judge of rows
 abbrev pub RefusesJudging : Options → Rows → Refusal → Type 0
 RefusesJudging o rows BadMode = (o.modcod ≢ 0) × (IsMode (mode_in o) → ⊥)
 RefusesJudging o rows OtherShape = (o.modcod ≢ 0) × IsMode (mode_in o) × (rows.shape ≢ shape_in (mode_in o))

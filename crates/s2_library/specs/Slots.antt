@@ -279,7 +279,7 @@ abbrev pub ClosesStreamOf : (old new : Slot) → Result (Unit {0}) Refusal → T
 ClosesStreamOf (slots.Transmitter s) (slots.Transmitter t) result = ClosesStream s.stream.slicing.closed s t result
 ClosesStreamOf old new result = (result ≡ Err OtherKind) × (new ≡ old)
 
--- as many soft values as a code of rows has bits
+-- the soft values of a word of a code: n of them, each in its range
 abbrev pub AreSoft : Rows → List ℤ → Type 0
 AreSoft rows soft = (length soft ≡ (code_of rows).bits) × All IsSoft soft
 
