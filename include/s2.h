@@ -93,18 +93,19 @@ typedef struct s2_mode {
 } s2_mode;
 
 /* The numbers of a mode. modcod: 1 to 17. is_short, has_pilots: 0 or 1, else S2_BAD_OPTION. Codes: S2_BAD_SIZE,
- * S2_BAD_OPTION, S2_BAD_MODE. */
+ * S2_BAD_OPTION, S2_BAD_MODE: the first that applies. */
 int32_t s2_mode_of(uint32_t modcod, uint32_t is_short, uint32_t has_pilots, s2_mode *mode);
 
 /* ---- Codes: an LDPC code of address rows ------------------------------------------------------------------------ */
 
 /* The code of a mode from the text of a row file. Its tables (3.3 MB for normal frames) stay until the process ends, also
  * after s2_end: receivers share them. If a program makes the same codes again and again, it keeps them on a shelf, below.
- * Codes: S2_IN_USE, S2_BAD_OPTION, S2_BAD_MODE, S2_BAD_ROWS, S2_NO_MEMORY. */
+ * Codes: S2_IN_USE, S2_BAD_OPTION, S2_BAD_MODE, S2_BAD_ROWS, S2_NO_MEMORY: the first that applies, but S2_NO_MEMORY may come
+ * instead of S2_BAD_ROWS. */
 int32_t s2_code_new(const uint8_t *text, size_t length, uint32_t modcod, uint32_t is_short, s2_handle *code);
 
 /* The code of any shape, for s2_check and judges: `groups` rows, `group` information bits for each, group * q checks.
- * Codes: S2_IN_USE, S2_BAD_SHAPE, S2_BAD_ROWS, S2_NO_MEMORY. */
+ * Codes: S2_IN_USE, S2_BAD_SHAPE, S2_BAD_ROWS, S2_NO_MEMORY, as of s2_code_new. */
 int32_t s2_code_of_shape(const uint8_t *text, size_t length, uint32_t group, uint32_t groups, uint32_t q,
                          s2_handle *code);
 
@@ -117,7 +118,7 @@ int32_t s2_shelf_new(s2_handle *shelf);
 
 /* As s2_code_new; but if a code with the same rows is on the shelf, it is that one, and takes no more memory. Otherwise
  * the new code is put on the shelf. Codes: S2_IN_USE (of `code`), S2_EMPTY, S2_OTHER_KIND (of `shelf`), and as there. After
- * S2_NO_MEMORY the code may be on the shelf already. */
+ * S2_NO_MEMORY the code may be on the shelf already: the next call finds it there. */
 int32_t s2_shelf_code(s2_handle *shelf, const uint8_t *text, size_t length, uint32_t modcod, uint32_t is_short,
                       s2_handle *code);
 
@@ -145,12 +146,13 @@ typedef struct s2_options {
     uint32_t divisor;           /* of soft values: 4096, 8192, .. 65536; default 4096 */
     uint32_t factor;            /* of min-sum, in sixteenths, 8 to 16; default 12 */
     uint32_t max_header_errors; /* wrong bits of a header right after a frame, 12 to 40; default 12 */
-    uint32_t tuned;             /* 1: the best numbers of the mode are the defaults */
+    uint32_t tuned;             /* 1: the best numbers of the mode are the defaults; it includes `turns` and `resync` */
     uint32_t uncertified;       /* 1: no search for certificates after min-sum; passes count as 0 */
     uint32_t figures;           /* 1: each frame has figures */
-    uint32_t turns;             /* 1: also frames whose symbols are rotated by quarter turns; `tuned` includes it */
+    uint32_t turns;             /* 1: also frames whose symbols are rotated by quarter turns */
     uint32_t equalize;          /* 1: the gain of the channel is taken out of each frame before it is decided */
-    uint32_t reserved[14];
+    uint32_t resync;            /* 1: a frame may also begin in a lost one; frames come after 90 symbols more */
+    uint32_t reserved[13];
 } s2_options;
 
 /* ---- Receiver --------------------------------------------------------------------------------------------------- */
@@ -224,7 +226,8 @@ int32_t s2_receiver_new(s2_handle *code, const s2_options *options, s2_handle *r
 /* Begins a new stream with the same options. Allocates; after S2_NO_MEMORY the receiver is as before. */
 int32_t s2_receiver_reset(s2_handle *receiver);
 
-/* *bytes: how many bytes of symbols are wanted next; 0 after the end. Never over four times the symbols of a frame. */
+/* *bytes: how many bytes of symbols are wanted next; 0 after the end. Never over four times the symbols of a frame, with
+ * `resync` four times these and 90 more, those of the next header. */
 int32_t s2_receiver_room(s2_handle *receiver, size_t *bytes);
 
 /* Takes bytes of symbols: as many as s2_receiver_room says, or fewer if the stream ends with them. Fewer always mean
@@ -261,8 +264,8 @@ int32_t s2_receiver_totals(s2_handle *receiver, s2_totals *totals);
 
 /* ---- Transmitter ------------------------------------------------------------------------------------------------ */
 
-/* A transmitter on a code. Of the options the tuning is not read. Codes as those of s2_receiver_new. The code may be ended
- * before the transmitter. */
+/* A transmitter on a code. Of the options the tuning is not read. Codes as those of s2_receiver_new, without S2_BAD_TUNING. The
+ * code may be ended before the transmitter. */
 int32_t s2_transmitter_new(s2_handle *code, const s2_options *options, s2_handle *transmitter);
 
 /* Takes bytes of packets, 188 bytes each, in any pieces, up to the end of a data field. *taken: how many. If they are
@@ -297,7 +300,8 @@ int32_t s2_transmitter_reset(s2_handle *transmitter);
 /* ---- Judge: the decision on soft values, without symbols -------------------------------------------------------- */
 
 /* A judge on a code. Of the options rounds, passes, factor, tuned and uncertified count, and the mode. modcod 0: no mode;
- * then the code may have any shape, and only passes, factor and uncertified count. Codes as those of s2_receiver_new. */
+ * then the code may have any shape, and only passes, factor and uncertified count. Codes as those of s2_receiver_new, without
+ * S2_BAD_SCRAMBLING and S2_BAD_ROLL_OFF. */
 int32_t s2_judge_new(s2_handle *code, const s2_options *options, s2_handle *judge);
 
 /* Decides on n soft values. *verdict: of enum s2_verdict. Codes: also S2_BAD_SOFT. */

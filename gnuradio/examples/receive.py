@@ -1,7 +1,7 @@
 """Receives a file of complex symbols: receive.py ROWS SYMBOLS PACKETS
 
 The mode is QPSK 3/4 with pilots. SYMBOLS has 32-bit floats, amplitude 1: the form cf32_le of tools/convert. It prints the dictionary of each
-frame."""
+frame, and the line of one that comes only with the end of the stream."""
 import sys
 
 from gnuradio import blocks, gr, sembarohy
@@ -13,6 +13,10 @@ def main(rows, symbols, packets):
     graph.connect(blocks.file_source(gr.sizeof_gr_complex, symbols), received, blocks.file_sink(gr.sizeof_char, packets))
     graph.msg_connect(received, "frames", printer, "print")
     graph.run()
+    with open(packets, "ab") as file:
+        for frame in received.last:
+            file.write(frame.packets)
+            print(frame)
     print(received.totals)
     return 1 if received.fault else 0
 

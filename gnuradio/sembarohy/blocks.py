@@ -55,7 +55,9 @@ class receiver(Ending):
     outcome, packets, fixed if it was delivered, and figures if these are requested. The first byte of each frame's packets has the tag `frame`
     with it.
 
-    After the graph has ended, `totals` and `cut` are those of the stream."""
+    With `tuned` and with `resync` a frame comes after 90 symbols more, or with the end of the stream. GNU Radio does not say to a block that its
+    input has ended. So the packets of a frame that comes with the end are not written: after the graph has ended, `last` has these frames, and
+    `totals` and `cut` are those of the stream."""
 
     def __init__(self, rows, mode, short=False, pilots=False, tuned=True, uncertified=False, figures=False, scrambling=0, amplitude=1.0, **tuning):
         gr.basic_block.__init__(self, name="DVB-S2 receiver", in_sig=[numpy.complex64], out_sig=[numpy.uint8])
@@ -63,7 +65,7 @@ class receiver(Ending):
         code = sembarohy.Code.from_file(rows, mode, short=short)
         options = {"pilots": pilots, "tuned": tuned, "uncertified": uncertified, "figures": figures, "scrambling": scrambling}
         self.modem, self.gain = sembarohy.Receiver(code, mode, **options, **tuning), 1 / amplitude
-        self.totals = self.cut = None
+        self.totals, self.cut, self.last = None, None, []
         self.port, self.key = pmt.intern("frames"), pmt.intern("frame")
         self.message_port_register_out(self.port)
         self.set_output_multiple(MOST)
@@ -76,7 +78,7 @@ class receiver(Ending):
 
     def stop(self):
         try:
-            self.modem.close()
+            self.last = self.modem.close()
             self.totals, self.cut = self.modem.totals, self.modem.cut
         except Exception as fault:
             self.report(fault)

@@ -89,7 +89,7 @@ class Frame:
     rotated, 0 to 3.
 
     `soft`, `word`, `bbframe` and `certificate` are read from the receiver when they are first used, so use them before its next frame.
-    A receiver that is made with `keep` reads them at once."""
+    A receiver that is made with `keep` reads them at once, and so do the frames of `Receiver.close`."""
 
     def __init__(self, receiver: "Receiver", step: _library.Step, place: int, packets: bytes, figures: Figures | None):
         self.number: int = step.number
@@ -126,6 +126,11 @@ class Frame:
             self._kept[name] = self._receiver._record_of(self._place, self.number, name)
         return self._kept[name]
 
+    def _with_records(self) -> "Frame":
+        for name in RECORDS:
+            self._record(name)
+        return self
+
     def __str__(self) -> str:
         """Its line in the report of `s2 demod`."""
         ending = "lost" if self.fixed is None else f"fixed {self.fixed}"
@@ -142,14 +147,14 @@ class Receiver(Held):
     The options are those of `s2 demod` (`docs/formats.md`). `mode` is a MODCOD or a name. `tuned` selects the numbers that were measured
     to be best for the mode; `rounds`, `passes`, `divisor`, `factor` and `max_header_errors` (`--lock`) win over them. `uncertified` skips
     the search for certificates, and `figures` measures each frame. With `turns` frames are also received whose symbols are rotated by quarter
-    turns; `tuned` includes it. `equalize` takes the gain of the channel out of each frame before it is decided. `scrambling` is the number of
-    the scrambling sequence. `keep` names records that each frame reads at once, of `RECORDS`.
+    turns. With `resync` a frame may also begin in a lost one; then a frame comes after 90 symbols more, those of the next header, or from
+    `close`. `tuned` includes both. `equalize` takes the gain of the channel out of each frame before it is decided. `scrambling` is the number
+    of the scrambling sequence. `keep` names records that each frame reads at once, of `RECORDS`.
 
     >>> code = Code.from_file("normal_3_4.rows", "qpsk3/4")
     >>> with Receiver(code, "qpsk3/4", pilots=True, tuned=True) as receiver:
-    ...     for frame in receiver.feed(open("symbols", "rb").read()):
+    ...     for frame in [*receiver.feed(open("symbols", "rb").read()), *receiver.close()]:
     ...         print(frame, len(frame.packets))
-    ...     _ = receiver.close()
     ...     print(receiver.totals)
     frame 1 at 0 sole fixed 0 6016
     frame 2 at 33282 sole fixed 0 1504
@@ -168,6 +173,7 @@ class Receiver(Held):
         figures: bool = False,
         turns: bool = False,
         equalize: bool = False,
+        resync: bool = False,
         scrambling: int = 0,
         rounds: int | None = None,
         passes: int | None = None,
@@ -181,7 +187,7 @@ class Receiver(Held):
         if unknown := [name for name in self.keep if name not in RECORDS]:
             raise ValueError(f"no record {unknown[0]!r}: records are {', '.join(RECORDS)}")
         tuning = {"rounds": rounds, "passes": passes, "divisor": divisor, "factor": factor, "max_header_errors": max_header_errors}
-        flags = {"has_pilots": pilots, "tuned": tuned, "uncertified": uncertified, "figures": figures, "turns": turns, "equalize": equalize}
+        flags = {"has_pilots": pilots, "tuned": tuned, "uncertified": uncertified, "figures": figures, "turns": turns, "equalize": equalize, "resync": resync}
         self._make("receiver_new", code, options_of(code, mode, short, scrambling=scrambling, **tuning, **{name: int(it) for name, it in flags.items()}))
         # the bytes that are kept, the last step, and how many steps and new streams there were
         self._waiting, self._step, self._place = bytearray(), _library.Step(), 0
@@ -203,11 +209,15 @@ class Receiver(Held):
         return self._frames()
 
     def close(self) -> list[Frame]:
-        """Ends the stream, and returns the frames that were not iterated over. Then `cut` and `totals` are final."""
+        """Ends the stream, and returns the frames that were not iterated over, and those that only the end completes (`resync`). They have
+        read all their records. Then `cut` and `totals` are final."""
         with self._lock:
-            frames = list(self._frames())
+            frames = [frame._with_records() for frame in self._frames()]
             while not self._is_closed:
-                self._is_closed = self._advance(len(self._waiting)) == END
+                kind = self._advance(len(self._waiting))
+                if kind == FRAME:
+                    frames.append(self._decided()._with_records())
+                self._is_closed = kind == END
         return frames
 
     def reset(self) -> None:

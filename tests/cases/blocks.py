@@ -74,7 +74,9 @@ class Blocks(gr_unittest.TestCase):
             starts = [188 * sum(it % 41 for it in range(1, number)) for number in range(1, 92)]
             tags = [(tag.offset, pmt.to_python(tag.key), pmt.to_python(tag.value)) for tag in sink.tags()]
             self.assertEqual(tags, [(start, "frame", it) for start, it in zip(starts, wanted) if it["packets"]])
-            self.assertEqual((block.totals.frames, block.cut.symbols, block.fault), (91, 3, None))
+            self.assertEqual((block.totals.frames, block.cut.symbols, block.fault, block.last), (91, 3, None, []))
+        block, sink, _ = self.received(symbols, 100, resync=True)
+        self.assertEqual((len(sink.data()), [frame.number for frame in block.last]), (188 * sum(it % 41 for it in range(1, 92)), [92]))
 
     def test_figures(self):
         _, _, messages = self.received(frames_of([1, 3, 0, 12]), 100, figures=True)

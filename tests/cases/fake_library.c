@@ -200,8 +200,10 @@ int32_t s2_receiver_advance(s2_handle *receiver, const uint8_t *symbols, size_t 
         }
         fake->at += ROOM / 4;
     } else if (fake->ends == 0 && length >= 4) {
+        /* with resync the end completes a frame */
         fake->ends = 1;
-        step->kind = S2_CUT;
+        step->kind = fake->options.resync ? S2_FRAME : S2_CUT;
+        step->number = fake->number += fake->options.resync;
         step->symbols = length / 4;
     } else if (fake->ends < 2) {
         fake->ends = 2;

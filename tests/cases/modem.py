@@ -122,6 +122,13 @@ def try_sent(modcod, is_short, has_pilots):
     judge(f"{what}, counts", lines, ["packets %d frames %d" % made.counts])
 
 
+def frames_of(made, parts):
+    """The frames of a stream that comes in parts."""
+    for data in parts:
+        yield from made.feed(data)
+    yield from made.close()
+
+
 def try_received(modcod, is_short, has_pilots, **options):
     """The report, the packets and all records of the receiver."""
     mode = *options_of(modcod, is_short, has_pilots), "--number", 5
@@ -131,15 +138,13 @@ def try_received(modcod, is_short, has_pilots, **options):
     lines = run("demod", *mode, *words, *records, "rows", "received", "received.ts")
     code = sembarohy.Code.from_file(place("rows"), modcod, short=is_short)
     made, got = sembarohy.Receiver(code, modcod, pilots=has_pilots, scrambling=5, **options), {name: [] for name in ("lines", "packets", *sembarohy.RECORDS)}
-    for data in pieces(contents("received"), 2):
-        for frame in made.feed(data):
-            got["lines"].append(str(frame))
-            got["packets"].append(frame.packets)
-            got["soft"].append(" ".join(map(str, frame.soft)) + "\n")
-            got["word"].append(bits_in(frame.word))
-            got["bbframe"].append(frame.bbframe or b"")
-            got["certificate"].append(frame.certificate or b"")
-    judge("frames after the end", [], made.close())
+    for frame in frames_of(made, pieces(contents("received"), 2)):
+        got["lines"].append(str(frame))
+        got["packets"].append(frame.packets)
+        got["soft"].append(" ".join(map(str, frame.soft)) + "\n")
+        got["word"].append(bits_in(frame.word))
+        got["bbframe"].append(frame.bbframe or b"")
+        got["certificate"].append(frame.certificate or b"")
     what, cut = f"MODCOD {modcod} {options}", [str(made.cut)] if made.cut else []
     written = [line.partition(" changed ")[0] if line.startswith("end") else line for line in lines]
     judge(f"{what}, lines", written, [*got["lines"], *cut, str(made.totals)])
@@ -247,7 +252,7 @@ def main():
         got = try_received(modcod, is_short, has_pilots, tuned=True)
         try_forms(modcod, is_short, has_pilots, got["lines"])
         try_received(modcod, is_short, has_pilots, tuned=True, figures=True, rounds=30, max_header_errors=20)
-        try_received(modcod, is_short, has_pilots, uncertified=True, divisor=8192, factor=13, turns=True, equalize=True)
+        try_received(modcod, is_short, has_pilots, uncertified=True, divisor=8192, factor=13, turns=True, equalize=True, resync=True)
         try_evidence(modcod, is_short)
     prepare(*MODES[0])
     try_threads(*MODES[0][:3])

@@ -153,7 +153,7 @@ def try_options():
     for place, (name, number) in enumerate(tuning.items()):
         wanted = {"modcod": 7, "given": 1 << place, name: number}
         judge(name, {it: value for it, value in wanted.items() if value}, options_given(sembarohy.Receiver(code, 7, **{name: number})))
-    flags = {"pilots": "has_pilots", **{it: it for it in ("tuned", "uncertified", "figures", "turns", "equalize")}}
+    flags = {"pilots": "has_pilots", **{it: it for it in ("tuned", "uncertified", "figures", "turns", "equalize", "resync")}}
     for name, member in flags.items():
         judge(name, {"modcod": 7, member: 1}, options_given(sembarohy.Receiver(code, 7, **{name: True})))
     judge("scrambling", {"modcod": 12, "scrambling": 5}, options_given(sembarohy.Receiver(code, "8psk3/5", scrambling=5)))
@@ -220,6 +220,11 @@ def try_receiver():
     receiver.reset()
     receiver.feed(symbols_of([1], [1]))
     judge("frames at the end", ["frame 1 at 0 broken fixed 0", "frame 2 at 10 broken fixed 0"], [str(it) for it in receiver.close()])
+    receiver = sembarohy.Receiver(code_of(), 7, resync=True)
+    receiver.feed(symbols_of([1]) + bytes(4))
+    first, second = receiver.close()
+    judge("a frame that the end completes", (["frame 1 at 0 broken fixed 0", "frame 2 at 10 broken fixed 0"], None), ([str(first), str(second)], receiver.cut))
+    judge("the records of both", (soft_of(1), soft_of(2)), (plain(first.soft), plain(second.soft)))
     receiver.reset()
     next(receiver.feed(symbols_of([1], [1])))
     judge("the rest of a feed", [2, 3], [it.number for it in receiver.feed(symbols_of([1]))])

@@ -1,5 +1,5 @@
 /* demod MODCOD SHORT PILOTS FLAGS ROWS SYMBOLS PACKETS CERTIFICATES VALUES WORDS BBFRAMES > report
- * FLAGS has letters: t tuned, u uncertified, f figures. The report and the files are those of `s2 demod`. */
+ * FLAGS has letters: t tuned, u uncertified, f figures, r turns, e equalize, s resync. The report and the files are those of `s2 demod`. */
 #include "both.h"
 #include <inttypes.h>
 
@@ -71,6 +71,7 @@ static void put_line(s2_handle *rx, const s2_step *step) {
     if (step->outcome == S2_DELIVERED) printf(" fixed %" PRIu32, step->fixed);
     else printf(" lost");
     if (step->has_figures) put_figures(rx);
+    if (step->turn) printf(" turn %" PRIu32, step->turn);
     putchar('\n');
 }
 
@@ -80,6 +81,9 @@ int main(int argc, char **argv) {
     o.tuned = strchr(argv[4], 't') != NULL;
     o.uncertified = strchr(argv[4], 'u') != NULL;
     o.figures = strchr(argv[4], 'f') != NULL;
+    o.turns = strchr(argv[4], 'r') != NULL;
+    o.equalize = strchr(argv[4], 'e') != NULL;
+    o.resync = strchr(argv[4], 's') != NULL;
     s2_handle code = {0}, rx = {0};
     s2_mode mode = {.size = sizeof mode};
     size_t length, room;

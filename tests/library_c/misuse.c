@@ -87,9 +87,10 @@ static void wrong_options(s2_handle *code) {
     REFUSES(o.figures = 2, S2_BAD_OPTION);
     REFUSES(o.dummy_every = 65536, S2_BAD_OPTION);
     REFUSES(o.given = 32, S2_BAD_OPTION);
-    REFUSES(o.reserved[13] = 1, S2_BAD_OPTION);
+    REFUSES(o.reserved[12] = 1, S2_BAD_OPTION);
     REFUSES(o.turns = 2, S2_BAD_OPTION);
     REFUSES(o.equalize = 2, S2_BAD_OPTION);
+    REFUSES(o.resync = 2, S2_BAD_OPTION);
     REFUSES(o.is_short = 1, S2_OTHER_SHAPE);
     REFUSES(o.modcod = 6, S2_OTHER_SHAPE);
     REFUSES(o.scrambling = 262142, S2_BAD_SCRAMBLING);
@@ -100,6 +101,28 @@ static void wrong_options(s2_handle *code) {
     REFUSES((o.given = S2_GIVEN_DIVISOR, o.divisor = 4097), S2_BAD_TUNING);
     REFUSES((o.given = S2_GIVEN_FACTOR, o.factor = 17), S2_BAD_TUNING);
     REFUSES((o.given = S2_GIVEN_MAX_HEADER_ERRORS, o.max_header_errors = 41), S2_BAD_TUNING);
+    /* of several causes the first counts */
+    REFUSES((o.size = 4, o.tuned = 2), S2_BAD_SIZE);
+    REFUSES((o.tuned = 2, o.modcod = 0), S2_BAD_OPTION);
+    REFUSES((o.modcod = 0, o.scrambling = 262142), S2_BAD_MODE);
+    REFUSES((o.modcod = 6, o.scrambling = 262142), S2_OTHER_SHAPE);
+    REFUSES((o.scrambling = 262142, o.roll_off = 3), S2_BAD_SCRAMBLING);
+    REFUSES((o.roll_off = 3, o.given = S2_GIVEN_ROUNDS), S2_BAD_ROLL_OFF);
+#undef REFUSES
+#define JUDGES(change, wanted) (o = good, change, IS(s2_judge_new(code, &o, &made), wanted), HOLDS(!made.live == !!wanted), s2_end(&made))
+    JUDGES(o.size = 4, S2_BAD_SIZE);
+    JUDGES(o.tuned = 2, S2_BAD_OPTION);
+    JUDGES(o.modcod = 18, S2_BAD_MODE);
+    JUDGES(o.modcod = 6, S2_OTHER_SHAPE);
+    JUDGES(o.given = S2_GIVEN_ROUNDS, S2_BAD_TUNING);
+    JUDGES((o.modcod = 0, o.given = S2_GIVEN_FACTOR), S2_BAD_TUNING);
+    JUDGES((o.modcod = 0, o.scrambling = 262142, o.roll_off = 3), S2_OK);
+    /* a transmitter does not read the tuning */
+    o = good, o.given = S2_GIVEN_ROUNDS;
+    IS(s2_transmitter_new(code, &o, &made), S2_OK);
+    s2_end(&made);
+    o.roll_off = 3;
+    IS(s2_transmitter_new(code, &o, &made), S2_BAD_ROLL_OFF);
 }
 
 static void try_codes(const uint8_t *rows, size_t length, s2_handle *code) {
@@ -108,6 +131,7 @@ static void try_codes(const uint8_t *rows, size_t length, s2_handle *code) {
     uint32_t n = 0, k = 0, is_standard = 7;
     IS(s2_mode_of(7, 0, 0, &small), S2_BAD_SIZE);
     IS(s2_mode_of(7, 2, 0, &mode), S2_BAD_OPTION);
+    IS(s2_mode_of(18, 0, 2, &mode), S2_BAD_OPTION);
     IS(s2_mode_of(11, 1, 0, &mode), S2_BAD_MODE);
     IS(s2_mode_of(7, 0, 1, &mode), S2_OK);
     HOLDS(mode.n == 64800 && mode.k == 48600 && mode.kbch == 48408 && mode.bits == 2 && mode.symbols == 33282);
@@ -215,6 +239,10 @@ int main(int argc, char **argv) {
     HOLDS(s2_version() == S2_VERSION);
     IS(s2_error_text(S2_EMPTY, text, 5, &count), S2_TOO_SHORT);
     for (int32_t i = -30; i < 3; i++) IS(s2_error_text(i, text, sizeof text, &count), S2_OK);
+    IS(s2_error_text(S2_CLOSED, text, sizeof text, &count), S2_OK);
+    HOLDS(count == 21 && !memcmp(text, "the stream was closed", 21));
+    IS(s2_error_text(INT32_MIN, text, sizeof text, &count), S2_OK);
+    HOLDS(count == 14 && !memcmp(text, "unknown result", 14));
     try_codes(rows, length, &code);
     wrong_options(&code);
     IS(s2_receiver_new(&code, &o, &rx), S2_OK);

@@ -1,2 +1,3 @@
 pub mod Values
 pub mod Opened
+pub mod Filled

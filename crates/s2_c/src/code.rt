@@ -1,20 +1,19 @@
 //! The exports of codes and modes, and those without a handle.
-ghost use Rattle.std.specs.Prelude.{◌≡◌, ◌↔◌, false, None, Some, Err};
-ghost use Rattle.s2_mode.specs.Mode.{mode_of};
+ghost use Rattle.std.specs.Prelude.{◌≡◌, ◌≢◌, ◌↔◌, None, Some, Err};
 ghost use Rattle.s2_mode.specs.Shape.{shape_of};
 ghost use Rattle.s2_library.specs.declared.slot.Slot.{Slot};
-ghost use Rattle.s2_library.specs.Asked.{is_set};
-ghost use Rattle.s2_library.specs.Codes.{GivesFacts, HasCodeOf, HasCodeOfShape, code_in};
-ghost use Rattle.s2_library.specs.Copying.{CopiesSome};
+ghost use Rattle.s2_library.specs.Codes.{GivesFacts, code_in};
+ghost use Rattle.s2_library.specs.Copying.{Copies};
+ghost use Rattle.s2_library.specs.Refusals.{GivesMode, MakesCode, MakesShapeCode};
 ghost use Rattle.s2_library.specs.Results.{answer_of};
-ghost use Rattle.s2_library.specs.Shelves.{Finds, HasShelved, IsNewShelf, shelf_in};
-ghost use Rattle.s2_library.specs.Slots.{GivesMode};
-ghost use Rattle.s2_c.specs.Handles.{Fills};
+ghost use Rattle.s2_library.specs.Shelves.{IsNewShelf, ShelvesOf};
+ghost use Rattle.s2_library.specs.Texts.{result_text};
+ghost use Rattle.s2_c.specs.Handles.{Fills, Makes};
 
 use crate::handle::{Handle, fill};
 use s2_library::{
-    ModeFields, Refusal, code_facts, copy_bytes, mode_fields, new_code, new_shelf, result_number,
-    shape_code, shelf_code, text_of,
+    ModeFields, Refusal, code_facts, error_text, mode_fields, new_code, new_shelf, result_number,
+    shape_code, shelf_code,
 };
 use std::alloc::Global;
 
@@ -29,9 +28,9 @@ pub extern "C" fn s2_version() -> u32
 /// Copies the text of a result.
 #[unsafe(no_mangle)]
 pub extern "C" fn s2_error_text(number: i32, out: &mut [u8], count: &mut usize) -> i32
-    ensures { CopiesSome out.old out.new count.new (answer_of result) }
+    ensures { Copies (result_text number) out.old out.new count.new (answer_of result) }
 {
-    result_number(copy_bytes(text_of(number).as_bytes(), out, count))
+    result_number(error_text(number, out, count))
 }
 
 /// Gives the numbers of a mode.
@@ -42,7 +41,7 @@ pub extern "C" fn s2_mode_of(
     has_pilots: u32,
     mode: &mut ModeFields,
 ) -> i32
-    ensures { GivesMode (mode_of modcod (is_set is_short) (is_set has_pilots)) mode.old mode.new (answer_of result) }
+    ensures { GivesMode modcod is_short has_pilots mode.old mode.new (answer_of result) }
 {
     result_number(mode_fields(modcod, is_short, has_pilots, mode))
 }
@@ -56,7 +55,7 @@ pub extern "C" fn s2_code_new(
     is_short: u32,
     code: &mut Handle,
 ) -> i32
-    ensures { Fills (HasCodeOf text.now (mode_of modcod (is_set is_short) false)) code.old.cell.value code.new.cell.value (answer_of result) }
+    ensures { Fills (MakesCode text.now modcod is_short) code.old.cell.value code.new.cell.value (answer_of result) }
 {
     if code.live != 0 {
         return Refusal::InUse.number();
@@ -74,7 +73,7 @@ pub extern "C" fn s2_code_of_shape(
     q: u32,
     code: &mut Handle,
 ) -> i32
-    ensures { Fills (HasCodeOfShape text.now (shape_of group groups q)) code.old.cell.value code.new.cell.value (answer_of result) }
+    ensures { Fills (MakesShapeCode text.now (shape_of group groups q)) code.old.cell.value code.new.cell.value (answer_of result) }
 {
     if code.live != 0 {
         return Refusal::InUse.number();
@@ -106,7 +105,7 @@ pub extern "C" fn s2_code_facts(
 /// Makes an empty shelf.
 #[unsafe(no_mangle)]
 pub extern "C" fn s2_shelf_new(alloc: Global, shelf: &mut Handle) -> i32
-    ensures { Fills IsNewShelf shelf.old.cell.value shelf.new.cell.value (answer_of result) }
+    ensures { Fills (Makes IsNewShelf) shelf.old.cell.value shelf.new.cell.value (answer_of result) }
 {
     if shelf.live != 0 {
         return Refusal::InUse.number();
@@ -125,8 +124,8 @@ pub extern "C" fn s2_shelf_code(
     code: &mut Handle,
 ) -> i32
     ensures empty { shelf.old.cell.value ≡ None → code.old.cell.value ≡ None → (answer_of result ≡ Err Refusal.Empty) × (code.new.cell.value ≡ None) }
-    ensures made { (s t : Slot) → shelf.old.cell.value ≡ Some s → shelf.new.cell.value ≡ Some t → Fills (HasShelved text.now (mode_of modcod (is_set is_short) false) (shelf_in t)) code.old.cell.value code.new.cell.value (answer_of result) }
-    ensures again { (s t : Slot) → shelf.old.cell.value ≡ Some s → shelf.new.cell.value ≡ Some t → Finds text.now (mode_of modcod (is_set is_short) false) (shelf_in s) (shelf_in t) }
+    ensures made { (s t : Slot) → shelf.old.cell.value ≡ Some s → shelf.new.cell.value ≡ Some t → Fills (ShelvesOf text.now modcod is_short s t) code.old.cell.value code.new.cell.value (answer_of result) }
+    ensures in_use { code.old.cell.value ≢ None → shelf.new.cell.value ≡ shelf.old.cell.value }
     ensures kept { (shelf.new.cell.value ≡ None) ↔ (shelf.old.cell.value ≡ None) }
 {
     if code.live != 0 {

@@ -1,5 +1,5 @@
 //! Handles.
-ghost use Rattle.std.specs.Prelude.{◌≡◌, ◌↔◌, None, Ok, Some, Err, IfErr, MatchOption};
+ghost use Rattle.std.specs.Prelude.{◌≡◌, ◌↔◌, None, Some, MatchOption};
 ghost use Rattle.s2_library.specs.Results.{answer_of};
 ghost use Rattle.s2_c.specs.Handles.{Fills};
 
@@ -43,8 +43,7 @@ impl Handle {
 /// Puts a new slot into an empty handle, and returns the number of the result.
 pub(crate) fn fill(alloc: Global, made: Result<Slot, Refusal>, handle: &mut Handle) -> i32
     requires { handle.old.cell.value ≡ None }
-    ensures fills { Fills (λ slot. made ≡ Ok slot) None handle.new.cell.value (answer_of result) }
-    ensures refused { IfErr made (λ refusal. (answer_of result ≡ Err refusal) × (handle.new.cell.value ≡ None)) }
+    ensures { Fills (λ answer. answer ≡ made) None handle.new.cell.value (answer_of result) }
 {
     match made {
         Ok(slot) => match Box::new(alloc, slot) {

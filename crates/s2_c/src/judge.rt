@@ -1,13 +1,13 @@
 //! The exports of judges, and of the checker.
 ghost use Rattle.std.specs.Prelude.{◌≡◌, ◌↔◌, None, Some, Err};
 ghost use Rattle.s2_library.specs.declared.slot.Slot.{Slot};
-ghost use Rattle.s2_library.specs.Asked.{IsJudgeOf};
 ghost use Rattle.s2_library.specs.Checked.{ChecksFile};
-ghost use Rattle.s2_library.specs.Codes.{OnCode, code_in};
+ghost use Rattle.s2_library.specs.Codes.{code_in};
+ghost use Rattle.s2_library.specs.Refusals.{MakesJudge};
 ghost use Rattle.s2_library.specs.Results.{answer_of};
 ghost use Rattle.s2_library.specs.Copying.{digits_of};
 ghost use Rattle.s2_library.specs.Slots.{CopiesMadeOf, CopiesOf, DecidesOnOf, decided_file, judge_in, listed};
-ghost use Rattle.s2_c.specs.Handles.{Fills};
+ghost use Rattle.s2_c.specs.Handles.{Fills, MakesOf};
 
 use crate::handle::{Handle, fill};
 use s2_library::{
@@ -24,8 +24,7 @@ pub extern "C" fn s2_judge_new(
     options: &Options,
     judge: &mut Handle,
 ) -> i32
-    ensures empty { code.old.cell.value ≡ None → judge.old.cell.value ≡ None → (answer_of result ≡ Err Refusal.Empty) × (judge.new.cell.value ≡ None) }
-    ensures made { (s : Slot) → code.old.cell.value ≡ Some s → Fills (λ slot. OnCode (code_in s) (λ rows. IsJudgeOf options.now rows slot)) judge.old.cell.value judge.new.cell.value (answer_of result) }
+    ensures made { Fills (MakesOf code.old.cell.value (λ s made. MakesJudge (code_in s) options.now made)) judge.old.cell.value judge.new.cell.value (answer_of result) }
     ensures kept { code.new.cell.value ≡ code.old.cell.value }
 {
     if judge.live != 0 {

@@ -1,12 +1,12 @@
 //! The exports of receivers.
 ghost use Rattle.std.specs.Prelude.{◌≡◌, ◌↔◌, None, Some, Err, nat_eq};
 ghost use Rattle.s2_library.specs.declared.slot.Slot.{Slot};
-ghost use Rattle.s2_library.specs.Asked.{IsReceiverOf};
-ghost use Rattle.s2_library.specs.Codes.{OnCode, code_in};
+ghost use Rattle.s2_library.specs.Codes.{code_in};
+ghost use Rattle.s2_library.specs.Refusals.{MakesReceiver};
 ghost use Rattle.s2_library.specs.Results.{answer_of};
 ghost use Rattle.s2_library.specs.Copying.{digits_of};
 ghost use Rattle.s2_library.specs.Fields as fields;
-ghost use Rattle.s2_c.specs.Handles.{Fills};
+ghost use Rattle.s2_c.specs.Handles.{Fills, MakesOf};
 ghost use Rattle.s2_library.specs.Slots.{AdvancesSlot, CopiesMadeOf, CopiesOf, Gives, GivesFields, GivesFieldsIf, ResetsSlot, bbframe_in, last_figures, listed, received_file, reception_in, receiver_in, room_in, sums_in, totals_in};
 
 use crate::handle::{Handle, fill};
@@ -25,8 +25,7 @@ pub extern "C" fn s2_receiver_new(
     options: &Options,
     receiver: &mut Handle,
 ) -> i32
-    ensures empty { code.old.cell.value ≡ None → receiver.old.cell.value ≡ None → (answer_of result ≡ Err Refusal.Empty) × (receiver.new.cell.value ≡ None) }
-    ensures made { (s : Slot) → code.old.cell.value ≡ Some s → Fills (λ slot. OnCode (code_in s) (λ rows. IsReceiverOf options.now rows slot)) receiver.old.cell.value receiver.new.cell.value (answer_of result) }
+    ensures made { Fills (MakesOf code.old.cell.value (λ s made. MakesReceiver (code_in s) options.now made)) receiver.old.cell.value receiver.new.cell.value (answer_of result) }
     ensures kept { code.new.cell.value ≡ code.old.cell.value }
 {
     if receiver.live != 0 {

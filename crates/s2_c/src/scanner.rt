@@ -4,7 +4,7 @@ ghost use Rattle.s2_library.specs.declared.slot.Slot.{Slot};
 ghost use Rattle.s2_library.specs.Fields.{seen_fields};
 ghost use Rattle.s2_library.specs.Results.{answer_of};
 ghost use Rattle.s2_library.specs.Slots.{FindsOf, GivesFieldsIf, IsNewScanner, KeepsBytesOf, scanner_in, seen_in};
-ghost use Rattle.s2_c.specs.Handles.{Fills};
+ghost use Rattle.s2_c.specs.Handles.{Fills, Makes};
 
 use crate::handle::{Handle, fill};
 use s2_library::{Refusal, SeenFields, new_scanner, result_number, scan_at, scan_feed, scan_find};
@@ -13,7 +13,7 @@ use std::alloc::Global;
 /// Makes a scanner.
 #[unsafe(no_mangle)]
 pub extern "C" fn s2_scan_new(alloc: Global, scanner: &mut Handle) -> i32
-    ensures { Fills IsNewScanner scanner.old.cell.value scanner.new.cell.value (answer_of result) }
+    ensures { Fills (Makes IsNewScanner) scanner.old.cell.value scanner.new.cell.value (answer_of result) }
 {
     if scanner.live != 0 {
         return Refusal::InUse.number();

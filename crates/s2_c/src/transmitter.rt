@@ -1,12 +1,12 @@
 //! The exports of transmitters.
 ghost use Rattle.std.specs.Prelude.{◌≡◌, ◌↔◌, None, Some, Err};
 ghost use Rattle.s2_library.specs.declared.slot.Slot.{Slot};
-ghost use Rattle.s2_library.specs.Asked.{IsSenderOf};
-ghost use Rattle.s2_library.specs.Codes.{OnCode, code_in};
+ghost use Rattle.s2_library.specs.Codes.{code_in};
+ghost use Rattle.s2_library.specs.Refusals.{MakesSender};
 ghost use Rattle.s2_library.specs.Results.{answer_of};
 ghost use Rattle.s2_library.specs.Copying.{digits_of};
 ghost use Rattle.s2_library.specs.Slots.{ClosesStreamOf, CopiesOf, GivesCounts, GivesReady, PutsPacketsOf, RestartsOf, TakesFrameOf, listed, sender_in};
-ghost use Rattle.s2_c.specs.Handles.{Fills};
+ghost use Rattle.s2_c.specs.Handles.{Fills, MakesOf};
 
 use crate::handle::{Handle, fill};
 use s2_library::{
@@ -24,8 +24,7 @@ pub extern "C" fn s2_transmitter_new(
     options: &Options,
     transmitter: &mut Handle,
 ) -> i32
-    ensures empty { code.old.cell.value ≡ None → transmitter.old.cell.value ≡ None → (answer_of result ≡ Err Refusal.Empty) × (transmitter.new.cell.value ≡ None) }
-    ensures made { (s : Slot) → code.old.cell.value ≡ Some s → Fills (λ slot. OnCode (code_in s) (λ rows. IsSenderOf options.now rows slot)) transmitter.old.cell.value transmitter.new.cell.value (answer_of result) }
+    ensures made { Fills (MakesOf code.old.cell.value (λ s made. MakesSender (code_in s) options.now made)) transmitter.old.cell.value transmitter.new.cell.value (answer_of result) }
     ensures kept { code.new.cell.value ≡ code.old.cell.value }
 {
     if transmitter.live != 0 {

@@ -1,22 +1,10 @@
--- The rows of a text are one value (own).
-use Rattle.std.proofs.Common.{Bor, map, inl, inr, ◌≡◌, ℕ, ◌+◌, ◌<◌, List, [], ◌∷◌, ◌++◌, length, get_or, Result, Ok, Err, refl, sym, ap, subst, ◌∙◌, arith, length-append}
+-- Shelves (own).
+use Rattle.std.proofs.Common.{Bor, map, inl, inr, ◌≡◌, ℕ, ◌+◌, ◌<◌, List, [], ◌∷◌, ◌++◌, length, get_or, refl, sym, ap, subst, ◌∙◌, arith, length-append}
 use Rattle.std.proofs.Math.Seq.{get_or-append_seam}
 use Rattle.std.proofs.lemmas.Bool.{cases_lt}
 use Rattle.std.proofs.lemmas.List.{get_or-map}
-use Rattle.s2_mode.specs.Shape.{Shape}
-use Rattle.s2_rows.specs.Rows.{Rows, rows_value}
-use Rattle.s2_library.specs.Codes.{AreRowsOf}
-use Rattle.s2_library.specs.Shelves.{HaveSameRows, IsOn}
-
--- the rows of a result
-abbrev rows_in : {E : Type 0} → Result (List (List ℕ)) E → List (List ℕ)
-rows_in (Ok rows) = rows
-rows_in (Err fault) = []
-
-pub one_rows : (text : List ℕ) (shape : Shape) (a b : Rows) → AreRowsOf text shape a → AreRowsOf text shape b → a ≡ b
-one_rows text shape a b (rows, shaped) (rows', shaped') =
-    let same : a.rows ≡ b.rows = ap rows_in (sym rows ∙ rows') in
-    ap (rows_value a.shape) same ∙ ap (λ (s : Shape). rows_value s b.rows) (shaped ∙ sym shaped')
+use Rattle.s2_rows.specs.Rows.{Rows}
+use Rattle.s2_library.specs.Shelves.{HaveSameRows, IsOn, Puts}
 
 pub same_rows : (r : Rows) → HaveSameRows r r
 same_rows r = record { shape = refl; rows = λ g low. refl }
@@ -40,7 +28,12 @@ pub item_is : {X : Type 0} → (xs : List (Bor X)) (shelf : List X) (i : ℕ) (x
 item_is xs shelf i x m view low at =
     ap (λ s. get_or s i m) view ∙ get_or-map (λ b. b.now) xs i x m low ∙ ap (λ b. b.now) (sym at)
 
--- a code of these rows that was put last
-pub shelved : (old new : List Rows) (code m : Rows) → code ≡ m → new ≡ old ++ code ∷ [] → HaveSameRows code m × IsOn m new
-shelved old new code m is put =
-    (subst (λ (r : Rows). HaveSameRows r m) (sym is) (same_rows m), subst (IsOn m) (sym (put ∙ ap (λ r. old ++ r ∷ []) is)) (IsOn_last old m))
+-- a code of these rows that was put last, because the shelf had none
+pub shelved : (old new : List Rows) (code m : Rows) → code ≡ m → new ≡ old ++ code ∷ [] → (IsOn m old → ⊥) → HaveSameRows code m × IsOn m new × Puts m old new
+shelved old new code m is put none =
+    let last : new ≡ old ++ m ∷ [] = put ∙ ap (λ r. old ++ r ∷ []) is in
+    (subst (λ (r : Rows). HaveSameRows r m) (sym is) (same_rows m), (subst (IsOn m) (sym last) (IsOn_last old m), record { again = λ on. absurd (none on); other = λ _. last }))
+
+-- a shelf that had these rows
+pub found : (old new : List Rows) (code m : Rows) → new ≡ old → HaveSameRows code m → IsOn m old → HaveSameRows code m × IsOn m new × Puts m old new
+found old new code m same rows on = (rows, (subst (IsOn m) (sym same) on, record { again = λ _. same; other = λ none. absurd (none on) }))

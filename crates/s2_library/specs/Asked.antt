@@ -1,8 +1,13 @@
 -- The link and the tuning of the options of C (own).
-use Rattle.std.specs.Prelude.{◌≡◌, ℕ, ◌%◌, ◌/◌, nat_eq, Bool, false, if◌then◌else◌, min, None}
+use Rattle.std.specs.Prelude.{◌≡◌, ℕ, ◌%◌, ◌/◌, nat_eq, Bool, if◌then◌else◌, min, None}
 use Rattle.s2_mode.specs.Mode.{Mode, mode_of}
 use Rattle.s2_rows.specs.Rows.{Rows}
 use Rattle.s2_link.specs.Link.{Link, link_of}
+use Rattle.s2_link.specs.declared.setup.Setup.{Setup}
+use Rattle.s2_soft.specs.Divisors.{default_divisor}
+use Rattle.s2_minsum.specs.Factors.{default_factor}
+use Rattle.s2_plframe.specs.Constants.{header_threshold}
+use Rattle.s2_tuning.specs.Limits.{default_rounds}
 use Rattle.s2_tuning.specs.Tuning.{Tuning}
 use Rattle.s2_tuning.specs.Wanted.{tuning_by, judging_by}
 use Rattle.s2_tuning.specs.declared.wanted.Number.{Number}
@@ -30,6 +35,7 @@ flags_of o = record {
   figures = is_set o.figures;
   turns = is_set o.turns;
   equalize = is_set o.equalize;
+  resync = is_set o.resync;
   dummy_every = o.dummy_every;
 }
 
@@ -40,26 +46,30 @@ number_by is_given value default = record { is_given = is_given; value = (if is_
 -- the tuning that is requested
 abbrev pub wanted_by : Flags → Options → Wanted
 wanted_by flags o = record {
-  rounds = number_by (nat_eq (o.given % 2) 1) o.rounds 50;
+  rounds = number_by (nat_eq (o.given % 2) 1) o.rounds default_rounds;
   passes = number_by (nat_eq (o.given / 2 % 2) 1) o.passes 0;
-  divisor = number_by (nat_eq (o.given / 4 % 2) 1) o.divisor 4096;
-  factor = number_by (nat_eq (o.given / 8 % 2) 1) o.factor 12;
-  max_header_errors = number_by (nat_eq (o.given / 16 % 2) 1) o.max_header_errors 12;
+  divisor = number_by (nat_eq (o.given / 4 % 2) 1) o.divisor default_divisor;
+  factor = number_by (nat_eq (o.given / 8 % 2) 1) o.factor default_factor;
+  max_header_errors = number_by (nat_eq (o.given / 16 % 2) 1) o.max_header_errors header_threshold;
   tuned = flags.tuned;
   uncertified = flags.uncertified;
   figures = flags.figures;
   turns = flags.turns;
   equalize = flags.equalize;
-  resync = false;
+  resync = flags.resync;
 }
 
 -- the mode of options
 abbrev pub mode_in : Options → Mode
 mode_in o = mode_of o.modcod (is_set o.is_short) (is_set o.has_pilots)
 
+-- the setup of options
+abbrev pub setup_in : Options → Setup
+setup_in o = record { mode = mode_in o; number = o.scrambling; roll_off = min o.roll_off 255 }
+
 -- the link of options on a code
 abbrev pub link_in : Options → Rows → Link
-link_in o rows = link_of (record { mode = mode_in o; number = o.scrambling; roll_off = min o.roll_off 255 }) rows
+link_in o rows = link_of (setup_in o) rows
 
 -- the tuning of options
 abbrev pub tuning_in : Options → Tuning

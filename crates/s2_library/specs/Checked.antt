@@ -47,10 +47,11 @@ pub record AreOfView (r : Rows) (v : View) (fields : CheckedFields) : Type 0 whe
 abbrev pub AreOfFile : Rows → File → CheckedFields → Type 0
 AreOfFile r f fields = ((Suits r f → ⊥) × (fields ≡ checked 1 false 0 (pos 0))) ⊎ AreOfView r (view_of r f) fields
 
--- A certificate file is checked against a code, and the fields are written. If it is refused, they are unchanged
+-- A certificate file is checked against a code, and the fields are written, if the caller set their size. If it is refused, they are
+-- unchanged. Memory may be refused before the file is read
 abbrev pub ChecksFile : Option Code → List ℕ → (old new : CheckedFields) → Result (Unit {0}) Refusal → Type 0
 ChecksFile None bytes old new result = (result ≡ Err OtherKind) × (new ≡ old)
-ChecksFile (Some code) bytes old new (Ok done) = (f : File) × (file_of_bytes bytes ≡ Ok f) × AreOfFile code.matrix.now f new
+ChecksFile (Some code) bytes old new (Ok done) = (old.size ≡ 48) × ((f : File) × (file_of_bytes bytes ≡ Ok f) × AreOfFile code.matrix.now f new)
 ChecksFile (Some code) bytes old new (Err BadSize) = (old.size ≢ 48) × (new ≡ old)
-ChecksFile (Some code) bytes old new (Err BadCertificate) = IsErr (file_of_bytes bytes) × (new ≡ old)
-ChecksFile (Some code) bytes old new (Err refusal) = (refusal ≡ NoMemory) × (new ≡ old)
+ChecksFile (Some code) bytes old new (Err BadCertificate) = (old.size ≡ 48) × IsErr (file_of_bytes bytes) × (new ≡ old)
+ChecksFile (Some code) bytes old new (Err refusal) = (refusal ≡ NoMemory) × (old.size ≡ 48) × (new ≡ old)

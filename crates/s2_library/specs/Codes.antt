@@ -36,11 +36,6 @@ abbrev pub code_in : Slot → Option Code
 code_in (slots.Code code) = Some code
 code_in slot = None
 
--- a fact of the rows of a code, which is there
-abbrev pub OnCode : Option Code → (Rows → Type 0) → Type 0
-OnCode None fact = ⊥
-OnCode (Some code) fact = fact code.matrix.now
-
 -- the numbers n and k of a slot's code are given, and whether its rows are the standard's
 abbrev pub GivesFacts : Option Code → (n m k l s t : ℕ) → Result (Unit {0}) Refusal → Type 0
 GivesFacts None n m k l s t result = (result ≡ Err OtherKind) × (m ≡ n) × (l ≡ k) × (t ≡ s)

@@ -13,10 +13,6 @@ pub record Copies {A T : Type 0} (items old new : List A) (count : ℕ) (result 
   pub counted : count ≡ length items
   pub fits : Fits items old new result
 
--- some list is copied to a buffer, and its length is given
-abbrev pub CopiesSome : {A T : Type 0} → (old new : List A) → (count : ℕ) → Result T Refusal → Type 0
-CopiesSome {A} old new count result = (items : List A) × Copies items old new count result
-
 -- a bit as a byte
 abbrev pub digit : Bool → ℕ
 digit bit = if bit then 1 else 0

@@ -3,6 +3,8 @@ pub mod Checked
 pub mod Codes
 pub mod Copying
 pub mod Fields
+pub mod Refusals
 pub mod Results
 pub mod Shelves
 pub mod Slots
+pub mod Texts

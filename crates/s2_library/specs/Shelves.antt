@@ -1,11 +1,14 @@
 -- Shelves of codes, on which the same rows are found again (own).
-use Rattle.std.specs.Prelude.{◌≡◌, ◌<◌, ℕ, List, [], length, get_or}
+use Rattle.std.specs.Prelude.{◌≡◌, ◌<◌, ℕ, List, [], ◌∷◌, ◌++◌, length, get_or, Result, Ok, Err}
 use Rattle.s2_mode.specs.Mode.{Mode, shape_in}
 use Rattle.s2_rows.specs.Rows.{Rows, row_of}
 use Rattle.s2_table.specs.Sums.{standard_sum}
 use Rattle.s2_table.specs.Rising.{HasSum}
 use Rattle.s2_library.specs.Codes.{AreRowsOf}
+use Rattle.s2_library.specs.Refusals.{NameMode, RefusesCode, mode_by}
 use Rattle.s2_library.specs.declared.code.Code.{Code}
+use Rattle.s2_library.specs.declared.refusal.Refusal.{Refusal}
+use Rattle.s2_library.specs.declared.refusal.Refusal.TheVariants.{OtherKind}
 use Rattle.s2_library.specs.declared.slot.Slot.{Slot}
 use Rattle.s2_library.specs.declared.slot.Slot.TheVariants as slots
 
@@ -18,19 +21,15 @@ pub record HaveSameRows (a b : Rows) : Type 0 where
 abbrev pub IsOn : Rows → List Rows → Type 0
 IsOn rows shelf = (k : ℕ) × (k < length shelf) × HaveSameRows (get_or shelf k rows) rows
 
--- a code with the rows of a text, which are on a shelf, and whether these are the standard's for a mode
-pub record IsShelved (text : List ℕ) (mode : Mode) (shelf : List Rows) (code : Code) : Type 0 where
-  pub rows : (r : Rows) × AreRowsOf text (shape_in mode) r × HaveSameRows code.matrix.now r × IsOn r shelf
+-- rows that are on a shelf leave it unchanged; others are put there, after those that are there
+pub record Puts (rows : Rows) (old new : List Rows) : Type 0 where
+  pub again : IsOn rows old → new ≡ old
+  pub other : (IsOn rows old → ⊥) → new ≡ old ++ rows ∷ []
+
+-- a code with the rows of a text, which are put on a shelf, and whether these are the standard's for a mode
+pub record IsShelved (text : List ℕ) (mode : Mode) (old new : List Rows) (code : Code) : Type 0 where
+  pub rows : (r : Rows) × AreRowsOf text (shape_in mode) r × HaveSameRows code.matrix.now r × IsOn r new × Puts r old new
   pub standard : HasSum code.matrix.now (standard_sum mode) code.is_standard
-
--- a shelf that has the rows of a text stays as it is
-abbrev pub Finds : List ℕ → Mode → (old new : List Rows) → Type 0
-Finds text mode old new = (r : Rows) → AreRowsOf text (shape_in mode) r → IsOn r old → new ≡ old
-
--- the rows on the shelf in a slot
-abbrev pub shelf_in : Slot → List Rows
-shelf_in (slots.Shelf shelf) = shelf
-shelf_in slot = []
 
 -- an empty shelf
 abbrev pub IsNewShelf : Slot → Type 0
@@ -38,6 +37,16 @@ IsNewShelf (slots.Shelf shelf) = shelf ≡ []
 IsNewShelf slot = ⊥
 
 -- a slot with such a code
-abbrev pub HasShelved : List ℕ → Mode → List Rows → Slot → Type 0
-HasShelved text mode shelf (slots.Code code) = IsShelved text mode shelf code
-HasShelved text mode shelf slot = ⊥
+abbrev pub HasShelved : List ℕ → Mode → (old new : List Rows) → Slot → Type 0
+HasShelved text mode old new (slots.Code code) = IsShelved text mode old new code
+HasShelved text mode old new slot = ⊥
+
+-- the code of a mode by the rows of a text, from a shelf; if it is refused, the shelf is unchanged
+abbrev pub Shelves : List ℕ → (modcod is_short : ℕ) → (old new : List Rows) → Result Slot Refusal → Type 0
+Shelves text modcod is_short old new (Ok slot) = NameMode modcod is_short 0 × HasShelved text (mode_by modcod is_short 0) old new slot
+Shelves text modcod is_short old new (Err refusal) = RefusesCode text modcod is_short refusal × (new ≡ old)
+
+-- the same from the shelf of a slot
+abbrev pub ShelvesOf : List ℕ → (modcod is_short : ℕ) → (old new : Slot) → Result Slot Refusal → Type 0
+ShelvesOf text modcod is_short (slots.Shelf old) (slots.Shelf new) result = Shelves text modcod is_short old new result
+ShelvesOf text modcod is_short old new result = (result ≡ Err OtherKind) × (new ≡ old)

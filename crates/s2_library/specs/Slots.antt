@@ -1,6 +1,5 @@
 -- The contents of a slot, and the calls on them (own).
 use Rattle.std.specs.Prelude.{◌≡◌, ◌≢◌, ◌↔◌, ◌⊎◌, ℕ, ◌+◌, ◌/◌, ◌<◌, ◌≤◌, ℤ, List, [], ◌++◌, length, slice_get, Bool, true, false, if◌then◌else◌, Option, Some, None, Result, Ok, Err, All}
-use Rattle.s2_mode.specs.Mode.{Mode}
 use Rattle.s2_bits.specs.Bits.{bytes_from}
 use Rattle.s2_scramble.specs.Baseband.{scrambled}
 use Rattle.s2_check.specs.CertificateBytes.{bytes_of}
@@ -8,7 +7,9 @@ use Rattle.s2_check.specs.Views.{View, IsSoft}
 use Rattle.s2_receive.specs.Receiving.{asked}
 use Rattle.s2_report.specs.declared.totals.Totals.{Totals}
 use Rattle.s2_modem.specs.Reception.{Receiver, IsNew, certificate_of, rules_for, seen}
-use Rattle.s2_send.specs.Sender.{Sender, MakesFrame, PutsBytes, at_first, ended}
+use Rattle.s2_send.specs.Sender.{Sender, MakesFrame, PutsBytes, Refuses, at_first, ended}
+use Rattle.s2_send.specs.declared.outcome.SendFault.{SendFault}
+use Rattle.s2_send.specs.declared.outcome.SendFault.TheVariants as send_faults
 use Rattle.s2_bbframe.specs.DataStream.{IsReady, field_bytes}
 use Rattle.s2_receive.specs.Answers.{Advances}
 use Rattle.s2_report.specs.declared.report.Outcome.{Outcome}
@@ -17,6 +18,7 @@ use Rattle.s2_report.specs.declared.report.Step.{Step}
 use Rattle.s2_report.specs.declared.report.Step.TheVariants as steps
 use Rattle.s2_report.specs.declared.figures.Figures.{Figures}
 use Rattle.s2_report.specs.declared.figures.Sums.{Sums}
+use Rattle.s2_rows.specs.Rows.{Rows}
 use Rattle.s2_matrix.specs.Code.{code_of}
 use Rattle.s2_judge.specs.Judging.{Judging}
 use Rattle.s2_judge.specs.Deciding.{decided}
@@ -24,11 +26,10 @@ use Rattle.s2_scan.specs.Scanning.{AreHeadersOf}
 use Rattle.s2_scan.specs.declared.candidate.Candidate.{Candidate}
 use Rattle.s2_library.specs.Copying.{Copies}
 use Rattle.s2_library.specs.declared.scanner.Scanner.{Scanner}
-use Rattle.s2_library.specs.Fields.{mode_fields, step_fields, verdict_number}
-use Rattle.s2_library.specs.declared.mode.ModeFields.{ModeFields}
+use Rattle.s2_library.specs.Fields.{step_fields, verdict_number}
 use Rattle.s2_library.specs.declared.step.StepFields.{StepFields}
 use Rattle.s2_library.specs.declared.refusal.Refusal.{Refusal}
-use Rattle.s2_library.specs.declared.refusal.Refusal.TheVariants.{OtherKind, BadSize, BadSoft, Closed, TooMany, NoneThere, NoMemory}
+use Rattle.s2_library.specs.declared.refusal.Refusal.TheVariants.{OtherKind, BadSize, BadSoft, Closed, CutPacket, Full, NoSync, TooMany, NoneThere, NoMemory}
 use Rattle.s2_library.specs.declared.receiver.Reception.{Reception}
 use Rattle.s2_library.specs.declared.slot.Slot.{Slot}
 use Rattle.s2_library.specs.declared.slot.Slot.TheVariants as slots
@@ -148,11 +149,6 @@ GivesFields fields None is_sized old new result = (result ≡ Err OtherKind) × 
 GivesFields fields (Some x) false old new result = (result ≡ Err BadSize) × (new ≡ old)
 GivesFields fields (Some x) true old new result = (result ≡ Ok tt) × (new ≡ fields x)
 
--- the numbers of a mode are written, or the struct is unchanged
-abbrev pub GivesMode : Mode → (old new : ModeFields) → Result (Unit {0}) Refusal → Type 0
-GivesMode m old new (Ok done) = new ≡ mode_fields m
-GivesMode m old new (Err refusal) = new ≡ old
-
 -- the same of a value that may be missing
 abbrev pub GivesFieldsIf : {A F : Type 0} → (A → F) → Option (Option A) → (is_sized : Bool) → (old new : F) → Result (Unit {0}) Refusal → Type 0
 GivesFieldsIf fields None is_sized old new result = (result ≡ Err OtherKind) × (new ≡ old)
@@ -167,15 +163,15 @@ TakesBytes old new bytes step =
     (length bytes ≤ asked (rules_for old.receiver) old.receiver.state) × Advances (seen old.receiver) (seen new.receiver) bytes new.step
     × (step ≡ step_fields new.step) × (new.link ≡ old.link) × (new.tuning ≡ old.tuning)
 
--- the cause of a refusal of bytes
+-- the cause of a refusal of bytes: the first of two
 abbrev pub RefusesBytes : Reception → List ℕ → (size : ℕ) → Refusal → Type 0
 RefusesBytes r bytes size BadSize = size ≢ 80
-RefusesBytes r bytes size TooMany = asked (rules_for r.receiver) r.receiver.state < length bytes
+RefusesBytes r bytes size TooMany = (size ≡ 80) × (asked (rules_for r.receiver) r.receiver.state < length bytes)
 RefusesBytes r bytes size refusal = ⊥
 
 -- the result for a receiver; if it is refused, nothing changes
 abbrev pub AdvancesReception : (old new : Reception) → List ℕ → (before behind : StepFields) → Result (Unit {0}) Refusal → Type 0
-AdvancesReception old new bytes before behind (Ok done) = TakesBytes old new bytes behind
+AdvancesReception old new bytes before behind (Ok done) = (before.size ≡ 80) × TakesBytes old new bytes behind
 AdvancesReception old new bytes before behind (Err refusal) = RefusesBytes old bytes before.size refusal × (new ≡ old) × (behind ≡ before)
 
 -- the result for a slot
@@ -253,34 +249,47 @@ abbrev pub FindsOf : (old new : Slot) → (n m : ℕ) → Result (Unit {0}) Refu
 FindsOf (slots.Scanner s) (slots.Scanner t) n m result = Finds s t n m result
 FindsOf old new n m result = (result ≡ Err OtherKind) × (new ≡ old) × (m ≡ n)
 
--- A transmitter takes bytes, and their number is given. If its stream was closed, nothing changes
-abbrev pub PutsPackets : (old new : Sender) → List ℕ → (n m : ℕ) → Result (Unit {0}) Refusal → Type 0
-PutsPackets old new bytes n m (Ok done) = PutsBytes old new bytes (Ok m)
-PutsPackets old new bytes n m (Err Closed) = (old.stream.slicing.closed ≡ true) × (new ≡ old) × (m ≡ n)
-PutsPackets old new bytes n m (Err refusal) = (old.stream.slicing.closed ≡ false) × (m ≡ n)
+-- the refusal of a stream
+abbrev pub send_refusal : SendFault → Refusal
+send_refusal send_faults.NotWholePacket = CutPacket
+send_refusal (send_faults.NoSync packet told) = NoSync
+send_refusal send_faults.Read = Full
+send_refusal send_faults.Write = Full
+
+-- The result of a transmitter that is given bytes, by whether its stream was closed. It takes bytes, and their number is given. Or
+-- the stream is refused for a fault. If it was closed, nothing changes
+abbrev pub PutsPackets : (is_closed : Bool) → (old new : Sender) → List ℕ → (n m : ℕ) → Result (Unit {0}) Refusal → Type 0
+PutsPackets true old new bytes n m result = (result ≡ Err Closed) × (new ≡ old) × (m ≡ n)
+PutsPackets false old new bytes n m (Ok done) = PutsBytes old new bytes (Ok m)
+PutsPackets false old new bytes n m (Err refusal) = (m ≡ n) × ((fault : SendFault) × (refusal ≡ send_refusal fault) × PutsBytes old new bytes (Err fault))
 
 -- the same for a slot
 abbrev pub PutsPacketsOf : (old new : Slot) → List ℕ → (n m : ℕ) → Result (Unit {0}) Refusal → Type 0
-PutsPacketsOf (slots.Transmitter s) (slots.Transmitter t) bytes n m result = PutsPackets s t bytes n m result
+PutsPacketsOf (slots.Transmitter s) (slots.Transmitter t) bytes n m result = PutsPackets s.stream.slicing.closed s t bytes n m result
 PutsPacketsOf old new bytes n m result = (result ≡ Err OtherKind) × (new ≡ old) × (m ≡ n)
 
--- a transmitter's stream ends, or it is refused and nothing changes
-abbrev pub ClosesStream : (old new : Sender) → Result (Unit {0}) Refusal → Type 0
-ClosesStream old new (Ok done) = new ≡ record old { stream = ended old.stream }
-ClosesStream old new (Err refusal) = new ≡ old
+-- a transmitter's stream ends; or it is refused, for a fault or because it was closed, and nothing changes
+abbrev pub ClosesStream : (is_closed : Bool) → (old new : Sender) → Result (Unit {0}) Refusal → Type 0
+ClosesStream true old new result = (result ≡ Err Closed) × (new ≡ old)
+ClosesStream false old new (Ok done) = (old.stream.held ≡ []) × (new ≡ record old { stream = ended old.stream })
+ClosesStream false old new (Err refusal) = (new ≡ old) × ((fault : SendFault) × (refusal ≡ send_refusal fault) × Refuses old.stream fault)
 
 -- the same for a slot
 abbrev pub ClosesStreamOf : (old new : Slot) → Result (Unit {0}) Refusal → Type 0
-ClosesStreamOf (slots.Transmitter s) (slots.Transmitter t) result = ClosesStream s t result
+ClosesStreamOf (slots.Transmitter s) (slots.Transmitter t) result = ClosesStream s.stream.slicing.closed s t result
 ClosesStreamOf old new result = (result ≡ Err OtherKind) × (new ≡ old)
+
+-- the soft values of a word of a code: n of them, each in its range
+abbrev pub AreSoft : Rows → List ℤ → Type 0
+AreSoft rows soft = (length soft ≡ (code_of rows).bits) × All IsSoft soft
 
 -- A judge decides on n soft values, and the number of the verdict is given. Otherwise nothing changes
 abbrev pub DecidesOn : (old new : Judging) → List ℤ → (n m : ℕ) → Result (Unit {0}) Refusal → Type 0
 DecidesOn old new soft n m (Ok done) =
-    (length soft ≡ (code_of old.rows).bits) × All IsSoft soft × (m ≡ verdict_number (decided old.rows old.tuning soft).verdict)
+    AreSoft old.rows soft × (m ≡ verdict_number (decided old.rows old.tuning soft).verdict)
     × (new.bits ≡ (decided old.rows old.tuning soft).bits) × (new.certificate ≡ (decided old.rows old.tuning soft).certificate)
     × (new.rows ≡ old.rows) × (new.tuning ≡ old.tuning)
-DecidesOn old new soft n m (Err refusal) = (refusal ≡ BadSoft) × (new ≡ old) × (m ≡ n)
+DecidesOn old new soft n m (Err refusal) = (refusal ≡ BadSoft) × (AreSoft old.rows soft → ⊥) × (new ≡ old) × (m ≡ n)
 
 -- the same for a slot
 abbrev pub DecidesOnOf : (old new : Slot) → List ℤ → (n m : ℕ) → Result (Unit {0}) Refusal → Type 0

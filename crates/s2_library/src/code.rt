@@ -1,11 +1,11 @@
 //! Codes.
-ghost use Rattle.std.specs.Prelude.{◌≡◌, false, IfErr, IfOk, None, Some};
-ghost use Rattle.s2_mode.specs.Mode.{mode_of};
+ghost use Rattle.std.specs.Prelude.{◌≡◌, IfErr, IfOk, IsOkUnless, None, Some};
+ghost use Rattle.s2_mode.specs.Mode.{shape_in};
 ghost use Rattle.s2_mode.specs.Shape.{shape_of};
-ghost use Rattle.s2_library.specs.Asked.{is_set};
-ghost use Rattle.s2_library.specs.Codes.{AreRowsOf, GivesFacts, HasCodeOf, HasCodeOfShape, IsCodeOf, code_in as code_in_slot};
+ghost use Rattle.s2_library.specs.Codes.{AreRowsOf, GivesFacts, IsCodeOf, code_in as code_in_slot};
+ghost use Rattle.s2_library.specs.Refusals.{MakesCode, MakesShapeCode, RefusesRows};
 
-use crate::options::{flag, mode_by};
+use crate::options::mode_of_numbers;
 use crate::refusal::Refusal;
 use crate::slot::Slot;
 use s2_matrix::Matrix;
@@ -23,7 +23,8 @@ pub struct Code {
 
 /// The rows of a text.
 fn rows_of(alloc: Global, text: &[u8], shape: Shape) -> Result<Rows, Refusal>
-    ensures { IfOk result (AreRowsOf text.now shape) }
+    ensures are { IfOk result (AreRowsOf text.now shape) }
+    ensures refused { IfErr result (RefusesRows text.now shape) }
 {
     match read_rows(alloc, text, shape) {
         Ok(rows) => Ok(rows),
@@ -34,7 +35,8 @@ fn rows_of(alloc: Global, text: &[u8], shape: Shape) -> Result<Rows, Refusal>
 
 /// The matrix of a text's rows.
 pub(crate) fn matrix_of(alloc: Global, text: &[u8], shape: Shape) -> Result<Matrix, Refusal>
-    ensures { IfOk result (AreRowsOf text.now shape) }
+    ensures are { IfOk result (AreRowsOf text.now shape) }
+    ensures refused { IfErr result (RefusesRows text.now shape) }
 {
     let rows = rows_of(alloc, text, shape)?;
     match Matrix::build(alloc, &rows) {
@@ -45,7 +47,8 @@ pub(crate) fn matrix_of(alloc: Global, text: &[u8], shape: Shape) -> Result<Matr
 
 /// A matrix that stays until the process ends.
 pub(crate) fn keep(alloc: Global, matrix: Matrix) -> Result<&'static Matrix, Refusal>
-    ensures { IfOk result (λ m. m.now ≡ matrix) }
+    ensures is { IfOk result (λ m. m.now ≡ matrix) }
+    ensures refused { IsOkUnless result Refusal.NoMemory }
 {
     match Box::new(alloc, matrix) {
         Ok(matrix) => Ok(Box::leak(matrix)),
@@ -53,16 +56,10 @@ pub(crate) fn keep(alloc: Global, matrix: Matrix) -> Result<&'static Matrix, Ref
     }
 }
 
-/// The mode of a code, without pilots.
-pub(crate) fn mode_of_code(modcod: u32, is_short: u32) -> Result<Mode, Refusal>
-    ensures { IfOk result (λ mode. mode ≡ mode_of modcod (is_set is_short) false) }
-{
-    mode_by(modcod, flag(is_short)?, false)
-}
-
 /// The code of a mode, from the text of a row file.
 fn code_of_mode(alloc: Global, text: &[u8], mode: Mode) -> Result<Code, Refusal>
-    ensures { IfOk result (IsCodeOf text.now mode) }
+    ensures is { IfOk result (IsCodeOf text.now mode) }
+    ensures refused { IfErr result (RefusesRows text.now (shape_in mode)) }
 {
     let matrix = matrix_of(alloc, text, mode.shape())?;
     let is_standard = is_standard(&mode, &matrix);
@@ -74,9 +71,9 @@ fn code_of_mode(alloc: Global, text: &[u8], mode: Mode) -> Result<Code, Refusal>
 
 /// The code of a mode, from the text of a row file.
 pub fn new_code(alloc: Global, text: &[u8], modcod: u32, is_short: u32) -> Result<Slot, Refusal>
-    ensures { IfOk result (HasCodeOf text.now (mode_of modcod (is_set is_short) false)) }
+    ensures { MakesCode text.now modcod is_short result }
 {
-    let mode = mode_of_code(modcod, is_short)?;
+    let mode = mode_of_numbers(modcod, is_short, 0)?;
     Ok(Slot::Code(code_of_mode(alloc, text, mode)?))
 }
 
@@ -88,7 +85,7 @@ pub fn shape_code(
     groups: u32,
     q: u32,
 ) -> Result<Slot, Refusal>
-    ensures { IfOk result (HasCodeOfShape text.now (shape_of group groups q)) }
+    ensures { MakesShapeCode text.now (shape_of group groups q) result }
 {
     let Some(shape) = Shape::new(group as usize, groups as usize, q as usize) else {
         return Err(Refusal::BadShape);

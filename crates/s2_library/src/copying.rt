@@ -4,21 +4,12 @@ ghost use Rattle.s2_library.specs.Copying.{Copies, digits_of};
 
 use crate::refusal::Refusal;
 
-/// Copies bytes to the front of a buffer, if it has room for all of them, and gives their number.
-pub fn copy_bytes(items: &[u8], out: &mut [u8], count: &mut usize) -> Result<(), Refusal>
-    ensures { Copies items.now out.old out.new count.new result }
-{
-    *count = items.len();
-    if out.len() < items.len() {
-        return Err(Refusal::TooShort);
-    }
-    let (front, _) = out.split_at_mut(items.len());
-    front.copy_from_slice(items);
-    Ok(())
-}
-
-/// Copies soft values to the front of a buffer, if it has room for all of them, and gives their number.
-pub fn copy_values(items: &[i16], out: &mut [i16], count: &mut usize) -> Result<(), Refusal>
+/// Copies a list to the front of a buffer, if it has room for all of it, and gives its length.
+pub(crate) fn copy_items<T: Copy>(
+    items: &[T],
+    out: &mut [T],
+    count: &mut usize,
+) -> Result<(), Refusal>
     ensures { Copies items.now out.old out.new count.new result }
 {
     *count = items.len();
@@ -42,7 +33,7 @@ fn write_digits(bits: &[bool], out: &mut [u8])
 
 /// Copies bits to the front of a buffer, a byte for each, if it has room for all of them, and gives their number.
 #[tactic(auto, using(crate::proofs::Digits::digits_long))]
-pub fn copy_bits(bits: &[bool], out: &mut [u8], count: &mut usize) -> Result<(), Refusal>
+pub(crate) fn copy_bits(bits: &[bool], out: &mut [u8], count: &mut usize) -> Result<(), Refusal>
     ensures { Copies (digits_of bits.now) out.old out.new count.new result }
 {
     *count = bits.len();

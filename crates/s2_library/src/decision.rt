@@ -1,9 +1,10 @@
 //! Judges.
-ghost use Rattle.std.specs.Prelude.{◌≡◌, All, IfOk, IsTrue};
-ghost use Rattle.s2_tuning.specs.Wanted.{judging_by};
-ghost use Rattle.s2_library.specs.Asked.{IsJudgeOf, flags_of, judging_in, tuning_in, wanted_by as wanted_of};
-ghost use Rattle.s2_library.specs.Codes.{OnCode, code_in as code_in_slot};
+ghost use Rattle.std.specs.Prelude.{◌≡◌, ◌≢◌, ◌↔◌, All, IfErr, IfOk, IsTrue};
+ghost use Rattle.s2_tuning.specs.Tuning.{IsTuning};
+ghost use Rattle.s2_library.specs.Asked.{flags_of, judging_in};
+ghost use Rattle.s2_library.specs.Codes.{code_in as code_in_slot};
 ghost use Rattle.s2_library.specs.Copying.{digits_of};
+ghost use Rattle.s2_library.specs.Refusals.{MakesJudge, RefusesJudging, SuitMode};
 ghost use Rattle.s2_library.specs.Slots.{CopiesMadeOf, CopiesOf, DecidesOn, DecidesOnOf, decided_file, judge_in, listed};
 ghost use Rattle.s2_check.specs.Views.{IsSoft};
 
@@ -14,14 +15,17 @@ use crate::receiver::copy_certificate;
 use crate::refusal::Refusal;
 use crate::slot::Slot;
 use crate::step::verdict_number;
+use s2_mode::MAX_SOFT;
 use s2_modem::Judge;
 use s2_tuning::{Tuning, judging_by, tuning_by};
 use std::alloc::Global;
 
 /// The tuning of a judge of a mode, whose code must be of the mode's shape.
 fn mode_tuning(code: Code, flags: Flags, options: &Options) -> Result<Tuning, Refusal>
-    requires { flags ≡ flags_of options.now }
-    ensures { IfOk result (λ tuning. tuning ≡ tuning_in options.now) }
+    requires flags { flags ≡ flags_of options.now }
+    requires mode { options.now.modcod ≢ 0 }
+    ensures is { IfOk result (λ tuning. (tuning ≡ judging_in options.now) × SuitMode options.now code.matrix.now × IsTuning (judging_in options.now)) }
+    ensures refused { IfErr result (RefusesJudging options.now code.matrix.now) }
 {
     let mode = mode_by(options.modcod, flags.is_short, flags.has_pilots)?;
     if code.matrix.shape() != mode.shape() {
@@ -35,7 +39,10 @@ fn mode_tuning(code: Code, flags: Flags, options: &Options) -> Result<Tuning, Re
 
 /// The tuning of a judge without a mode.
 fn plain_tuning(flags: Flags, options: &Options) -> Result<Tuning, Refusal>
-    ensures { IfOk result (λ tuning. tuning ≡ judging_by (wanted_of flags options.now).passes.value (wanted_of flags options.now).factor.value flags.uncertified) }
+    requires flags { flags ≡ flags_of options.now }
+    requires none { options.now.modcod ≡ 0 }
+    ensures is { IfOk result (λ tuning. (tuning ≡ judging_in options.now) × IsTuning (judging_in options.now)) }
+    ensures refused { IfErr result (λ refusal. (refusal ≡ Refusal.BadTuning) × (IsTuning (judging_in options.now) → ⊥)) }
 {
     let wanted = wanted_by(flags, options);
     match judging_by(wanted.passes.value, wanted.factor.value, flags.uncertified) {
@@ -45,10 +52,11 @@ fn plain_tuning(flags: Flags, options: &Options) -> Result<Tuning, Refusal>
 }
 
 /// The tuning of a judge.
-fn tuning_of(code: Code, options: &Options) -> Result<Tuning, Refusal>
-    ensures { IfOk result (λ tuning. tuning ≡ judging_in options.now) }
+fn tuning_of(code: Code, flags: Flags, options: &Options) -> Result<Tuning, Refusal>
+    requires { flags ≡ flags_of options.now }
+    ensures is { IfOk result (λ tuning. (tuning ≡ judging_in options.now) × SuitMode options.now code.matrix.now × IsTuning (judging_in options.now)) }
+    ensures refused { IfErr result (RefusesJudging options.now code.matrix.now) }
 {
-    let flags = read_flags(options)?;
     if options.modcod == 0 {
         plain_tuning(flags, options)
     } else {
@@ -58,10 +66,11 @@ fn tuning_of(code: Code, options: &Options) -> Result<Tuning, Refusal>
 
 /// A judge on a code, by options. The first refusal is returned.
 pub fn new_judge(alloc: Global, code: &Slot, options: &Options) -> Result<Slot, Refusal>
-    ensures { IfOk result (λ slot. OnCode (code_in_slot code.now) (λ rows. IsJudgeOf options.now rows slot)) }
+    ensures { MakesJudge (code_in_slot code.now) options.now result }
 {
     let code = code_in(code)?;
-    let tuning = tuning_of(code, options)?;
+    let flags = read_flags(options)?;
+    let tuning = tuning_of(code, flags, options)?;
     match Judge::new(alloc, code.matrix, tuning) {
         Ok(judge) => Ok(Slot::Judge(judge)),
         Err(_) => Err(Refusal::NoMemory),
@@ -70,10 +79,10 @@ pub fn new_judge(alloc: Global, code: &Slot, options: &Options) -> Result<Slot, 
 
 /// Whether all values are -511 to 511.
 fn are_soft(values: &[i16]) -> bool
-    ensures { IsTrue result → All IsSoft values.now }
+    ensures { IsTrue result ↔ All IsSoft values.now }
 {
     for value in values {
-        if *value < -511 || *value > 511 {
+        if value.unsigned_abs() > MAX_SOFT {
             return false;
         }
     }

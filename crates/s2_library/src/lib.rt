@@ -2,9 +2,9 @@
 //!
 //! A [`Slot`] is a code, a receiver, a transmitter, a judge or a scanner. Each call takes a slot, and is refused if it is of another
 //! kind. `s2_c` has handles with slots, and exports the calls to C. A refusal has a number ([`result_number`]) and a
-//! text ([`text_of`]). Structs that C shares begin with their size, and a call refuses another size.
+//! text ([`error_text`]). Structs that C shares begin with their size, and a call refuses another size.
 //!
-//! A call that copies a list out ([`copy_bytes`], [`copy_values`], [`copy_bits`]) writes all of it at the front of the caller's buffer, or
+//! A call that copies a list out writes all of it at the front of the caller's buffer, or
 //! nothing if the buffer is too short. It always gives the length of the list.
 //!
 //! ```text
@@ -33,7 +33,6 @@ mod transmitter;
 
 pub use checking::{CheckedFields, check};
 pub use code::{Code, code_facts, new_code, shape_code};
-pub use copying::{copy_bits, copy_bytes, copy_values};
 pub use decision::{judge_certificate, judge_decide, judge_word, new_judge};
 pub use figures::FiguresFields;
 pub use mode::{ModeFields, mode_fields};
@@ -48,7 +47,7 @@ pub use scanner::{Scanner, SeenFields, new_scanner, scan_at, scan_feed, scan_fin
 pub use shelf::{Shelf, new_shelf, shelf_code};
 pub use slot::Slot;
 pub use step::StepFields;
-pub use texts::text_of;
+pub use texts::error_text;
 pub use totals::TotalsFields;
 pub use transmitter::{
     new_transmitter, transmitter_close, transmitter_counts, transmitter_put, transmitter_ready,

@@ -1,11 +1,9 @@
 //! The numbers of a mode.
 ghost use Rattle.std.specs.Prelude.{◌≡◌};
-ghost use Rattle.s2_mode.specs.Mode.{mode_of};
-ghost use Rattle.s2_library.specs.Asked.{is_set};
 ghost use Rattle.s2_library.specs.Fields.{mode_fields};
-ghost use Rattle.s2_library.specs.Slots.{GivesMode};
+ghost use Rattle.s2_library.specs.Refusals.{GivesMode};
 
-use crate::options::{flag, mode_by};
+use crate::options::mode_of_numbers;
 use crate::refusal::Refusal;
 use s2_mode::Mode;
 
@@ -55,12 +53,12 @@ pub fn mode_fields(
     has_pilots: u32,
     fields: &mut ModeFields,
 ) -> Result<(), Refusal>
-    ensures { GivesMode (mode_of modcod (is_set is_short) (is_set has_pilots)) fields.old fields.new result }
+    ensures { GivesMode modcod is_short has_pilots fields.old fields.new result }
 {
     if fields.size != SIZE {
         return Err(Refusal::BadSize);
     }
-    let mode = mode_by(modcod, flag(is_short)?, flag(has_pilots)?)?;
+    let mode = mode_of_numbers(modcod, is_short, has_pilots)?;
     *fields = fields_of(mode);
     Ok(())
 }

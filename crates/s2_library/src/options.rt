@@ -1,12 +1,16 @@
 //! The options of a link and of a receiver's tuning, as C has them.
-ghost use Rattle.std.specs.Prelude.{◌≡◌, IfOk, min};
-ghost use Rattle.s2_mode.specs.Mode.{mode_of};
+ghost use Rattle.std.specs.Prelude.{◌≡◌, ◌↔◌, IfErr, IfOk, IsTrue, min, replicate};
+ghost use Rattle.s2_mode.specs.Mode.{IsMode, mode_of};
 ghost use Rattle.s2_library.specs.Asked as asked;
+ghost use Rattle.s2_library.specs.Refusals.{AreOptions, HaveValues, NameMode, RefusesMode, RefusesOptions, mode_by as mode_by_numbers};
 
 use crate::refusal::Refusal;
 use s2_link::Setup;
+use s2_minsum::DEFAULT_FACTOR;
 use s2_mode::Mode;
-use s2_tuning::{Number, Wanted};
+use s2_plframe::HEADER_THRESHOLD;
+use s2_soft::DEFAULT_DIVISOR;
+use s2_tuning::{DEFAULT_ROUNDS, Number, Wanted};
 
 /// The size of [`Options`] in bytes.
 const SIZE: u32 = 128;
@@ -17,20 +21,8 @@ const MOST_GIVEN: u32 = 31;
 /// The most frames between dummy frames.
 const MAX_DUMMY_EVERY: u32 = 65535;
 
-/// The default number of rounds.
-const ROUNDS: u32 = 50;
-
 /// The default number of passes.
-const PASSES: u32 = 0;
-
-/// The default divisor.
-const DIVISOR: u32 = 4096;
-
-/// The default factor.
-const FACTOR: u32 = 12;
-
-/// The default limit of wrong header bits.
-const MAX_HEADER_ERRORS: u32 = 12;
+const DEFAULT_PASSES: u32 = 0;
 
 /// The options of a link and of a receiver's tuning. The header for C says what each member is.
 #[repr(C)]
@@ -54,7 +46,8 @@ pub struct Options {
     pub figures: u32,
     pub turns: u32,
     pub equalize: u32,
-    pub reserved: [u32; 14],
+    pub resync: u32,
+    pub reserved: [u32; 13],
 }
 
 /// Options whose members are values that they can have. The mode is not tested yet, nor are the numbers of the link and of
@@ -68,73 +61,62 @@ pub(crate) struct Flags {
     pub(crate) figures: bool,
     pub(crate) turns: bool,
     pub(crate) equalize: bool,
+    pub(crate) resync: bool,
     pub(crate) dummy_every: u16,
 }
 
-/// A member for 0 or 1.
-pub(crate) fn flag(value: u32) -> Result<bool, Refusal>
-    ensures { IfOk result (λ truth. truth ≡ asked.is_set value) }
+/// Whether the reserved members are 0.
+fn are_unused(reserved: &[u32; 13]) -> bool
+    ensures { IsTrue result ↔ (reserved.now ≡ replicate 13 0) }
 {
-    match value {
-        0 => Ok(false),
-        1 => Ok(true),
-        _ => Err(Refusal::BadOption),
-    }
+    *reserved == [0; 13]
 }
 
-/// Whether all of these are 0.
-fn are_zero(words: &[u32]) -> bool {
-    for word in words {
-        if *word != 0 {
-            return false;
-        }
-    }
-    true
-}
-
-/// The numbers that are not of the mode, the link or the tuning.
-fn read_numbers(options: &Options) -> Result<u16, Refusal>
-    ensures { IfOk result (λ every. every ≡ options.now.dummy_every) }
+/// Whether the members that have few values have one of theirs.
+fn have_values(options: &Options) -> bool
+    ensures { IsTrue result ↔ HaveValues options.now }
 {
-    if options.given > MOST_GIVEN || options.dummy_every > MAX_DUMMY_EVERY {
-        return Err(Refusal::BadOption);
-    }
-    if !are_zero(options.reserved.as_slice()) {
-        return Err(Refusal::BadOption);
-    }
-    Ok(options.dummy_every as u16)
+    options.is_short <= 1
+        && options.has_pilots <= 1
+        && options.tuned <= 1
+        && options.uncertified <= 1
+        && options.figures <= 1
+        && options.turns <= 1
+        && options.equalize <= 1
+        && options.resync <= 1
+        && options.given <= MOST_GIVEN
+        && options.dummy_every <= MAX_DUMMY_EVERY
+        && are_unused(&options.reserved)
 }
 
 /// The members that have few values. The first refusal is returned.
 pub(crate) fn read_flags(options: &Options) -> Result<Flags, Refusal>
-    ensures { IfOk result (λ flags. flags ≡ asked.flags_of options.now) }
+    ensures flags { IfOk result (λ flags. (flags ≡ asked.flags_of options.now) × AreOptions options.now) }
+    ensures refused { IfErr result (RefusesOptions options.now) }
 {
     if options.size != SIZE {
         return Err(Refusal::BadSize);
     }
-    let is_short = flag(options.is_short)?;
-    let has_pilots = flag(options.has_pilots)?;
-    let tuned = flag(options.tuned)?;
-    let uncertified = flag(options.uncertified)?;
-    let figures = flag(options.figures)?;
-    let turns = flag(options.turns)?;
-    let equalize = flag(options.equalize)?;
-    let dummy_every = read_numbers(options)?;
+    if !have_values(options) {
+        return Err(Refusal::BadOption);
+    }
     Ok(Flags {
-        is_short,
-        has_pilots,
-        tuned,
-        uncertified,
-        figures,
-        turns,
-        equalize,
-        dummy_every,
+        is_short: options.is_short == 1,
+        has_pilots: options.has_pilots == 1,
+        tuned: options.tuned == 1,
+        uncertified: options.uncertified == 1,
+        figures: options.figures == 1,
+        turns: options.turns == 1,
+        equalize: options.equalize == 1,
+        resync: options.resync == 1,
+        dummy_every: options.dummy_every as u16,
     })
 }
 
-/// The mode of these numbers.
+/// The mode of a MODCOD and a form of frames.
 pub(crate) fn mode_by(modcod: u32, is_short: bool, has_pilots: bool) -> Result<Mode, Refusal>
-    ensures { IfOk result (λ mode. mode ≡ mode_of modcod is_short has_pilots) }
+    ensures is { IfOk result (λ mode. (mode ≡ mode_of modcod is_short has_pilots) × IsMode mode) }
+    ensures refused { IfErr result (λ refusal. (refusal ≡ Refusal.BadMode) × (IsMode (mode_of modcod is_short has_pilots) → ⊥)) }
 {
     if modcod > 255 {
         return Err(Refusal::BadMode);
@@ -143,6 +125,17 @@ pub(crate) fn mode_by(modcod: u32, is_short: bool, has_pilots: bool) -> Result<M
         Some(mode) => Ok(mode),
         None => Err(Refusal::BadMode),
     }
+}
+
+/// The mode of a MODCOD and two members for 0 or 1. The first refusal is returned.
+pub(crate) fn mode_of_numbers(modcod: u32, is_short: u32, has_pilots: u32) -> Result<Mode, Refusal>
+    ensures is { IfOk result (λ mode. (mode ≡ mode_by_numbers modcod is_short has_pilots) × NameMode modcod is_short has_pilots) }
+    ensures refused { IfErr result (RefusesMode modcod is_short has_pilots) }
+{
+    if is_short > 1 || has_pilots > 1 {
+        return Err(Refusal::BadOption);
+    }
+    mode_by(modcod, is_short == 1, has_pilots == 1)
 }
 
 /// The setup of a link of this mode.
@@ -172,20 +165,20 @@ pub(crate) fn wanted_by(flags: Flags, options: &Options) -> Wanted
 {
     let given = options.given;
     Wanted {
-        rounds: number_by(given % 2 == 1, options.rounds, ROUNDS),
-        passes: number_by(given / 2 % 2 == 1, options.passes, PASSES),
-        divisor: number_by(given / 4 % 2 == 1, options.divisor, DIVISOR),
-        factor: number_by(given / 8 % 2 == 1, options.factor, FACTOR),
+        rounds: number_by(given % 2 == 1, options.rounds, DEFAULT_ROUNDS),
+        passes: number_by(given / 2 % 2 == 1, options.passes, DEFAULT_PASSES),
+        divisor: number_by(given / 4 % 2 == 1, options.divisor, DEFAULT_DIVISOR),
+        factor: number_by(given / 8 % 2 == 1, options.factor, DEFAULT_FACTOR),
         max_header_errors: number_by(
             given / 16 % 2 == 1,
             options.max_header_errors,
-            MAX_HEADER_ERRORS,
+            HEADER_THRESHOLD,
         ),
         tuned: flags.tuned,
         uncertified: flags.uncertified,
         figures: flags.figures,
         turns: flags.turns,
         equalize: flags.equalize,
-        resync: false,
+        resync: flags.resync,
     }
 }

@@ -1,15 +1,18 @@
 //! Receivers.
-ghost use Rattle.std.specs.Prelude.{◌≡◌, ◌≤◌, length, IfOk, IsOkUnless, Some, nat_eq};
+ghost use Rattle.std.specs.Prelude.{◌≡◌, IfErr, IfOk, IsOkUnless, Some, nat_eq};
 ghost use Rattle.s2_check.specs.CertificateBytes.{bytes_of};
+ghost use Rattle.s2_mode.specs.Mode.{IsMode};
+ghost use Rattle.s2_link.specs.Link.{IsSetUp};
 ghost use Rattle.s2_modem.specs.Reception.{IsNew};
-ghost use Rattle.s2_library.specs.Asked.{IsReceiverOf, flags_of, link_in};
-ghost use Rattle.s2_library.specs.Codes.{OnCode, code_in as code_in_slot};
+ghost use Rattle.s2_library.specs.Asked.{flags_of, link_in, mode_in, setup_in};
+ghost use Rattle.s2_library.specs.Codes.{code_in as code_in_slot};
 ghost use Rattle.s2_library.specs.Copying.{digits_of};
 ghost use Rattle.s2_library.specs.Fields as fields;
+ghost use Rattle.s2_library.specs.Refusals.{MakesReceiver, RefusesSetup, setup_refusal};
 ghost use Rattle.s2_library.specs.Slots.{AdvancesReception, AdvancesSlot, CopiesMadeOf, CopiesOf, Gives, GivesFields, GivesFieldsIf, ResetsReception, ResetsSlot, bbframe_in, figures_in, is_delivered, last_figures, listed, message_bytes, received_file, reception_in, receiver_in, room_in, sums_in, totals_in};
 
 use crate::code::{Code, code_in};
-use crate::copying::{copy_bits, copy_bytes, copy_values};
+use crate::copying::{copy_bits, copy_items};
 use crate::figures::{FiguresFields, figures_fields, sums_fields};
 use crate::options::{Flags, Options, mode_by, read_flags, setup_by, wanted_by};
 use crate::refusal::Refusal;
@@ -46,7 +49,9 @@ impl Drop for Reception {
 }
 
 /// The refusal of a link.
-fn link_refusal(fault: SetupFault) -> Refusal {
+fn setup_refusal(fault: SetupFault) -> Refusal
+    ensures { result ≡ setup_refusal fault }
+{
     match fault {
         SetupFault::OtherShape => Refusal::OtherShape,
         SetupFault::BadNumber => Refusal::BadScrambling,
@@ -59,12 +64,13 @@ fn link_refusal(fault: SetupFault) -> Refusal {
 /// The link of options on a code.
 pub(crate) fn link_by(code: Code, options: &Options, flags: Flags) -> Result<Link<'static>, Refusal>
     requires { flags ≡ flags_of options.now }
-    ensures { IfOk result (λ link. link ≡ link_in options.now code.matrix.now) }
+    ensures is { IfOk result (λ link. (link ≡ link_in options.now code.matrix.now) × IsMode (mode_in options.now) × IsSetUp (setup_in options.now) code.matrix.now) }
+    ensures refused { IfErr result (RefusesSetup options.now code.matrix.now) }
 {
     let mode = mode_by(options.modcod, flags.is_short, flags.has_pilots)?;
     match Link::new(setup_by(mode, options), code.matrix) {
         Ok(link) => Ok(link),
-        Err(fault) => Err(link_refusal(fault)),
+        Err(fault) => Err(setup_refusal(fault)),
     }
 }
 
@@ -85,7 +91,7 @@ fn receiver_on(
 
 /// A receiver on a code, by options. The first refusal is returned.
 pub fn new_receiver(alloc: Global, code: &Slot, options: &Options) -> Result<Slot, Refusal>
-    ensures { IfOk result (λ slot. OnCode (code_in_slot code.now) (λ rows. IsReceiverOf options.now rows slot)) }
+    ensures { MakesReceiver (code_in_slot code.now) options.now result }
 {
     let code = code_in(code)?;
     let flags = read_flags(options)?;
@@ -163,7 +169,7 @@ pub fn receiver_packets(slot: &Slot, out: &mut [u8], count: &mut usize) -> Resul
     ensures { CopiesOf (listed (λ r. r.packets) (receiver_in slot.now)) out.old out.new count.old count.new result }
 {
     match slot {
-        Slot::Receiver(reception) => copy_bytes(reception.receiver.packets(), out, count),
+        Slot::Receiver(reception) => copy_items(reception.receiver.packets(), out, count),
         _ => Err(Refusal::OtherKind),
     }
 }
@@ -173,7 +179,7 @@ pub fn receiver_soft(slot: &Slot, out: &mut [i16], count: &mut usize) -> Result<
     ensures { CopiesOf (listed (λ r. r.last.soft) (receiver_in slot.now)) out.old out.new count.old count.new result }
 {
     match slot {
-        Slot::Receiver(reception) => copy_values(reception.receiver.soft(), out, count),
+        Slot::Receiver(reception) => copy_items(reception.receiver.soft(), out, count),
         _ => Err(Refusal::OtherKind),
     }
 }
@@ -234,7 +240,7 @@ pub fn receiver_bbframe(
         return Err(Refusal::NoneThere);
     }
     let bytes = message_bytes(alloc, reception.receiver.message())?;
-    copy_bytes(&bytes, out, count)
+    copy_items(&bytes, out, count)
 }
 
 /// Copies the file of a certificate.
@@ -251,7 +257,7 @@ pub(crate) fn copy_certificate(
         return Err(Refusal::NoMemory);
     }
     let bytes = sink.into_inner();
-    copy_bytes(&bytes, out, count)
+    copy_items(&bytes, out, count)
 }
 
 /// Copies the certificate of the last step.

@@ -1,10 +1,11 @@
 //! Shelves, on which codes are found again by their rows.
-ghost use Rattle.std.specs.Prelude.{◌≡◌, ◌↔◌, ◌≤◌, ◌+◌, ◌++◌, ◌∷◌, [], false, length, IfOk, IfSome, IsErr, IsOk, IsTrue, None};
-ghost use Rattle.s2_mode.specs.Mode.{mode_of};
-ghost use Rattle.s2_library.specs.Asked.{is_set};
-ghost use Rattle.s2_library.specs.Shelves.{Finds, HasShelved, HaveSameRows, IsNewShelf, IsOn, IsShelved, shelf_in};
+ghost use Rattle.std.specs.Prelude.{◌≡◌, ◌↔◌, ◌++◌, ◌∷◌, [], IfErr, IfOk, IfSome, IsErr, IsOk, IsOkUnless, IsTrue, None};
+ghost use Rattle.s2_mode.specs.Mode.{shape_in};
+ghost use Rattle.s2_library.specs.Refusals.{RefusesRows};
+ghost use Rattle.s2_library.specs.Shelves.{HaveSameRows, IsNewShelf, IsOn, IsShelved, Puts, Shelves, ShelvesOf};
 
-use crate::code::{Code, keep, matrix_of, mode_of_code};
+use crate::code::{Code, keep, matrix_of};
+use crate::options::mode_of_numbers;
 use crate::refusal::Refusal;
 use crate::slot::Slot;
 use s2_matrix::Matrix;
@@ -76,37 +77,40 @@ impl Shelf {
         None
     }
 
-    /// Puts a code here, after the others.
-    fn put(&mut self, code: &'static Matrix) -> Result<(), Refusal>
-        ensures put { IsOk result → self.new ≡ self.old ++ code.now ∷ [] }
+    /// Keeps a code here, after the others. There is a place for it before its tables are kept.
+    fn put(&mut self, alloc: Global, matrix: Matrix) -> Result<&'static Matrix, Refusal>
+        ensures put { IfOk result (λ m. (m.now ≡ matrix) × (self.new ≡ self.old ++ m.now ∷ [])) }
         ensures kept { IsErr result → self.new ≡ self.old }
+        ensures refused { IsOkUnless result Refusal.NoMemory }
     {
+        if self.codes.reserve(1).is_err() {
+            return Err(Refusal::NoMemory);
+        }
+        let code = keep(alloc, matrix)?;
         match self.codes.push(code) {
-            Ok(()) => Ok(()),
+            Ok(()) => Ok(code),
             Err(_) => Err(Refusal::NoMemory),
         }
     }
 
     /// The code of a matrix: the one that is here, or a new one that is put here.
     fn code(&mut self, alloc: Global, matrix: Matrix) -> Result<&'static Matrix, Refusal>
-        ensures same { IfOk result (λ m. HaveSameRows m.now matrix × IsOn matrix self.new) }
-        ensures again { IsOn matrix self.old → self.new ≡ self.old }
-        ensures grown { length self.new ≤ length self.old + 1 }
+        ensures same { IfOk result (λ m. HaveSameRows m.now matrix × IsOn matrix self.new × Puts matrix self.old self.new) }
+        ensures kept { IsErr result → self.new ≡ self.old }
+        ensures refused { IsOkUnless result Refusal.NoMemory }
     {
-        if let Some(code) = self.find(&matrix) {
-            return Ok(code);
+        match self.find(&matrix) {
+            Some(code) => Ok(code),
+            None => self.put(alloc, matrix),
         }
-        let code = keep(alloc, matrix)?;
-        self.put(code)?;
-        Ok(code)
     }
 }
 
 /// The code of the rows of a text on a shelf.
-#[tactic(auto, using(crate::proofs::Shelves::one_rows))]
 fn code_on(alloc: Global, shelf: &mut Shelf, text: &[u8], mode: Mode) -> Result<Code, Refusal>
-    ensures shelved { IfOk result (IsShelved text.now mode shelf.new) }
-    ensures again { Finds text.now mode shelf.old shelf.new }
+    ensures shelved { IfOk result (IsShelved text.now mode shelf.old shelf.new) }
+    ensures kept { IsErr result → shelf.new ≡ shelf.old }
+    ensures refused { IfErr result (RefusesRows text.now (shape_in mode)) }
 {
     let matrix = matrix_of(alloc, text, mode.shape())?;
     let code = shelf.code(alloc, matrix)?;
@@ -117,6 +121,20 @@ fn code_on(alloc: Global, shelf: &mut Shelf, text: &[u8], mode: Mode) -> Result<
 }
 
 /// The code of a mode, from the text of a row file: the one on the shelf, or a new one that is put there.
+fn code_by(
+    alloc: Global,
+    shelf: &mut Shelf,
+    text: &[u8],
+    modcod: u32,
+    is_short: u32,
+) -> Result<Slot, Refusal>
+    ensures { Shelves text.now modcod is_short shelf.old shelf.new result }
+{
+    let mode = mode_of_numbers(modcod, is_short, 0)?;
+    Ok(Slot::Code(code_on(alloc, shelf, text, mode)?))
+}
+
+/// The code of a mode from the shelf of a slot.
 pub fn shelf_code(
     alloc: Global,
     slot: &mut Slot,
@@ -124,12 +142,10 @@ pub fn shelf_code(
     modcod: u32,
     is_short: u32,
 ) -> Result<Slot, Refusal>
-    ensures shelved { IfOk result (HasShelved text.now (mode_of modcod (is_set is_short) false) (shelf_in slot.new)) }
-    ensures again { Finds text.now (mode_of modcod (is_set is_short) false) (shelf_in slot.old) (shelf_in slot.new) }
+    ensures { ShelvesOf text.now modcod is_short slot.old slot.new result }
 {
-    let Slot::Shelf(shelf) = slot else {
-        return Err(Refusal::OtherKind);
-    };
-    let mode = mode_of_code(modcod, is_short)?;
-    Ok(Slot::Code(code_on(alloc, shelf, text, mode)?))
+    match slot {
+        Slot::Shelf(shelf) => code_by(alloc, shelf, text, modcod, is_short),
+        _ => Err(Refusal::OtherKind),
+    }
 }

@@ -1,38 +1,61 @@
 //! The texts of results.
+ghost use Rattle.std.specs.Prelude.{◌≡◌, ◌<◌, [], get_or, map};
+ghost use Rattle.s2_library.specs.Copying.{Copies};
+ghost use Rattle.s2_library.specs.Texts.{result_text};
+
+use crate::copying::copy_items;
+use crate::refusal::Refusal;
+
+/// The texts of success and of the refusals, in the order of their numbers.
+const TEXTS: [&str; 23] = [
+    "ok",
+    "out of memory",
+    "the handle is empty or ended",
+    "the handle is of another kind",
+    "the handle to be filled is not empty",
+    "the size in the struct is not that of the struct",
+    "no such mode",
+    "no such shape of a code",
+    "the rows are no row file of the shape",
+    "the code is not of the mode's shape",
+    "the scrambling number is over 262141",
+    "the roll-off is over 2",
+    "a number of the tuning is out of its range",
+    "an option has a value that it cannot have",
+    "more was given than can be taken",
+    "the buffer is too short",
+    "a packet does not begin with 47 hexadecimal",
+    "not a whole packet at the end",
+    "the stream was closed",
+    "the limit of packets is reached",
+    "not n soft values from -511 to 511",
+    "not a certificate file",
+    "there is none here",
+];
+
+/// A text of a table.
+fn text_at(texts: &[&'static str; 23], at: usize) -> &'static str
+    requires { at < 23 }
+    ensures { result.now ≡ get_or (map (λ t. t.now) texts.now) at [] }
+{
+    texts[at]
+}
 
 /// The text of a result's number.
-pub fn text_of(number: i32) -> &'static str {
-    match number {
-        0 => "ok",
-        -1 => "out of memory",
-        -2 => "the handle is empty or ended",
-        -3 => "the handle is of another kind",
-        -4 => "the handle to be filled is not empty",
-        -5 => "the size in the struct is not that of the struct",
-        -6 => "no such mode",
-        -7 => "no such shape of a code",
-        -8 => "the rows are no row file of the shape",
-        -9 => "the code is not of the mode's shape",
-        -10 => "the scrambling number is over 262141",
-        -11 => "the roll-off is over 2",
-        -12 => "a number of the tuning is out of its range",
-        _ => text_beyond(number),
+#[tactic(auto, unfolding(crate::specs::Texts::result_text))]
+fn text_of(number: i32) -> &'static str
+    ensures { result.now ≡ result_text number }
+{
+    if number > 0 || number < -22 {
+        "unknown result"
+    } else {
+        text_at(&TEXTS, number.unsigned_abs() as usize)
     }
 }
 
-/// The texts of the others.
-fn text_beyond(number: i32) -> &'static str {
-    match number {
-        -13 => "an option has a value that it cannot have",
-        -14 => "more was given than can be taken",
-        -15 => "the buffer is too short",
-        -16 => "a packet does not begin with 47 hexadecimal",
-        -17 => "not a whole packet at the end",
-        -18 => "the stream was closed",
-        -19 => "the limit of packets is reached",
-        -20 => "not n soft values from -511 to 511",
-        -21 => "not a certificate file",
-        -22 => "there is none here",
-        _ => "unknown result",
-    }
+/// Copies the text of a result's number.
+pub fn error_text(number: i32, out: &mut [u8], count: &mut usize) -> Result<(), Refusal>
+    ensures { Copies (result_text number) out.old out.new count.new result }
+{
+    copy_items(text_of(number).as_bytes(), out, count)
 }

@@ -1,12 +1,12 @@
 //! Transmitters.
-ghost use Rattle.std.specs.Prelude.{IfOk};
-ghost use Rattle.s2_library.specs.Asked.{IsSenderOf};
-ghost use Rattle.s2_library.specs.Codes.{OnCode, code_in as code_in_slot};
+ghost use Rattle.std.specs.Prelude.{◌≡◌};
+ghost use Rattle.s2_library.specs.Codes.{code_in as code_in_slot};
 ghost use Rattle.s2_library.specs.Copying.{digits_of};
-ghost use Rattle.s2_library.specs.Slots.{ClosesStream, ClosesStreamOf, CopiesOf, GivesCounts, GivesReady, PutsPackets, PutsPacketsOf, Restarts, RestartsOf, TakesFrame, TakesFrameOf, listed, sender_in};
+ghost use Rattle.s2_library.specs.Refusals.{MakesSender};
+ghost use Rattle.s2_library.specs.Slots.{ClosesStream, ClosesStreamOf, CopiesOf, GivesCounts, GivesReady, PutsPackets, PutsPacketsOf, Restarts, RestartsOf, TakesFrame, TakesFrameOf, listed, send_refusal, sender_in};
 
 use crate::code::code_in;
-use crate::copying::{copy_bits, copy_bytes};
+use crate::copying::{copy_bits, copy_items};
 use crate::options::{Options, read_flags};
 use crate::receiver::link_by;
 use crate::refusal::Refusal;
@@ -16,7 +16,7 @@ use std::alloc::Global;
 
 /// A transmitter on a code, by options. The first refusal is returned.
 pub fn new_transmitter(alloc: Global, code: &Slot, options: &Options) -> Result<Slot, Refusal>
-    ensures { IfOk result (λ slot. OnCode (code_in_slot code.now) (λ rows. IsSenderOf options.now rows slot)) }
+    ensures { MakesSender (code_in_slot code.now) options.now result }
 {
     let code = code_in(code)?;
     let flags = read_flags(options)?;
@@ -30,9 +30,20 @@ pub fn new_transmitter(alloc: Global, code: &Slot, options: &Options) -> Result<
     }
 }
 
+/// The refusal of a stream.
+fn send_refusal(fault: SendFault) -> Refusal
+    ensures { result ≡ send_refusal fault }
+{
+    match fault {
+        SendFault::NotWholePacket => Refusal::CutPacket,
+        SendFault::NoSync { .. } => Refusal::NoSync,
+        SendFault::Read | SendFault::Write => Refusal::Full,
+    }
+}
+
 /// Gives a transmitter bytes of packets, and gives the number of those that it took.
 fn put(sender: &mut Sender<'static>, bytes: &[u8], taken: &mut usize) -> Result<(), Refusal>
-    ensures { PutsPackets sender.old sender.new bytes.now taken.old taken.new result }
+    ensures { PutsPackets sender.old.stream.slicing.closed sender.old sender.new bytes.now taken.old taken.new result }
 {
     if sender.is_closed() {
         return Err(Refusal::Closed);
@@ -42,9 +53,7 @@ fn put(sender: &mut Sender<'static>, bytes: &[u8], taken: &mut usize) -> Result<
             *taken = count;
             Ok(())
         }
-        Err(SendFault::NotWholePacket) => Err(Refusal::CutPacket),
-        Err(SendFault::NoSync { .. }) => Err(Refusal::NoSync),
-        Err(SendFault::Read) | Err(SendFault::Write) => Err(Refusal::Full),
+        Err(fault) => Err(send_refusal(fault)),
     }
 }
 
@@ -60,16 +69,14 @@ pub fn transmitter_put(slot: &mut Slot, bytes: &[u8], taken: &mut usize) -> Resu
 
 /// Ends a stream.
 fn close(sender: &mut Sender<'static>) -> Result<(), Refusal>
-    ensures { ClosesStream sender.old sender.new result }
+    ensures { ClosesStream sender.old.stream.slicing.closed sender.old sender.new result }
 {
     if sender.is_closed() {
         return Err(Refusal::Closed);
     }
     match sender.close() {
         Ok(()) => Ok(()),
-        Err(SendFault::NotWholePacket) => Err(Refusal::CutPacket),
-        Err(SendFault::NoSync { .. }) => Err(Refusal::NoSync),
-        Err(SendFault::Read) | Err(SendFault::Write) => Err(Refusal::Full),
+        Err(fault) => Err(send_refusal(fault)),
     }
 }
 
@@ -99,7 +106,7 @@ fn take(sender: &mut Sender<'static>, out: &mut [u8], count: &mut usize) -> Resu
     ensures { TakesFrame sender.old sender.new out.old out.new count.old count.new result }
 {
     if sender.take() {
-        copy_bytes(sender.symbols(), out, count)
+        copy_items(sender.symbols(), out, count)
     } else {
         Err(Refusal::NoneThere)
     }
@@ -120,7 +127,7 @@ pub fn transmitter_symbols(slot: &Slot, out: &mut [u8], count: &mut usize) -> Re
     ensures { CopiesOf (listed (λ s. s.unit) (sender_in slot.now)) out.old out.new count.old count.new result }
 {
     match slot {
-        Slot::Transmitter(sender) => copy_bytes(sender.symbols(), out, count),
+        Slot::Transmitter(sender) => copy_items(sender.symbols(), out, count),
         _ => Err(Refusal::OtherKind),
     }
 }
