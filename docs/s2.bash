@@ -14,7 +14,7 @@ _s2() {
   case "${COMP_WORDS[1]}" in
     demod) words="--modcod --short --pilots --number --ro --rounds --passes --uncertified --divisor --factor --lock --turns --resync --equalize --tuned --figures --every --exit-by --strict --quiet --progress --certificates --values --codewords --bbframes --help" ;;
     scan) words="--first --quiet --progress --help" ;;
-    mod) words="--modcod --short --pilots --number --ro --dummy --resync --quiet --progress --codewords --bbframes --help" ;;
+    mod) words="--modcod --short --pilots --number --ro --dummy --resync --quiet --progress --codewords --bbframes --labels --symbols-plain --help" ;;
     run) words="--modcod --short --pilots --number --ro --dummy --resync --rounds --passes --uncertified --divisor --factor --lock --turns --equalize --tuned --seed --seeds --level --esn0 --figures --every --exit-by --strict --quiet --progress --certificates --values --codewords --bbframes --help" ;;
     noise) words="--seed --level --esn0 --quiet --progress --help" ;;
     modes) words="--rate --modcod --short --quiet --help" ;;
@@ -22,7 +22,7 @@ _s2() {
     table) words="--modcod --short --quiet --help" ;;
     judge) words="--group --groups --q --modcod --short --each --hard --cert --passes --uncertified --factor --quiet --help" ;;
     check) words="--each --quiet --help" ;;
-    audit) words="--modcod --short --pilots --number --ro --divisor --turns --equalize --tuned --help" ;;
+    audit) words="--modcod --short --pilots --number --ro --divisor --turns --resync --equalize --tuned --help" ;;
     compare) words="--group --groups --q --modcod --short --bbframes --bits --quiet --help" ;;
     join) words="--modcod --short --help" ;;
     help) words="demod scan mod run noise modes rows table judge check audit compare join" ;;
