@@ -72,7 +72,7 @@ def cases(made_by):
             yield received(forged(symbols, FRAME * at + FRAME // 4), places, FRAME * at)
     # a lost frame may have a certificate
     places = [FRAME * at - SHARED for at in range(1, 1 + len(five) // (4 * FRAME))]
-    yield received(overlapping(five), places, 0)
+    yield received(overlapping(five), places, 0, "--resync --passes 96")
     # --tuned has the option
     yield received(*slip(five, 1, True), FRAME, "--tuned")
     # without the option a missing symbol also costs the frame after it, and an additional one does not
