@@ -1,5 +1,6 @@
 -- Shelves (own).
-use Rattle.std.proofs.Common.{Bor, map, inl, inr, ◌≡◌, ℕ, ◌+◌, ◌<◌, List, [], ◌∷◌, ◌++◌, length, get_or, refl, sym, ap, subst, ◌∙◌, arith, length-append}
+use Rattle.std.proofs.Common.{Bor, map, inl, inr, ◌≡◌, ℕ, ◌+◌, ◌<◌, List, [], ◌∷◌, ◌++◌, length, get_or, Result, Ok, Err, refl, sym, ap, subst, ◌∙◌, arith, length-append}
+use Rattle.std.specs.Prelude.{IfOk}
 use Rattle.std.proofs.Math.Seq.{get_or-append_seam}
 use Rattle.std.proofs.lemmas.Bool.{cases_lt}
 use Rattle.std.proofs.lemmas.List.{get_or-map}
@@ -32,8 +33,10 @@ item_is xs shelf i x m view low at =
 pub shelved : (old new : List Rows) (code m : Rows) → code ≡ m → new ≡ old ++ code ∷ [] → (IsOn m old → ⊥) → HaveSameRows code m × IsOn m new × Puts m old new
 shelved old new code m is put none =
     let last : new ≡ old ++ m ∷ [] = put ∙ ap (λ r. old ++ r ∷ []) is in
-    (subst (λ (r : Rows). HaveSameRows r m) (sym is) (same_rows m), (subst (IsOn m) (sym last) (IsOn_last old m), record { again = λ on. absurd (none on); other = λ _. last }))
+    (subst (λ (r : Rows). HaveSameRows r m) (sym is) (same_rows m), subst (IsOn m) (sym last) (IsOn_last old m), record { again = λ on. absurd (none on); other = λ _. last })
 
--- a shelf that had these rows
-pub found : (old new : List Rows) (code m : Rows) → new ≡ old → HaveSameRows code m → IsOn m old → HaveSameRows code m × IsOn m new × Puts m old new
-found old new code m same rows on = (rows, (subst (IsOn m) (sym same) on, record { again = λ _. same; other = λ none. absurd (none on) }))
+-- the same of a result
+pub put_last : {E : Type 0} → (old new : List Rows) (m : Rows) (result : Result (Bor Rows) E) → IfOk result (λ b. (b.now ≡ m) × (new ≡ old ++ b.now ∷ []))
+    → (IsOn m old → ⊥) → IfOk result (λ b. HaveSameRows b.now m × IsOn m new × Puts m old new)
+put_last old new m (Ok b) (is, put) none = shelved old new b.now m is put none
+put_last old new m (Err fault) h none = h
