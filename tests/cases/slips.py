@@ -5,7 +5,7 @@ import struct
 from cases.common import ANY, LINK, NO, Case, Rule
 from cases.plain_receiver import FRAME, HEADER
 from cases.rotations import frames_of, in_bytes, samples, turned
-from cases.wrong_symbols import numbered
+from cases.wrong_symbols import DUMMY, numbered
 from dummy import quarter_turns
 
 # The packets of all streams here.
@@ -39,7 +39,7 @@ def overlapping(symbols):
 
 
 def delivers(places, lost):
-    """Holds for a report in which exactly the frames at these places are delivered, each sole, and a frame at the place `lost` is not."""
+    """Holds for a report in which exactly the frames at these places are delivered, each sole, and a frame at the place `lost` is not, if it is there."""
 
     def told(got):
         lines = {int(words[3]): " ".join(words[4:]) for words in frames_of(got)}
@@ -61,9 +61,22 @@ def slip(five, at, is_missing):
     return symbols, [FRAME * other + (moved if other > at else 0) for other in range(len(five) // (4 * FRAME)) if other != at]
 
 
+def skipped(symbols, places):
+    """A stream in which no frame is lost, but the symbols of one are skipped."""
+    return Case(f"demod {LINK} --resync made in out", 0, delivers(places, None), ANY, reads={"in": symbols}, writes={"out": ANY})
+
+
 def cases(made_by):
     """The cases, on symbols that a function makes of the words of `mod` and of packets."""
     five = made_by(f"mod {LINK} made in out", {"in": PACKETS})
+    count = len(five) // (4 * FRAME)
+    # without a header there is no frame to search again, and the next one is found
+    for at in range(count):
+        yield skipped(without(five, FRAME * at + HEADER // 2), [FRAME * other - (other > at) for other in range(count) if other != at])
+    # a dummy frame is passed whole: of the next frame's header the first symbol is missing then, or none
+    among, pair = made_by(f"mod {LINK} --dummy 1 made in out", {"in": PACKETS}), FRAME + DUMMY
+    yield skipped(without(among, FRAME + DUMMY // 2), [0, *(pair * at - 1 for at in range(2, count))])
+    yield skipped(with_one_more(among, FRAME + DUMMY // 2), [0, *(pair * at + 1 for at in range(1, count))])
     for is_missing in (True, False):
         for at in range(len(five) // (4 * FRAME)):
             symbols, places = slip(five, at, is_missing)
