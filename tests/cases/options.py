@@ -317,8 +317,10 @@ def demod_effects(two, pilots):
     # three frames; the first lacks a symbol, so without the option the second is not found
     slipped = slips.without(two[: len(two) // 2] + two, slips.MIDDLE)
     both_places = [slips.FRAME - 1, 2 * slips.FRAME - 1]
-    far, near = ({"code": NO, "out": slips.delivers(places, 0), "errors": ANY, "writes": {"out": ANY}} for places in (both_places[1:], both_places))
-    yield Effect("--resync", f"demod {LINK} {{}} made in out", {"": far, "--resync": near, "--resync --turns": near, "--tuned": near}, {"reads": {"in": slipped}})
+    # with --tuned the notes are others
+    kinds = both_places[1:], both_places, both_places
+    far, near, tuned = ({"code": NO, "out": slips.delivers(places, 0), "errors": ANY, "writes": {"out": ANY}} for places in kinds)
+    yield Effect("--resync", f"demod {LINK} {{}} made in out", {"": far, "--resync": near, "--resync --turns": near, "--tuned": tuned}, {"reads": {"in": slipped}})
     # frames with three times their amplitude: equalized, their soft values are those of frames with the usual one
     usual, other = (ended(TWO, out=2 * PACKET, record=values) for values in (records.records(two)["--values"], ANY))
     ends = {"": other, "--equalize": usual, "--equalize --turns": usual}
