@@ -70,8 +70,8 @@ static void says(const char *name, long refused, const char *what) {
 }
 
 /* Refuses the first allocation of a call, then the second, until it has as many as it needs. The tables of a code are kept if only memory for the
- * handle was refused, the last allocation. Returns how many were refused. */
-static long refuse(const char *name, int32_t (*call)(void), int is_code) {
+ * handle was refused, the last allocation. A shelf keeps a block for a code that it does not have yet. Returns how many were refused. */
+static long refuse(const char *name, int32_t (*call)(void), int is_code, long spare) {
     for (long refused = 0, kept = 0;; refused++) {
         long there = blocks;
         count = 77;
@@ -89,7 +89,7 @@ static long refuse(const char *name, int32_t (*call)(void), int is_code) {
         if (result != S2_NO_MEMORY) says(name, refused, "another result");
         if (made.live) says(name, refused, "a handle is filled");
         if (count != 77 || out[0] != 7 || out[sizeof out - 1] != 7) says(name, refused, "outputs are written");
-        if (kept) says(name, refused - 1, "blocks are kept");
+        if (kept > spare) says(name, refused - 1, "blocks are kept");
         kept = blocks - there;
     }
 }
@@ -124,15 +124,16 @@ int main(int argc, char **argv) {
         const char *name;
         int32_t (*call)(void);
         int is_code;
+        long spare;
     } calls[] = {
         {"s2_code_new", code_new, 1}, {"s2_code_of_shape", shape_code, 1}, {"s2_shelf_new", shelf_new, 0},
-        {"s2_shelf_code", shelf_code, 1}, {"s2_receiver_new", receiver_new, 0}, {"s2_receiver_bbframe", receiver_bbframe, 0},
+        {"s2_shelf_code", shelf_code, 1, 1}, {"s2_receiver_new", receiver_new, 0}, {"s2_receiver_bbframe", receiver_bbframe, 0},
         {"s2_receiver_certificate", receiver_certificate, 0}, {"s2_receiver_reset", receiver_reset, 0}, {"s2_transmitter_new", transmitter_new, 0},
         {"s2_judge_new", judge_new, 0}, {"s2_judge_certificate", judge_certificate, 0}, {"s2_scan_new", scan_new, 0},
         {"s2_scan_feed", scan_feed, 0}, {"s2_scan_find", scan_find, 0}, {"s2_check", check, 0},
     };
     for (size_t i = 0; i < sizeof calls / sizeof *calls; i++)
-        if (!refuse(calls[i].name, calls[i].call, calls[i].is_code)) says(calls[i].name, 0, "it does not allocate");
+        if (!refuse(calls[i].name, calls[i].call, calls[i].is_code, calls[i].spare)) says(calls[i].name, 0, "it does not allocate");
     s2_handle *all[] = {&code, &shelf, &rx, &tx, &judge, &scan};
     for (int i = 0; i < 6; i++) s2_end(all[i]);
     free(rows);
