@@ -1,15 +1,15 @@
 -- A step in two halves: the search up to the next thing, and what is done with it by a decision that is given (own).
-use Rattle.std.specs.Prelude.{◌≡◌, ℕ, ◌*◌, ◌<◌, ◌≤◌, ◌&&◌, nat_eq, Bool, true, List, length, take, Option, Some, None, IfSome, ⊤, ⊥}
+use Rattle.std.specs.Prelude.{◌≡◌, ℕ, ◌+◌, ◌<◌, ◌≤◌, ◌&&◌, nat_eq, Bool, true, false, List, [], ◌∷◌, ◌++◌, length, take, drop, Option, Some, None, IfSome, ⊤, ⊥}
 use Rattle.s2_mode.specs.Mode.{Mode, symbols_in}
 use Rattle.s2_mode.specs.Symbols.{symbols_of}
 use Rattle.s2_mode.specs.declared.symbols.Symbol.{Symbol}
 use Rattle.s2_plframe.specs.Turns.{Sought}
 use Rattle.s2_receive.specs.Decider.{delivered_of}
-use Rattle.s2_receive.specs.Meeting.{no_gap}
+use Rattle.s2_receive.specs.Meeting.{Met, frame, cut, ended, met_from, no_gap, rest_of}
 use Rattle.s2_receive.specs.Output.{HandlesNext}
 use Rattle.s2_receive.specs.ReceiverCore.{CanCountIn, Fits}
-use Rattle.s2_receive.specs.Receiving.{Decision, IsDecided, Rules, State, Steps, asked, is_lost}
-use Rattle.s2_receive.specs.Synchronization.{Takes, Window, met_of, reached, room_for, window_after}
+use Rattle.s2_receive.specs.Receiving.{Decision, IsDecided, Rules, Standing, State, Steps, after, asked, at_start, is_lost, line_of, packets_of, searched_again}
+use Rattle.s2_receive.specs.Synchronization.{Takes, Window, met_of, met_within, reached, room_for, window_after, window_at}
 use Rattle.s2_receive.specs.Windows.{found_as}
 use Rattle.s2_receive.specs.declared.decider.Decided.{Decided}
 use Rattle.s2_receive.specs.declared.report.Phase.{Phase}
@@ -101,6 +101,34 @@ HalvesLaw =
     (decide : List Symbol → Decision) (old mid new : Follower) (bytes : List ℕ) (whole : Bool) (found : Next) (d : Decision) (step : Step) → length bytes ≤ asked_of decide old
     → Seeks old mid bytes whole (Some found) → IsDecided (rules_with decide old) (met_of found mid.frame) d → Settles mid new found d step → whole ≡ nat_eq (length bytes) (asked_of decide old)
     → Steps (rules_with decide old) old.state new.state (symbols_of bytes) whole d new.packets step
+
+-- ---- whole runs by given decisions
+
+-- The rules, with this decision on the frame that comes next
+abbrev pub deciding : Rules → Decision → Rules
+deciding rules d = record rules { decide = λ symbols. d }
+
+-- What is met in a recording after the frame at this position, by its decision: whether it is lost says where the search goes
+-- on. Only the first thing is used, which depends on no later decision
+abbrev pub met_behind : Rules → (recording : List Symbol) → (at : ℕ) → Decision → List Met
+met_behind rules recording at d =
+    met_from rules.finds (searched_again (deciding rules d)) rules.size (at + 1) (rest_of rules.finds (searched_again (deciding rules d)) rules.size (drop at recording)) true no_gap (drop (at + 1) recording)
+
+-- A run over a recording whose frames are decided so, in order, writes exactly these lines and these packets. Each thing met is
+-- the receiver's own next one. Nothing is decided of a cut frame and of the end
+abbrev pub RunsBy : Rules → (recording : List Symbol) → Standing → List Met → List Decision → (lines : List (List ℕ)) → (packets : List ℕ) → Type 0
+RunsBy rules recording s (frame at skipped symbols ∷ later) (d ∷ more) (line ∷ lines) packets =
+    let here = frame at skipped symbols in
+    (line ≡ line_of (deciding rules d) s here)
+    × ((rest : List ℕ) × (packets ≡ packets_of (deciding rules d) s here ++ rest) × RunsBy rules recording (after (deciding rules d) s here) (met_behind rules recording at d) more lines rest)
+RunsBy rules recording s (cut at skipped count ∷ later) decisions (line ∷ lines) packets =
+    let here = cut at skipped count in (line ≡ line_of rules s here) × RunsBy rules recording (after rules s here) later decisions lines packets
+RunsBy rules recording s (ended skipped ∷ later) [] (line ∷ []) [] = line ≡ line_of rules s (ended skipped)
+RunsBy rules recording s met decisions lines packets = ⊥
+
+-- from the beginning of a recording
+abbrev pub IsRunBy : Rules → (recording : List Symbol) → List Decision → (lines : List (List ℕ)) → (packets : List ℕ) → Type 0
+IsRunBy rules recording decisions lines packets = RunsBy rules recording at_start (met_within rules.finds (λ frame. false) rules.size (window_at 0 false) recording) decisions lines packets
 
 -- ---- the invariant
 
