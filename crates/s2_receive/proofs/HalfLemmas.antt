@@ -22,20 +22,20 @@ module _ (finds : Bool → List Symbol → Found) (m : Mode) (resync : Bool) (li
       → IsFollowing m resync limit found new t
   found_on found takes holds =
       record {
-        few = λ none. few_of found none (takes (λ frame. true)) holds;
-        fits = λ again. (sound_on finds (λ frame. again) m resync size limit old (window_after (λ frame. again) size found new) t symbols whole buffer found before most (takes (λ frame. again))).fits;
-        counts = λ again. counts_of found again (takes (λ frame. again));
+        few = λ none. few_of found none (takes (λ symbols. true)) holds;
+        fits = λ again. (sound_on finds (λ symbols. again) m resync size limit old (window_after (λ symbols. again) size found new) t symbols whole buffer found before most (takes (λ symbols. again))).fits;
+        counts = λ again. counts_of found again (takes (λ symbols. again));
         held = held_of found holds;
       }
     where
-      few_of : (found : Option Next) → found ≡ None → Takes finds (λ frame. true) size room old (window_after (λ frame. true) size found new) symbols whole buffer found → HoldsFor size found (length new.symbols) room → length new.symbols < room
+      few_of : (found : Option Next) → found ≡ None → Takes finds (λ symbols. true) size room old (window_after (λ symbols. true) size found new) symbols whole buffer found → HoldsFor size found (length new.symbols) room → length new.symbols < room
       few_of None none takes holds = holds
       few_of (Some found) none takes holds = cc
 
-      counts_of : (found : Option Next) (again : Bool) → Takes finds (λ frame. again) size room old (window_after (λ frame. again) size found new) symbols whole buffer found → CanCount size t found again new
+      counts_of : (found : Option Next) (again : Bool) → Takes finds (λ symbols. again) size room old (window_after (λ symbols. again) size found new) symbols whole buffer found → CanCount size t found again new
       counts_of None again takes = tt
       counts_of (Some found) again (met, place, behind, holds) = λ delivered one none.
-          counts_in (λ frame. again) size room old (window_after (λ frame. again) size (Some found) new) limit t found buffer delivered (symbols_least m) (sound.fits true) behind holds one none
+          counts_in (λ symbols. again) size room old (window_after (λ symbols. again) size (Some found) new) limit t found buffer delivered (symbols_least m) (sound.fits true) behind holds one none
 
       held_of : (found : Option Next) → HoldsFor size found (length new.symbols) room → IfSome found (λ n. HoldsWhole size n new)
       held_of None holds = tt
@@ -47,7 +47,7 @@ module _ (finds : Bool → List Symbol → Found) (m : Mode) (resync : Bool) (li
 
 -- after the second half the symbols are held that a step by this rule of decision leaves
 passed_so : (decide : List Symbol → Decision) (resync resync' : Bool) (size size' : ℕ) (found : Next) (f : Follower) (d : Decision) → resync' ≡ resync → size' ≡ size → IsInFront size f (Some found) → IsDecidedBy decide (met_of found f.frame) d
-    → window_after (λ frame. resync' && is_lost d) size' (Some found) f.state.window ≡ window_after (λ frame. resync && is_lost (decide frame)) size (Some found) f.state.window
+    → window_after (λ symbols. resync' && is_lost d) size' (Some found) f.state.window ≡ window_after (λ symbols. resync && is_lost (decide frame)) size (Some found) f.state.window
 passed_so decide resync resync' size size' (next.Frame at skipped) f d same one front decided =
     let w = f.state.window in
     let is : d ≡ decide (take size w.symbols) = decided ∙ ap decide front in

@@ -92,7 +92,7 @@ pub record Says (decided : Decided) (field : List ℕ) (d : Decision) : Type 0 w
 pub record Settles (old new : Follower) (found : Next) (d : Decision) (step : Step) : Type 0 where
   pub same : IsSameFollower old new
   pub handles : (rules : Rules) → HandlesNext rules old.state new.state d found new.packets step
-  pub window : new.state.window ≡ window_after (λ frame. old.resync && is_lost d) (symbols_in old.sought.mode) (Some found) old.state.window
+  pub window : new.state.window ≡ window_after (λ symbols. old.resync && is_lost d) (symbols_in old.sought.mode) (Some found) old.state.window
   pub none : new.found ≡ None
 
 -- The two halves are one step of the receiver, by any rule of decision that decides the frame in this way
@@ -128,14 +128,14 @@ RunsBy rules recording s met decisions lines packets = ⊥
 
 -- from the beginning of a recording
 abbrev pub IsRunBy : Rules → (recording : List Symbol) → List Decision → (lines : List (List ℕ)) → (packets : List ℕ) → Type 0
-IsRunBy rules recording decisions lines packets = RunsBy rules recording at_start (met_within rules.finds (λ frame. false) rules.size (window_at 0 false) recording) decisions lines packets
+IsRunBy rules recording decisions lines packets = RunsBy rules recording at_start (met_within rules.finds (λ symbols. false) rules.size (window_at 0 false) recording) decisions lines packets
 
 -- ---- the invariant
 
 -- the totals have room to count what was found
 abbrev pub CanCount : ℕ → Totals → Option Next → (again : Bool) → Window → Type 0
 CanCount size t None again w = ⊤
-CanCount size t (Some found) again w = (delivered : ℕ) → delivered ≤ 1 → (again ≡ true → delivered ≡ 0) → CanCountIn (window_after (λ frame. again) size (Some found) w) t delivered found
+CanCount size t (Some found) again w = (delivered : ℕ) → delivered ≤ 1 → (again ≡ true → delivered ≡ 0) → CanCountIn (window_after (λ symbols. again) size (Some found) w) t delivered found
 
 -- a frame that was found is held
 abbrev pub HoldsWhole : ℕ → Next → Window → Type 0
@@ -146,6 +146,6 @@ HoldsWhole size found w = ⊤
 -- fewer symbols than it has room for; a frame that was found is held
 pub record IsFollowing (mode : Mode) (resync : Bool) (limit : ℕ) (found : Option Next) (window : Window) (t : Totals) : Type 0 where
   pub few : found ≡ None → length window.symbols < room_for resync (symbols_in mode)
-  pub fits : (again : Bool) → Fits limit (window_after (λ frame. again) (symbols_in mode) found window) t
+  pub fits : (again : Bool) → Fits limit (window_after (λ symbols. again) (symbols_in mode) found window) t
   pub counts : (again : Bool) → CanCount (symbols_in mode) t found again window
   pub held : IfSome found (λ n. HoldsWhole (symbols_in mode) n window)
