@@ -1,9 +1,9 @@
 -- A step in two halves.
-use Rattle.s2_receive.proofs.Names.{◌≡◌, ℕ, ◌+◌, ◌<◌, ◌≤◌, ◌&&◌, Bool, true, List, ◌∷◌, ◌++◌, length, take, Option, Some, None, IfSome, refl, sym, ap, ap₂, subst, ◌∙◌, Mode, Sought, Found, Symbol, symbols_of, no_gap, Window, reached, room_for, window_after, passed_by, met_of, HoldsFor, Takes, Fits, IsSound, EndsAt, Rules, Standing, State, Decision, IsDecided, Handles, HandlesNext, Steps, left_by, is_lost, searched_again, room_in, Next, Step, Totals, Phase}
+use Rattle.s2_receive.proofs.Names.{◌≡◌, ℕ, ◌+◌, ◌<◌, ◌≤◌, ◌&&◌, Bool, true, List, ◌∷◌, ◌++◌, length, take, Option, Some, None, IfSome, refl, sym, ap, ap₂, subst, ◌∙◌, Mode, Sought, Found, Symbol, symbols_of, no_gap, Window, reached, room_for, window_after, passed_by, met_of, HoldsFor, Takes, Fits, IsSound, EndsAt, Rules, Standing, State, Decision, IsDecided, Handles, HandlesNext, Steps, left_by, asked, asked_by, is_lost, searched_again, room_in, Next, Step, Totals, Phase}
 use Rattle.s2_receive.proofs.Names.next
 use Rattle.s2_receive.proofs.Names.phases
 use Rattle.s2_mode.specs.Mode.{symbols_in}
-use Rattle.s2_receive.specs.Halves.{CanCount, Follower, HalvesLaw, HoldsWhole, IsFollowing, IsInFront, SeeksBy, rules_with}
+use Rattle.s2_receive.specs.Halves.{CanCount, Follower, HalvesLaw, HoldsWhole, IsFollowing, IsInFront, SeeksBy, asked_of, rules_with, wanted_by}
 use Rattle.s2_receive.specs.Receiving.{IsDecidedBy}
 use Rattle.s2_receive.proofs.StepLemmas.{closes, counts_in, ends_so, sound_on, symbols_least, then_left}
 
@@ -85,6 +85,11 @@ halves decide old mid new bytes whole found d step few seeks decided settles all
     window : new.state.window ≡ window_after (searched_again rules) rules.size (Some found) mid.state.window
     window = settles.window ∙ passed_so decide old.resync mid.resync rules.size (symbols_in mid.sought.mode) found mid d seeks.same.resync size' seeks.front decided
 
+    closing_few : old.state.phase ≡ phases.Closing → length bytes ≤ asked_of old → length bytes ≤ asked rules old.state
+    closing_few is few =
+        let none = subst (λ p. length bytes ≤ wanted_by p old.limit (room_for old.resync (symbols_in old.sought.mode)) old.state.window) is few in
+        subst (λ p. length bytes ≤ asked_by rules p old.state.window) (sym is) none
+
     by_phase : (phase : Phase) → old.state.phase ≡ phase → SeeksBy phase old mid bytes whole (Some found) → Steps rules old.state new.state (symbols_of bytes) whole d new.packets step
     by_phase phases.Searching is takes =
         searched rules old.state mid.state new.state (symbols_of bytes) whole mid.frame found d new.packets step is (ap (λ (s : State). s.standing) seeks.state) (takes (searched_again rules)) decided (settles.handles rules) window
@@ -93,6 +98,6 @@ halves decide old mid new bytes whole found d step few seeks decided settles all
         let state : mid.state ≡ old.state = seeks.state ∙ ap (λ w. record old.state { window = w }) same in
         let handles = subst (λ (s : State). HandlesNext rules s new.state d (next.End (reached old.state.window) no_gap) new.packets step) state (subst (λ n. HandlesNext rules mid.state new.state d n new.packets step) end (settles.handles rules)) in
         let kept : new.state.window ≡ old.state.window = subst (λ n. new.state.window ≡ window_after (searched_again rules) rules.size (Some n) mid.state.window) end window ∙ same in
-        closes rules old.state new.state bytes whole d (reached old.state.window) new.packets step is few handles kept
+        closes rules old.state new.state bytes whole d (reached old.state.window) new.packets step is (closing_few is few) handles kept
     by_phase phases.Ended is (none, same) = cc
     by_phase phases.Failed is (none, same) = cc

@@ -1,5 +1,5 @@
 -- A step in two halves: the search up to the next thing, and what is done with it by a decision that is given (own).
-use Rattle.std.specs.Prelude.{◌≡◌, ℕ, ◌+◌, ◌<◌, ◌≤◌, ◌&&◌, nat_eq, Bool, true, false, List, [], ◌∷◌, ◌++◌, length, take, drop, Option, Some, None, IfSome, ⊤, ⊥}
+use Rattle.std.specs.Prelude.{◌≡◌, ℕ, ◌+◌, ◌*◌, ◌<◌, ◌≤◌, ◌&&◌, nat_eq, Bool, true, false, List, [], ◌∷◌, ◌++◌, length, take, drop, Option, Some, None, IfSome, ⊤, ⊥}
 use Rattle.s2_mode.specs.Mode.{Mode, symbols_in}
 use Rattle.s2_mode.specs.Symbols.{symbols_of}
 use Rattle.s2_mode.specs.declared.symbols.Symbol.{Symbol}
@@ -8,8 +8,8 @@ use Rattle.s2_receive.specs.Decider.{delivered_of}
 use Rattle.s2_receive.specs.Meeting.{Met, frame, cut, ended, met_from, no_gap, rest_of}
 use Rattle.s2_receive.specs.Output.{HandlesNext}
 use Rattle.s2_receive.specs.ReceiverCore.{CanCountIn, Fits}
-use Rattle.s2_receive.specs.Receiving.{Decision, IsDecided, Rules, Standing, State, Steps, after, asked, at_start, is_lost, line_of, packets_of, searched_again}
-use Rattle.s2_receive.specs.Synchronization.{Takes, Window, met_of, met_within, reached, room_for, window_after, window_at}
+use Rattle.s2_receive.specs.Receiving.{Decision, IsDecided, Rules, Standing, State, Steps, after, at_start, is_lost, line_of, packets_of, searched_again}
+use Rattle.s2_receive.specs.Synchronization.{Takes, Window, met_of, met_within, reached, room_for, wanted, window_after, window_at}
 use Rattle.s2_receive.specs.Windows.{found_as}
 use Rattle.s2_receive.specs.declared.decider.Decided.{Decided}
 use Rattle.s2_receive.specs.declared.report.Phase.{Phase}
@@ -36,9 +36,14 @@ pub record Follower : Type 0 where
 abbrev pub rules_with : (List Symbol → Decision) → Follower → Rules
 rules_with decide f = record { finds = found_as f.sought f.max_header_errors; size = symbols_in f.sought.mode; resync = f.resync; decide = decide; limit = f.limit }
 
--- how many bytes it wants next
-abbrev pub asked_of : (List Symbol → Decision) → Follower → ℕ
-asked_of decide f = asked (rules_with decide f) f.state
+-- how many bytes it wants next, by its phase
+abbrev pub wanted_by : Phase → (limit room : ℕ) → Window → ℕ
+wanted_by phases.Searching limit room w = 4 * wanted limit room w
+wanted_by phase limit room w = 0
+
+-- those of a receiver
+abbrev pub asked_of : Follower → ℕ
+asked_of f = wanted_by f.state.phase f.limit (room_for f.resync (symbols_in f.sought.mode)) f.state.window
 
 -- it follows the same stream in the same way
 pub record IsSameFollower (old new : Follower) : Type 0 where
@@ -98,8 +103,8 @@ pub record Settles (old new : Follower) (found : Next) (d : Decision) (step : St
 -- The two halves are one step of the receiver, by any rule of decision that decides the frame in this way
 abbrev pub HalvesLaw : Type 0
 HalvesLaw =
-    (decide : List Symbol → Decision) (old mid new : Follower) (bytes : List ℕ) (whole : Bool) (found : Next) (d : Decision) (step : Step) → length bytes ≤ asked_of decide old
-    → Seeks old mid bytes whole (Some found) → IsDecided (rules_with decide old) (met_of found mid.frame) d → Settles mid new found d step → whole ≡ nat_eq (length bytes) (asked_of decide old)
+    (decide : List Symbol → Decision) (old mid new : Follower) (bytes : List ℕ) (whole : Bool) (found : Next) (d : Decision) (step : Step) → length bytes ≤ asked_of old
+    → Seeks old mid bytes whole (Some found) → IsDecided (rules_with decide old) (met_of found mid.frame) d → Settles mid new found d step → whole ≡ nat_eq (length bytes) (asked_of old)
     → Steps (rules_with decide old) old.state new.state (symbols_of bytes) whole d new.packets step
 
 -- ---- whole runs by given decisions

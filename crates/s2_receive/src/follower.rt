@@ -186,7 +186,7 @@ impl Follower {
     /// The number of bytes that the next half wants.
     pub fn room(&self) -> usize
         requires none { self.now.found ≡ None }
-        ensures is { (decide : List SymbolValue → Decision) → result ≡ asked_of decide self.now }
+        ensures is { result ≡ asked_of self.now }
         ensures few { result ≤ 4 * room_for self.now.resync (symbols_in self.now.sought.mode) }
     {
         match self.status.phase {
@@ -199,8 +199,8 @@ impl Follower {
     /// more symbols are needed. It is then to be passed to [`Follower::settle`].
     pub fn seek(&mut self, bytes: &[u8]) -> Option<Next>
         requires none { self.old.found ≡ None }
-        requires room { (decide : List SymbolValue → Decision) → length bytes.now ≤ asked_of decide self.old }
-        ensures seeks { (decide : List SymbolValue → Decision) → Seeks self.old self.new bytes.now (nat_eq (length bytes.now) (asked_of decide self.old)) result }
+        requires room { length bytes.now ≤ asked_of self.old }
+        ensures seeks { Seeks self.old self.new bytes.now (nat_eq (length bytes.now) (asked_of self.old)) result }
     {
         self.found = seek_in(&mut self.synchronizer, self.status.phase, bytes, self.limit);
         self.found
