@@ -43,6 +43,10 @@ module _ (finds : Bool → List Symbol → Found) (m : Mode) (resync : Bool) (li
       held_of (Some (next.Cut at skipped count)) holds = tt
       held_of (Some (next.End at skipped)) holds = tt
 
+-- where nothing was found
+pub none_before : (m : Mode) (resync : Bool) (limit : ℕ) (found : Option Next) (w : Window) (t : Totals) → found ≡ None → IsFollowing m resync limit found w t → IsFollowing m resync limit None w t
+none_before m resync limit found w t is sound = subst (λ n. IsFollowing m resync limit n w t) is sound
+
 -- ---- the two halves together
 
 -- after the second half the symbols are held that a step by this rule of decision leaves
