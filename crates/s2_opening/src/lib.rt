@@ -4,6 +4,8 @@
 //! A [`FileOpener`] opens one file by each call, and calls like [`open_join`] open those of a command, in order. They take
 //! anything that [`Opens`] files, so their callers depend on no type of file. [`screen_beside`] is a command's report and its errors; with `--every` it has only some lines of the report.
 //!
+//! A [`Hashed`] reader or writer adds the bytes that pass to a [`SharedSum`], for `--about`.
+//!
 //! This is plain code. The contracts say what a command requires of its files: that no call failed so far, and that no output
 //! is begun.
 //!
@@ -15,6 +17,8 @@
 #![tactic(auto)]
 
 mod file_opener;
+mod file_sum;
+mod hashed;
 mod noting;
 mod opening;
 mod opens;
@@ -22,6 +26,8 @@ mod screen;
 mod thinned;
 
 pub use file_opener::FileOpener;
+pub use file_sum::FileSum;
+pub use hashed::{Hashed, SharedSum};
 pub use noting::{Named, Noting};
 pub use opening::{open_audit, open_compare, open_inputs, open_join, open_noise, open_scan};
 pub use opens::{Finishes, Opens, Unserved};
