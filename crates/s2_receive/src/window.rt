@@ -58,9 +58,7 @@ impl Held {
     }
 }
 
-/// Puts the symbols of these bytes after those that are held. Its loop is made of vectors only while it is a function of its
-/// own.
-#[inline(never)]
+/// Puts the symbols of these bytes after those that are held.
 fn fill(bytes: &[u8], buffer: &mut [Symbol], held: &mut Held)
     requires room { held.old.count + length bytes.now / 4 ≤ length buffer.old }
     ensures window { window_of held.new buffer.new ≡ record (window_of held.old buffer.old) { symbols = take held.old.count buffer.old ++ symbols_of bytes.now } }
@@ -82,6 +80,9 @@ fn drop_front(buffer: &mut [Symbol], held: &mut Held, n: usize)
     ensures held { held.new ≡ record held.old { at = held.old.at + n; count = held.old.count - n } }
     ensures size { length buffer.new ≡ length buffer.old }
 {
+    if n == 0 {
+        return;
+    }
     buffer.copy_within(n.., 0);
     held.at += n as u64;
     held.count -= n;

@@ -7,7 +7,7 @@
 //!
 //! [`next_entry`] reads a report line by line, in the memory of one line. An [`Entry`] of a frame has its number, the symbol
 //! at which it begins, and its verdict; the rest of its line is not read. A line that [`line_of`] writes of a step is read as
-//! the entry of this step (its clause `read_back`).
+//! the entry of this step, if its numbers are below 2^40 (its clause `read_back`).
 //!
 //! ```text
 //! write_full(&mut report, line_of(step, totals).as_bytes())?;
