@@ -5,6 +5,7 @@ pub mod MetLemmas
 pub mod LostFrames
 pub mod FindSteps
 pub mod StepLemmas
+pub mod HalfLemmas
 pub mod ReadLemmas
 pub mod NextLemmas
 pub mod SinkFolds

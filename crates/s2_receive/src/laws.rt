@@ -1,5 +1,6 @@
 //! Laws, which follow from the definitions alone. Each is the clause of a call that does nothing.
 ghost use Rattle.s2_receive.specs.Calls.{CallsLaw};
+ghost use Rattle.s2_receive.specs.Halves.{HalvesLaw};
 ghost use Rattle.s2_receive.specs.Limits.{LimitsLaw};
 ghost use Rattle.s2_receive.specs.Laws.{JoiningLaw, ReceptionLaw, FrontLaw, ResumeLaw, SearchLaw, SameRunLaw, SameStepLaw, TwoRunsLaw};
 
@@ -56,4 +57,10 @@ pub fn calls()
 /// The limit that is tested, [`crate::MAX_SYMBOLS`], is that of the definitions.
 pub fn limits()
     ensures { LimitsLaw }
+{}
+
+/// The two halves of a step of a [`crate::Follower`] are one step of the receiver, by any rule of decision that comes to the
+/// given decision for the frame that was found.
+pub fn halves()
+    ensures { HalvesLaw }
 {}
