@@ -1,17 +1,17 @@
 //! The receiver's step in two halves, for decisions that are made elsewhere.
-ghost use Rattle.std.specs.Prelude.{◌≡◌, ◌≢◌, ◌⊎◌, ℕ, ◌*◌, ◌^◌, ◌<◌, ◌≤◌, [], Bool, List, IfOk, IfSome, None, Some, length, nat_eq};
+ghost use Rattle.std.specs.Prelude.{◌≡◌, ◌≢◌, ◌⊎◌, ℕ, ◌*◌, ◌^◌, ◌++◌, ◌<◌, ◌≤◌, ◌&&◌, [], Bool, List, IfOk, IfSome, None, Some, length, nat_eq};
 ghost use Rattle.s2_mode.specs.Mode.{symbols_in};
 ghost use Rattle.s2_mode.specs.declared.symbols.Symbol.{Symbol as SymbolValue};
 ghost use Rattle.s2_plframe.specs.Turns.{sought_of};
-ghost use Rattle.s2_receive.specs.Decider.{HasPlace};
-ghost use Rattle.s2_receive.specs.Halves.{Says, Seeks, Settles, asked_of};
+ghost use Rattle.s2_receive.specs.Decider.{HasPlace, delivered_of};
+ghost use Rattle.s2_receive.specs.Halves.{HoldsWhole, Says, Seeks, Settles, asked_of};
 ghost use Rattle.s2_receive.specs.Limits.{max_symbols};
 ghost use Rattle.s2_receive.specs.Output.{IsFew, answer_for, counted};
 ghost use Rattle.s2_receive.specs.ReceiverCore.{CanCountIn, Fits};
 ghost use Rattle.s2_mode.specs.Symbols.{symbols_of};
 ghost use Rattle.s2_receive.specs.Meeting.{no_gap};
-ghost use Rattle.s2_receive.specs.Receiving.{Decision, begun, phase_after};
-ghost use Rattle.s2_receive.specs.Synchronization.{HoldsFor, Takes, met_of, reached, room_for, wanted, window_after};
+ghost use Rattle.s2_receive.specs.Receiving.{Decision, begun, is_none, phase_after};
+ghost use Rattle.s2_receive.specs.Synchronization.{HoldsFor, HoldsLast, IsInFront, Takes, met_of, reached, room_for, wanted, window_after};
 ghost use Rattle.s2_receive.specs.Windows.{found_as};
 ghost use Rattle.s2_receive.specs.declared.report.Phase.TheVariants as phases;
 ghost use Rattle.s2_receive.specs.declared.window.Next.TheVariants as next;
@@ -39,6 +39,8 @@ fn seek_in(synchronizer: &mut Synchronizer, phase: Phase, bytes: &[u8], limit: u
     ensures searching { phase ≡ phases.Searching → (lost : List SymbolValue → Bool) → Takes (found_as synchronizer.old.sought synchronizer.old.max_header_errors) lost (symbols_in synchronizer.old.sought.mode) (room_for synchronizer.old.resync (symbols_in synchronizer.old.sought.mode)) synchronizer.old.window
         (window_after lost (symbols_in synchronizer.old.sought.mode) result synchronizer.new.window) (symbols_of bytes.now)
         (nat_eq (length bytes.now) (4 * wanted limit (room_for synchronizer.old.resync (symbols_in synchronizer.old.sought.mode)) synchronizer.old.window)) synchronizer.new.frame result }
+    ensures last { phase ≡ phases.Searching → HoldsLast synchronizer.old.window.at (synchronizer.old.window.symbols ++ symbols_of bytes.now) synchronizer.new.window }
+    ensures front { IsInFront (symbols_in synchronizer.old.sought.mode) result synchronizer.new.window synchronizer.new.frame }
     ensures holds { phase ≡ phases.Searching → HoldsFor (symbols_in synchronizer.old.sought.mode) result (length synchronizer.new.window.symbols) (room_for synchronizer.old.resync (symbols_in synchronizer.old.sought.mode)) }
     ensures closing { phase ≡ phases.Closing → result ≡ Some (next.End (reached synchronizer.old.window) no_gap) }
     ensures ended { (phase ≡ phases.Ended) ⊎ (phase ≡ phases.Failed) → result ≡ None }
@@ -55,9 +57,33 @@ fn seek_in(synchronizer: &mut Synchronizer, phase: Phase, bytes: &[u8], limit: u
     }
 }
 
+/// Whether nothing of a frame is delivered.
+fn is_lost(decided: Decided) -> bool
+    ensures { (field : List ℕ) → result ≡ is_none (delivered_of decided.header field) }
+{
+    match decided.header {
+        Some(_) => false,
+        None => true,
+    }
+}
+
+/// Passes what was found: if it is a frame, all of it, or its first symbol if it is lost and lost frames are searched again.
+fn pass_found(synchronizer: &mut Synchronizer, next: Next, lost: bool)
+    requires held { HoldsWhole (symbols_in synchronizer.old.sought.mode) next synchronizer.old.window }
+    requires limit { reached synchronizer.old.window ≤ max_symbols }
+    ensures window { synchronizer.new.window ≡ window_after (λ symbols. synchronizer.old.resync && lost) (symbols_in synchronizer.old.sought.mode) (Some next) synchronizer.old.window }
+    ensures same { (synchronizer.new.sought ≡ synchronizer.old.sought) × (synchronizer.new.max_header_errors ≡ synchronizer.old.max_header_errors) × (synchronizer.new.resync ≡ synchronizer.old.resync) }
+{
+    match next {
+        Next::Frame { .. } => synchronizer.pass(lost),
+        Next::Cut { .. } => {}
+        Next::End { .. } => {}
+    }
+}
+
 /// The step for what was found, by this decision.
 fn step_for(totals: Totals, next: Next, decided: Decided) -> Step
-    requires { totals.frames < 2 ^ 62 }
+    requires { totals.frames ≤ max_symbols }
     ensures { (field : List ℕ) (d : Decision) → Says decided field d → result ≡ answer_for d totals next }
 {
     match next {
@@ -136,21 +162,11 @@ impl Drop for Follower {
 }
 
 impl Model for Follower {
-    ghost use Rattle.s2_receive.specs.Halves.{Follower as FollowerValue, IsFollowing};
-    ghost use Rattle.s2_receive.specs.Receiving.{state_of};
+    ghost use Rattle.s2_receive.specs.Halves.{Follower as FollowerValue, IsFollowing, follower_of};
 
     ghost Value = { FollowerValue };
 
-    ghost view = { λ f. record {
-      sought = f.synchronizer.sought;
-      max_header_errors = f.synchronizer.max_header_errors;
-      resync = f.synchronizer.resync;
-      limit = f.limit;
-      state = state_of f.status.phase f.synchronizer.window f.joiner.held f.status.totals;
-      found = f.found;
-      frame = f.synchronizer.frame;
-      packets = f.joiner.packets;
-    } };
+    ghost view = { λ f. follower_of f.status.phase f.synchronizer f.limit f.joiner.held f.status.totals f.found f.joiner.packets };
 
     ghost invariant = { λ f. IsFollowing f.synchronizer.sought.mode f.synchronizer.resync f.limit f.found f.synchronizer.window f.status.totals };
 }
@@ -220,9 +236,7 @@ impl Follower {
         requires place { IfSome decided.header (HasPlace field.now) }
         ensures settles { (d : Decision) → Says decided field.now d → Settles self.old self.new next d result }
     {
-        if let Next::Frame { .. } = next {
-            self.synchronizer.pass(decided.header.is_none());
-        }
+        pass_found(&mut self.synchronizer, next, is_lost(decided));
         let counts = self.joiner.give(next, decided.header, field);
         let step = step_for(self.status.totals, next, decided);
         self.status = status_for(
