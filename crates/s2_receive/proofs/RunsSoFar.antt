@@ -3,7 +3,8 @@ use Rattle.s2_receive.proofs.Names.{◌≡◌, ℕ, ◌+◌, ◌-◌, ◌≤◌,
 use Rattle.s2_receive.proofs.Names.next
 use Rattle.s2_receive.proofs.Names.phases
 use Rattle.s2_mode.specs.Mode.{symbols_in}
-use Rattle.s2_receive.specs.Halves.{Follower, IsSameFollower, IsRunBy, IsShown, RunBeginsLaw, RunEndsLaw, RunSeeksLaw, RunSettlesLaw, RunSoFar, RunsBy, Seeks, SeeksBy, Settles, ahead, asked_of, deciding, decision_if, met_behind, rules_with, wanted_by}
+use Rattle.s2_receive.specs.Halves.{Follower, IsSameFollower, IsRunBy, IsShown, RunBeginsLaw, RunEndsLaw, RunSeeksLaw, RunSettlesLaw, RunSoFar, RunsBy, Seeks, SeeksBy, Settles, ahead, asked_of, deciding, decision_if, met_behind, rules_with}
+use Rattle.s2_receive.specs.Receiving.{wanted_by}
 use Rattle.s2_receive.proofs.LastSymbols.{last-last, last-more, passed_last}
 use Rattle.s2_receive.proofs.MetLemmas.{passed-inside}
 use Rattle.s2_receive.proofs.StepLemmas.{symbols_least}

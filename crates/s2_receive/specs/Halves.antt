@@ -1,16 +1,18 @@
 -- A step in two halves: the search up to the next thing, and what is done with it by a decision that is given (own).
-use Rattle.std.specs.Prelude.{◌≡◌, ◌↔◌, ℕ, ◌+◌, ◌*◌, ◌<◌, ◌≤◌, ◌&&◌, nat_eq, Bool, true, false, List, [], ◌∷◌, ◌++◌, length, take, drop, Option, Some, None, IfSome, ⊤}
+use Rattle.std.specs.Prelude.{◌≡◌, ◌↔◌, ℕ, ◌+◌, ◌<◌, ◌≤◌, ◌&&◌, nat_eq, Bool, true, false, List, [], ◌∷◌, ◌++◌, length, take, drop, Option, Some, None, IfSome, ⊤}
 use Rattle.std.specs.List.{flat_map}
 use Rattle.s2_mode.specs.Mode.{Mode, symbols_in}
 use Rattle.s2_mode.specs.Symbols.{symbols_of}
 use Rattle.s2_mode.specs.declared.symbols.Symbol.{Symbol}
 use Rattle.s2_plframe.specs.Turns.{Sought}
+use Rattle.s2_receive.specs.Answers.{Seen}
 use Rattle.s2_receive.specs.Decider.{delivered_of}
+use Rattle.s2_receive.specs.Limits.{max_symbols}
 use Rattle.s2_receive.specs.Meeting.{Met, frame, cut, ended, met_from, no_gap, rest_of}
 use Rattle.s2_receive.specs.Output.{HandlesNext}
 use Rattle.s2_receive.specs.ReceiverCore.{CanCountIn, Fits}
-use Rattle.s2_receive.specs.Receiving.{Decision, IsDecided, Rules, Standing, State, Steps, after, all_lines, all_packets, at_start, begun, is_lost, left_by, line_of, packets_of, searched_again, state_of}
-use Rattle.s2_receive.specs.Synchronization.{Follows, HoldsLast, IsInFront, Synchronizer, Takes, Window, met_of, met_then, met_within, reached, room_for, wanted, window_after, window_at}
+use Rattle.s2_receive.specs.Receiving.{Decision, IsDecided, Rules, Standing, State, Steps, after, all_lines, all_packets, at_start, begun, is_lost, left_by, line_of, packets_of, searched_again, state_of, wanted_by}
+use Rattle.s2_receive.specs.Synchronization.{Follows, HoldsLast, IsInFront, Synchronizer, Takes, Window, met_of, met_then, met_within, reached, room_for, window_after, window_at}
 use Rattle.s2_receive.specs.Windows.{found_as}
 use Rattle.s2_receive.specs.declared.decider.Decided.{Decided}
 use Rattle.s2_receive.specs.declared.report.Phase.{Phase}
@@ -43,14 +45,13 @@ follower_of phase s limit held t found packets =
 abbrev pub rules_with : (List Symbol → Decision) → Follower → Rules
 rules_with decide f = record { finds = found_as f.sought f.max_header_errors; size = symbols_in f.sought.mode; resync = f.resync; decide = decide; limit = f.limit }
 
--- how many bytes it wants next, by its phase
-abbrev pub wanted_by : Phase → (limit room : ℕ) → Window → ℕ
-wanted_by phases.Searching limit room w = 4 * wanted limit room w
-wanted_by phase limit room w = 0
-
--- those of a receiver
+-- how many bytes it wants next
 abbrev pub asked_of : Follower → ℕ
 asked_of f = wanted_by f.state.phase f.limit (room_for f.resync (symbols_in f.sought.mode)) f.state.window
+
+-- it as a receiver with this rule of decision and this last decision
+abbrev pub seen_with : (List Symbol → Decision) → (last : Decision) → Follower → Seen
+seen_with decide last f = record { rules = rules_with decide f; state = f.state; last = last; packets = f.packets }
 
 -- it follows the same stream in the same way
 pub record IsSameFollower (old new : Follower) : Type 0 where
@@ -245,3 +246,4 @@ pub record IsFollowing (mode : Mode) (resync : Bool) (limit : ℕ) (found : Opti
   pub counts : (again : Bool) → CanCount (symbols_in mode) t found again window
   pub held : IfSome found (λ n. HoldsWhole (symbols_in mode) n window)
   pub place : reached window ≤ limit
+  pub most : limit ≤ max_symbols

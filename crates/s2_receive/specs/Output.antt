@@ -62,22 +62,6 @@ abbrev pub HandlesNext : Rules → (old new : State) → Decision → Next → (
 HandlesNext rules old new last found packets step =
     (symbols : List Symbol) → IsDecided rules (met_of found symbols) last → Handles rules old new (met_of found symbols) packets step
 
--- Symbols came to a receiver that searches. Nothing is met yet. Or this was met, a frame is decided, and nothing else
--- changed.
-abbrev pub Searches : Rules → (old new : State) → (symbols : List Symbol) → (whole : Bool) → Decision → Option Next → Type 0
-Searches rules old new symbols whole last None = Waits rules old new symbols whole
-Searches rules old new symbols whole last (Some found) =
-    (buffer : List Symbol) × IsDecided rules (met_of found buffer) last
-    × ((coming : List Symbol) → Follows whole coming → met_left rules old (symbols ++ coming) ≡ met_of found buffer ∷ met_then rules.finds (searched_again rules) rules.size found new.window coming)
-    × (taken new ≡ taken old + length symbols) × (new ≡ record old { window = new.window }) × HoldsAfter (searched_again rules) rules.size (room_in rules) found buffer new.window
-    × CanCountIn new.window old.standing.totals (count_of last.delivered) found
-
--- Symbols came to a search, and this was met. If lost frames are searched again, the decision says which frames are lost. If it is
--- a frame, the last decision is on its symbols
-abbrev pub TakesDecided : (Bool → List Symbol → Found) → (List Symbol → Decision) → (resync : Bool) → (size : ℕ) → (old new : Window) → (symbols : List Symbol) → (whole : Bool) → Decision → Option Next → Type 0
-TakesDecided finds decide resync size old new symbols whole last found =
-    (buffer : List Symbol) × Takes finds (λ frame. resync && is_lost (decide frame)) size (room_for resync size) old new symbols whole buffer found × IfSome found (λ next. IsDecidedBy decide (met_of next buffer) last)
-
 -- if no frame was met, the last decision is unchanged
 abbrev pub KeepsWithout : Option Next → (old new : Decision) → Type 0
 KeepsWithout (Some (next.Frame at skipped)) old new = ⊤

@@ -18,11 +18,10 @@ ghost use Rattle.s2_receive.specs.declared.window.Next.TheVariants as next;
 
 use crate::decider::Decided;
 use crate::gap::Gap;
-use crate::packet_buffer::{PacketBuffer, StepCounts};
-use crate::receiver_core::Status;
-use crate::report::{Phase, frame_report};
+use crate::output::{Status, status_for, step_for};
+use crate::packet_buffer::PacketBuffer;
+use crate::report::Phase;
 use crate::synchronizer::Synchronizer;
-use crate::totals::{with_cut, with_frame, with_gap};
 use crate::window::Next;
 use s2_mode::{Mode, Symbol};
 use s2_plframe::HeaderTolerance;
@@ -78,61 +77,6 @@ fn pass_found(synchronizer: &mut Synchronizer, next: Next, lost: bool)
         Next::Frame { .. } => synchronizer.pass(lost),
         Next::Cut { .. } => {}
         Next::End { .. } => {}
-    }
-}
-
-/// The step for what was found, by this decision.
-fn step_for(totals: Totals, next: Next, decided: Decided) -> Step
-    requires { totals.frames ≤ max_symbols }
-    ensures { (field : List ℕ) (d : Decision) → Says decided field d → result ≡ answer_for d totals next }
-{
-    match next {
-        Next::Frame { at, skipped: _ } => {
-            Step::Frame(frame_report(totals.frames + 1, at, decided))
-        }
-        Next::Cut {
-            at,
-            skipped: _,
-            count,
-        } => Step::Cut { at, symbols: count },
-        Next::End { at: _, skipped: _ } => Step::End,
-    }
-}
-
-/// The status after what was found, with these counts and this decision. The synchronizer has passed it.
-fn status_for(
-    synchronizer: &Synchronizer,
-    limit: u64,
-    totals: Totals,
-    next: Next,
-    counts: StepCounts,
-    decided: Decided,
-) -> Status
-    requires fits { Fits limit synchronizer.now.window totals }
-    requires room { CanCountIn synchronizer.now.window totals counts.delivered next }
-    requires few { IsFew counts }
-    ensures phase { result.phase ≡ phase_after (met_of next []) }
-    ensures totals { (field : List ℕ) (d : Decision) → Says decided field d → result.totals ≡ counted totals next counts d }
-    ensures fits { Fits limit synchronizer.now.window result.totals }
-{
-    let _ = synchronizer;
-    match next {
-        Next::Frame { at: _, skipped } => Status {
-            phase: Phase::Searching,
-            totals: with_frame(with_gap(totals, skipped), counts, decided),
-        },
-        Next::Cut {
-            at: _,
-            skipped,
-            count: _,
-        } => Status {
-            phase: Phase::Closing,
-            totals: with_cut(with_gap(totals, skipped), counts.incomplete),
-        },
-        Next::End { at: _, skipped } => Status {
-            phase: Phase::Ended,
-            totals: with_gap(totals, skipped.at_end()),
-        },
     }
 }
 
@@ -204,6 +148,7 @@ impl Follower {
         requires none { self.now.found ≡ None }
         ensures is { result ≡ asked_of self.now }
         ensures few { result ≤ 4 * room_for self.now.resync (symbols_in self.now.sought.mode) }
+        ensures held { (length self.now.state.window.symbols < room_for self.now.resync (symbols_in self.now.sought.mode)) × (reached self.now.state.window ≤ self.now.limit) }
     {
         match self.status.phase {
             Phase::Searching => 4 * self.synchronizer.wanted(self.limit),
@@ -217,6 +162,7 @@ impl Follower {
         requires none { self.old.found ≡ None }
         requires room { length bytes.now ≤ asked_of self.old }
         ensures seeks { Seeks self.old self.new bytes.now (nat_eq (length bytes.now) (asked_of self.old)) result }
+        ensures bounded { reached self.new.state.window ≤ self.new.limit }
     {
         self.found = seek_in(&mut self.synchronizer, self.status.phase, bytes, self.limit);
         self.found
@@ -235,6 +181,7 @@ impl Follower {
         requires found { self.old.found ≡ Some next }
         requires place { IfSome decided.header (HasPlace field.now) }
         ensures settles { (d : Decision) → Says decided field.now d → Settles self.old self.new next d result }
+        ensures bounded { reached self.new.state.window ≤ self.new.limit }
     {
         pass_found(&mut self.synchronizer, next, is_lost(decided));
         let counts = self.joiner.give(next, decided.header, field);
@@ -260,8 +207,41 @@ impl Follower {
 
     /// The totals so far.
     pub fn totals(&self) -> Totals
-        ensures { result ≡ self.now.state.standing.totals }
+        ensures is { result ≡ self.now.state.standing.totals }
+        ensures counted { result.frames ≤ max_symbols }
     {
         self.status.totals
+    }
+
+    /// Its phase.
+    pub(crate) fn phase(&self) -> Phase
+        ensures is { result ≡ self.now.state.phase }
+        ensures within { reached self.now.state.window ≤ self.now.limit }
+        ensures counted { self.now.state.standing.totals.frames ≤ max_symbols }
+    {
+        self.status.phase
+    }
+
+    /// The number of symbols taken so far.
+    pub(crate) fn taken(&self) -> u64
+        ensures { result ≡ reached self.now.state.window }
+    {
+        self.synchronizer.reached()
+    }
+
+    /// Sets the limit of symbols in all.
+    pub(crate) fn limit(&mut self, symbols: u64)
+        requires none { self.old.found ≡ None }
+        requires limit { (reached self.old.state.window ≤ symbols) × (symbols ≤ max_symbols) }
+        ensures { self.new ≡ record self.old { limit = symbols } }
+    {
+        self.limit = symbols;
+    }
+
+    /// Marks the receiver as failed.
+    pub(crate) fn fail(&mut self)
+        ensures { self.new ≡ record self.old { state = record self.old.state { phase = phases.Failed } } }
+    {
+        self.status.phase = Phase::Failed;
     }
 }

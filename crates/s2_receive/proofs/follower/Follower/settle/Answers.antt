@@ -1,14 +1,16 @@
 use Rattle.s2_mode.specs.Mode.{symbols_in}
 use Rattle.s2_receive.proofs.Names.{◌≡◌, ◌∙◌, ◌&&◌, Bool, true, Some, None, ap, refl, subst, sym, arith, is_none, CanCountIn, Fits, Window, state_of, window_after, delivered_of, counts_by, filled_by, joined_by, StepCounts}
 use Rattle.s2_receive.specs.Halves.{Follower, Settles, follower_of}
-use Rattle.s2_receive.proofs.HalfLemmas.{handled, known_so, none_again, settled}
+use Rattle.s2_receive.proofs.HalfLemmas.{frames_most, handled, known_so, none_again, settled}
 use Rattle.s2_receive.proofs.follower.Follower.settle.Goals as goal
 
 pub pass_found-requires-clause-limit : goal.pass_found-requires-clause-limit
 pass_found-requires-clause-limit c = let most = (c.self.invariant.fits true).most in omega (arith, c.self.invariant.place, most)
 
 pub step_for-step-requires : goal.step_for-step-requires
-step_for-step-requires c = let fits = c.self.invariant.fits true in omega (arith, fits.frames, fits.place, fits.most)
+step_for-step-requires c =
+    let inside = c.self.inside in
+    frames_most inside.synchronizer.sought.mode inside.synchronizer.resync inside.limit inside.found inside.synchronizer.window inside.status.totals c.self.invariant
 
 pub status_for-self-inside-requires-clause-fits : goal.status_for-self-inside-requires-clause-fits
 status_for-self-inside-requires-clause-fits c =
@@ -37,9 +39,8 @@ invariant_of-self c =
     settled inside.synchronizer c.pass_found.new.synchronizer c.is_lost.result inside.limit c.args.next inside.status.totals c.status_for-self-inside.result.totals sound c.pass_found.ensures.window c.pass_found.ensures.same
     c.status_for-self-inside.ensures.fits
 
-pub returns : goal.returns
-returns c = record {
-  settles = λ d says.
+pub returns-clause-settles : goal.returns-clause-settles
+returns-clause-settles c = λ d says.
       (let inside = c.self.inside in
       let s = inside.synchronizer in
       let new = c.pass_found.new.synchronizer in
@@ -64,5 +65,7 @@ returns c = record {
         window = c.pass_found.ensures.window ∙ ap (λ (b : Bool). window_after (λ symbols. s.resync && b) (symbols_in s.sought.mode) (Some found) s.window) (c.is_lost.ensures field ∙ ap is_none delivered);
         none = refl;
       } in
-      subst (λ (f : Follower). Settles f after found d step) c.self.view_is here);
-}
+      subst (λ (f : Follower). Settles f after found d step) c.self.view_is here)
+
+pub returns-clause-bounded : goal.returns-clause-bounded
+returns-clause-bounded c = (invariant_of-self c).place
