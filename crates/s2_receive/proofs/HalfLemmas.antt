@@ -1,5 +1,5 @@
 -- A step in two halves.
-use Rattle.s2_receive.proofs.Names.{◌≡◌, ◌≢◌, ◌⊎◌, inl, inr, ℕ, ◌+◌, ◌*◌, ◌<◌, ◌≤◌, ◌&&◌, arith, Bool, true, false, nat_eq, List, [], ◌∷◌, ◌++◌, length, length-append, take, flat_map, Option, Some, None, IfSome, refl, sym, ap, ap₂, subst, ◌∙◌, max_symbols, Mode, Sought, Found, Symbol, symbols_of, no_gap, Synchronizer, Window, window_at, reached, wanted, room_for, window_after, passed_by, met_of, HoldsFor, HoldsLast, IsInFront, Takes, found_as, Fits, IsSound, EndsAt, Rules, Standing, State, state_of, phase_after, Decision, IsDecided, Handles, HandlesNext, Steps, IsLive, KeepsWithout, left_by, asked, asked_by, is_none, is_lost, searched_again, room_in, joined_after, Filled, filled_by, joined_by, counts_by, counted, answer_for, delivered_of, StepCounts, Next, Step, Totals, Phase}
+use Rattle.s2_receive.proofs.Names.{◌≡◌, ◌≢◌, ◌⊎◌, inl, inr, ℕ, ◌+◌, ◌*◌, ◌<◌, ◌≤◌, ◌&&◌, arith, Bool, true, false, nat_eq, List, [], ◌∷◌, ◌++◌, length, length-append, take, flat_map, Option, Some, None, IfSome, refl, sym, ap, ap₂, subst, ◌∙◌, max_symbols, Mode, Sought, Found, Symbol, symbols_of, no_gap, Synchronizer, Window, window_at, reached, wanted, room_for, window_after, passed_by, met_of, HoldsFor, HoldsLast, IsInFront, Takes, found_as, Fits, EndsAt, Rules, Standing, State, state_of, phase_after, Decision, IsDecided, Handles, HandlesNext, Steps, IsLive, KeepsWithout, left_by, asked, asked_by, is_none, is_lost, searched_again, room_in, joined_after, Filled, filled_by, joined_by, counts_by, counted, answer_for, delivered_of, StepCounts, Next, Step, Totals, Phase}
 use Rattle.s2_receive.proofs.Names.next
 use Rattle.s2_receive.proofs.Names.steps
 use Rattle.s2_receive.proofs.Names.phases
@@ -63,24 +63,21 @@ module _ (finds : Bool → List Symbol → Found) (m : Mode) (resync : Bool) (li
   abbrev room_here : ℕ
   room_here = room_for resync all_symbols
 
-  before : IsSound m resync all_symbols limit old t
-  before = record { takes_frames = refl; few = sound.few true; fits = sound.fits true }
-
   -- what holds between two halves
   pub found_on : (found : Option Next) → ((lost : List Symbol → Bool) → Takes finds lost all_symbols room_here old (window_after lost all_symbols found new) symbols whole buffer found) → HoldsFor all_symbols found (length new.symbols) room_here
       → HoldsLast old.at (old.symbols ++ symbols) new → IsFollowing m resync limit found new t
   found_on found takes holds last =
       record {
-        few = λ again. (after_it again).few;
-        fits = λ again. (after_it again).fits;
+        few = λ again. (after_it again).0;
+        fits = λ again. (after_it again).1;
         counts = λ again. counts_of found again (takes (λ symbols. again));
         held = held_of found holds;
         place = omega (arith, last.place, ap length last.all, length-append last.front new.symbols, length-append old.symbols symbols, most);
         most = sound.most;
       }
     where
-      after_it : (again : Bool) → IsSound m resync all_symbols limit (window_after (λ symbols. again) all_symbols found new) t
-      after_it again = sound_on finds (λ symbols. again) m resync all_symbols limit old (window_after (λ symbols. again) all_symbols found new) t symbols whole buffer found before most (takes (λ symbols. again))
+      after_it : (again : Bool) → (length (window_after (λ symbols. again) all_symbols found new).symbols < room_here) × Fits limit (window_after (λ symbols. again) all_symbols found new) t
+      after_it again = sound_on finds (λ symbols. again) m resync limit old (window_after (λ symbols. again) all_symbols found new) t symbols whole buffer found (sound.fits true) most (takes (λ symbols. again))
 
       counts_of : (found : Option Next) (again : Bool) → Takes finds (λ symbols. again) all_symbols room_here old (window_after (λ symbols. again) all_symbols found new) symbols whole buffer found → CanCount all_symbols t found again new
       counts_of None again takes = tt

@@ -118,7 +118,7 @@ abbrev pub deciding : Rules → Decision → Rules
 deciding rules d = record rules { decide = λ symbols. d }
 
 -- What is met in a recording after the frame at this position, by its decision: if it is lost and lost frames are searched
--- again, the search goes on in it. What is said of later frames is used of the first thing alone, which depends on no later decision
+-- again, the search goes on in it. Only the first thing is used; it does not depend on the decisions to come
 abbrev pub met_behind : Rules → (recording : List Symbol) → (at : ℕ) → Decision → List Met
 met_behind rules recording at d =
     met_from rules.finds (λ symbols. false) rules.size (at + 1) (rest_of rules.finds (searched_again (deciding rules d)) rules.size (drop at recording)) true no_gap (drop (at + 1) recording)

@@ -41,31 +41,31 @@ invariant_of-self c =
 
 pub returns-clause-settles : goal.returns-clause-settles
 returns-clause-settles c = λ d says.
-      (let inside = c.self.inside in
-      let s = inside.synchronizer in
-      let new = c.pass_found.new.synchronizer in
-      let t = inside.status.totals in
-      let held = inside.joiner.held in
-      let field = c.args.field.now in
-      let found = c.args.next in
-      let given = c.give-counts in
-      let status = c.status_for-self-inside in
-      let step = c.step_for-step.result in
-      let delivered : delivered_of c.args.decided.header field ≡ d.delivered = sym says.delivered in
-      let filled = given.ensures.filled ∙ ap (λ x. filled_by (joined_by held found x)) delivered in
-      let counts = given.ensures.counts ∙ ap (counts_by held found) delivered in
-      let after = follower_of status.result.phase new inside.limit given.new.self.held status.result.totals None given.new.self.packets in
-      let before = follower_of inside.status.phase s inside.limit held t inside.found inside.joiner.packets in
-      let here : Settles before after found d step =
-      record {
-        same = record { sought = c.pass_found.ensures.same.0; max_header_errors = c.pass_found.ensures.same.1; resync = c.pass_found.ensures.same.2; limit = refl };
-        handles = λ rules.
-            handled rules (state_of inside.status.phase s.window held t) found d status.result.phase new.window given.new.self status.result.totals given.result step (c.step_for-step.ensures field d says) status.ensures.phase filled counts
-            (status.ensures.totals field d says);
-        window = c.pass_found.ensures.window ∙ ap (λ (b : Bool). window_after (λ symbols. s.resync && b) (symbols_in s.sought.mode) (Some found) s.window) (c.is_lost.ensures field ∙ ap is_none delivered);
-        none = refl;
-      } in
-      subst (λ (f : Follower). Settles f after found d step) c.self.view_is here)
+    (let inside = c.self.inside in
+    let s = inside.synchronizer in
+    let new = c.pass_found.new.synchronizer in
+    let t = inside.status.totals in
+    let held = inside.joiner.held in
+    let field = c.args.field.now in
+    let found = c.args.next in
+    let given = c.give-counts in
+    let status = c.status_for-self-inside in
+    let step = c.step_for-step.result in
+    let delivered : delivered_of c.args.decided.header field ≡ d.delivered = sym says.delivered in
+    let filled = given.ensures.filled ∙ ap (λ x. filled_by (joined_by held found x)) delivered in
+    let counts = given.ensures.counts ∙ ap (counts_by held found) delivered in
+    let after = follower_of status.result.phase new inside.limit given.new.self.held status.result.totals None given.new.self.packets in
+    let before = follower_of inside.status.phase s inside.limit held t inside.found inside.joiner.packets in
+    let here : Settles before after found d step =
+    record {
+      same = record { sought = c.pass_found.ensures.same.0; max_header_errors = c.pass_found.ensures.same.1; resync = c.pass_found.ensures.same.2; limit = refl };
+      handles = λ rules.
+          handled rules (state_of inside.status.phase s.window held t) found d status.result.phase new.window given.new.self status.result.totals given.result step (c.step_for-step.ensures field d says) status.ensures.phase filled counts
+          (status.ensures.totals field d says);
+      window = c.pass_found.ensures.window ∙ ap (λ (b : Bool). window_after (λ symbols. s.resync && b) (symbols_in s.sought.mode) (Some found) s.window) (c.is_lost.ensures field ∙ ap is_none delivered);
+      none = refl;
+    } in
+    subst (λ (f : Follower). Settles f after found d step) c.self.view_is here)
 
 pub returns-clause-bounded : goal.returns-clause-bounded
 returns-clause-bounded c = (invariant_of-self c).place
