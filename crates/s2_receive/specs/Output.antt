@@ -1,15 +1,13 @@
 -- The packets and counts of a thing met, and the receiver's state after it (own).
-use Rattle.std.specs.Prelude.{◌≡◌, ℕ, ◌+◌, ◌*◌, ◌≤◌, ◌&&◌, IfSome, Bool, List, ◌∷◌, ◌++◌, length, Option, Some, None, ⊤}
+use Rattle.std.specs.Prelude.{◌≡◌, ℕ, ◌+◌, ◌*◌, ◌≤◌, List, length, Option, Some, None, ⊤}
 use Rattle.std.specs.List.{flat_map}
 use Rattle.s2_bbframe.specs.Limits.{max_field_bytes, packets_room}
 use Rattle.s2_bbframe.specs.declared.header.Header.{Header}
 use Rattle.s2_bbframe.specs.Joining.{Joined, still, begun_body}
 use Rattle.s2_mode.specs.Limits.{header_symbols}
 use Rattle.s2_mode.specs.declared.symbols.Symbol.{Symbol}
-use Rattle.s2_plframe.specs.declared.receive.found.Found.{Found}
-use Rattle.s2_receive.specs.Synchronization.{Follows, HoldsAfter, Takes, Window, met_then, met_of, room_for}
-use Rattle.s2_receive.specs.Receiving.{Decision, Handles, IsDecided, IsDecidedBy, Rules, State, Waits, at_end, count_of, counts_after, cut_totals, frame_totals, is_lost, joined_after, met_left, report_for, room_in, searched_again, taken, with_gap}
-use Rattle.s2_receive.specs.ReceiverCore.{CanCountIn}
+use Rattle.s2_receive.specs.Synchronization.{met_of}
+use Rattle.s2_receive.specs.Receiving.{Decision, Handles, IsDecided, Rules, State, at_end, counts_after, cut_totals, frame_totals, joined_after, report_for, with_gap}
 use Rattle.s2_report.specs.declared.report.Step.{Step}
 use Rattle.s2_report.specs.declared.report.Step.TheVariants as steps
 use Rattle.s2_receive.specs.declared.packet_buffer.StepCounts.{StepCounts}
