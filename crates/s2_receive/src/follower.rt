@@ -66,7 +66,8 @@ fn is_lost(decided: Decided) -> bool
     }
 }
 
-/// Passes what was found: if it is a frame, all of it, or its first symbol if it is lost and lost frames are searched again.
+/// Passes the thing found. Of a frame that is all of it, or only its first symbol if it is lost and lost frames are searched
+/// again.
 fn pass_found(synchronizer: &mut Synchronizer, next: Next, lost: bool)
     requires held { HoldsWhole (symbols_in synchronizer.old.sought.mode) next synchronizer.old.window }
     requires limit { reached synchronizer.old.window ≤ max_symbols }
@@ -83,8 +84,8 @@ fn pass_found(synchronizer: &mut Synchronizer, next: Next, lost: bool)
 /// A receiver whose decisions are given. A step has two halves: [`Follower::seek`] finds the next thing, and
 /// [`Follower::settle`] handles it by the decision. The decision may depend on the frame's position and symbols.
 ///
-/// In contracts, it is the frames that it seeks, its lock, whether it searches lost frames again, its limit of symbols, its
-/// state, what it found, the symbols of that frame, and the packets of its last step.
+/// In contracts, it is the frames that it seeks, its lock, whether it searches lost frames again, its limit of symbols, and
+/// its state. Then the thing found, the symbols of that frame, and the packets of the last step.
 pub struct Follower {
     synchronizer: Synchronizer,
     joiner: PacketBuffer,
@@ -143,7 +144,7 @@ impl Follower {
         })
     }
 
-    /// The number of bytes that the next half wants.
+    /// The number of bytes that the next half needs.
     pub fn room(&self) -> usize
         requires none { self.now.found ≡ None }
         ensures is { result ≡ asked_of self.now }
@@ -156,7 +157,7 @@ impl Follower {
         }
     }
 
-    /// Takes bytes, no more than are wanted, up to the next thing: a frame, a cut frame or the end. Returns it, or nothing if
+    /// Takes bytes, no more than it needs, up to the next thing: a frame, a cut frame or the end. Returns it, or nothing if
     /// more symbols are needed. It is then to be passed to [`Follower::settle`].
     pub fn seek(&mut self, bytes: &[u8]) -> Option<Next>
         requires none { self.old.found ≡ None }
@@ -176,7 +177,7 @@ impl Follower {
         self.synchronizer.frame()
     }
 
-    /// Handles what was found, and returns the step. If it is a frame, this is its decision, with its data field.
+    /// Handles the thing found, and returns the step. If it is a frame, this is its decision, with its data field.
     pub fn settle(&mut self, next: Next, decided: Decided, field: &[u8]) -> Step
         requires found { self.old.found ≡ Some next }
         requires place { IfSome decided.header (HasPlace field.now) }

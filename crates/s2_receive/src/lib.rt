@@ -12,7 +12,7 @@
 //! [`Receiver::new`] allocates memory.
 //!
 //! [`Follower`] makes the same steps by decisions that are given: [`Follower::seek`] finds the next frame, and
-//! [`Follower::settle`] handles it by its decision. The receiver stands on it.
+//! [`Follower::settle`] handles it by its decision. The receiver makes its own steps by it.
 //!
 //! Dummy frames are not reported, and packets are joined across them. The totals count the losses: skipped symbols,
 //! incomplete packets and refused headers. If a decider gives the figures of a frame, its line has them, and the last line

@@ -47,7 +47,7 @@ pub(crate) struct Status {
     pub(crate) totals: Totals,
 }
 
-/// The step for what was found, by this decision.
+/// The step for the thing found, by this decision.
 pub(crate) fn step_for(totals: Totals, next: Next, decided: Decided) -> Step
     requires { totals.frames ≤ max_symbols }
     ensures { (field : List ℕ) (d : Decision) → Says decided field d → result ≡ answer_for d totals next }
@@ -65,7 +65,7 @@ pub(crate) fn step_for(totals: Totals, next: Next, decided: Decided) -> Step
     }
 }
 
-/// The status after what was found, with these counts and this decision. The synchronizer has passed it.
+/// The status after the thing found, with these counts and this decision. The synchronizer has passed it.
 pub(crate) fn status_for(
     synchronizer: &Synchronizer,
     limit: u64,

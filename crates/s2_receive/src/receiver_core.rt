@@ -81,7 +81,7 @@ fn at_rest(phase: Phase) -> Option<Step>
     }
 }
 
-/// Takes bytes, no more than are wanted, up to the next step, whose frame is decided by this decider.
+/// Takes bytes, no more than the follower needs, up to the next step, whose frame is decided by this decider.
 fn advance_by<D: Decide>(follower: &mut Follower, decider: &mut D, bytes: &[u8]) -> Option<Step>
     requires none { follower.old.found ≡ None }
     requires frames { symbols_in follower.old.sought.mode ≡ D.size decider.old }
