@@ -3,6 +3,7 @@ ghost use Rattle.std.specs.Prelude.{◌≡◌, IfOk, OnOk};
 ghost use Rattle.either.specs.Either.{either};
 ghost use Rattle.s2_io.specs.Files.{CanStart};
 
+use s2_about::{FileSums, Hashed};
 use s2_commands::LinkFiles;
 use s2_io::{Destination, Meter, Watched};
 use s2_mode::CountedRead;
@@ -14,7 +15,10 @@ use std::alloc::{AllocError, Global};
 pub(crate) type Source<I> = PacketSource<I, PacketReader<I>>;
 
 /// The files of a command on a link, all watched. The second may be a reader of packets.
-pub(crate) type Watching<'m, I, W, M> = LinkFiles<Source<Watched<'m, I, M>>, Watched<'m, W, M>>;
+pub(crate) type Watching<'m, 'h, I, W, M> = LinkFiles<
+    Source<Watched<'m, Hashed<'h, I>, M>>,
+    Watched<'m, Hashed<'h, W>, M>,
+>;
 
 /// How the input of a command on a link is read.
 #[derive(Clone, Copy)]
@@ -77,20 +81,25 @@ fn open_three<'a, P: Opens<'a>, M: Meter>(
     Ok((rows, from, to))
 }
 
-/// Opens the files of a command on a link. `unseen` takes the bytes of the row file.
-pub(crate) fn open_link<'a, 'm, P: Opens<'a>, M: Meter>(
+/// Opens the files of a command on a link. `unseen` takes the bytes of the row file. If there are sums, the bytes of each file
+/// are hashed.
+pub(crate) fn open_link<'a, 'm, 'h, P: Opens<'a>, M: Meter>(
     opener: &mut P,
     alloc: Global,
     meter: &'m M,
     unseen: &'m M,
     names: [&'a str; 3],
     reading: Reading,
-) -> Result<Watching<'m, P::Input, P::Output, M>, Unserved<'a>>
+    sums: Option<&'h FileSums>,
+) -> Result<Watching<'m, 'h, P::Input, P::Output, M>, Unserved<'a>>
     requires first { P.opened opener.old ≡ 0 }
     ensures room { OnOk result (P.opened opener.new ≡ 3) }
     ensures start { IfOk result CanStart }
 {
     let (rows, from, to) = open_three(opener, meter, names, reading.buffered)?;
+    let rows = Hashed::new(rows, FileSums::rows_of(sums));
+    let from = Hashed::new(from, FileSums::from_of(sums));
+    let to = Hashed::new(to, FileSums::to_of(sums));
     let Ok(from) = source_of(alloc, Watched::new(from, meter), reading.resync) else {
         return Err(Unserved::NoMemory);
     };
