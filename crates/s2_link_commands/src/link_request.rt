@@ -7,7 +7,7 @@ ghost use Rattle.s2_receive.specs.Sinks.{wanted_count};
 ghost use Rattle.s2_link_commands.specs.Failed.{records_failed};
 
 use crate::about::{AboutFile, finish_about, open_about};
-use crate::opening::{Reading, Watching, open_link};
+use crate::opening::{Reading, Watching, link_files, open_three};
 use crate::records::{RecordNames, Records, finish_command, open_records};
 use crate::setup::setup_of;
 use s2_about::FileSums;
@@ -231,17 +231,11 @@ fn open_all<'a, 'm, 'h, P: Opens<'a>, M: Meter>(
     ensures fresh { IfOk result (λ files. records_failed (λ t. P.Output.count t.to) (λ b. P.Output.count b.to.to) files.1.0 ≡ 0) }
     ensures about { IfOk result (λ files. wanted_count (λ t. P.Output.count t.to) files.1.1 ≡ 0) }
 {
-    let files = open_link(
-        opener,
-        alloc,
-        meter,
-        unseen,
-        words.names,
-        words.reading,
-        sums,
-    )?;
+    let Reading { buffered, resync } = words.reading;
+    let files = open_three(opener, meter, words.names, buffered)?;
     let records = open_records(opener, alloc, mode, words.records)?;
     let about = open_about(opener, words.about)?;
+    let files = link_files(alloc, meter, unseen, files, resync, sums)?;
     Ok((files, (records, about)))
 }
 

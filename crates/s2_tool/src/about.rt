@@ -74,6 +74,17 @@ fn read_record<R: CountedRead>(alloc: Global, reader: &mut R) -> Result<Vec<u8>,
     }
 }
 
+/// Reads a record, if it is given: it is empty if it is not.
+fn read_named_record<R: CountedRead>(
+    alloc: Global,
+    reader: &mut Option<R>,
+) -> Result<Vec<u8>, Fault<'static>> {
+    match reader {
+        Some(reader) => read_record(alloc, reader),
+        None => Ok(Vec::new(alloc)),
+    }
+}
+
 /// The lines that an audit expects of a record: the mode, the options that it shares with a receiver, and the files.
 fn audit_lines(
     alloc: Global,
@@ -151,11 +162,8 @@ pub(crate) fn compare_record<R: CountedRead, O: CountedWrite>(
 ) -> Result<Exit, Fault<'static>>
     requires { CanCount (O.count out.old) }
 {
-    let Some(about) = &mut files.about else {
-        return Ok(exit);
-    };
     read_rest(&mut files.symbols)?;
     read_rest(&mut files.report)?;
-    let record = read_record(alloc, about)?;
+    let record = read_named_record(alloc, &mut files.about)?;
     print_difference(alloc, link, how, sums, record.as_slice(), exit, out)
 }
