@@ -254,7 +254,7 @@ fn finish_all<'a, W: Output + Drop>(
 {
     let (records, about) = recorded;
     match finish_command(exit, begun, records) {
-        Ok(exit) => finish_about(alloc, request, exit, begun, about, sums),
+        Ok(_) => finish_about(alloc, request, exit, begun, about, sums),
         Err(_) => Err(Unserved::Write),
     }
 }
