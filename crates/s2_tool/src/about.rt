@@ -8,9 +8,9 @@ use s2_about::{
 };
 use s2_audit::Demodulation;
 use s2_io::{Exit, Fault, print};
-use s2_mode::{CountedRead, CountedWrite, FileFault, read_all};
+use s2_mode::{CountedRead, CountedWrite, FileFault, ReadFault, read_all, read_full};
 use s2_opening::AuditFiles;
-use s2_words::{LinkArguments, Request};
+use s2_words::{AuditArguments, Request};
 use std::alloc::{AllocError, Global};
 
 /// The sums for the files of a request, if its options have a file for them.
@@ -45,20 +45,25 @@ fn has_failed<R: CountedRead>(reader: &R) -> bool
     reader.count() > 0
 }
 
-/// Reads the rest of a file.
-fn read_rest<R: CountedRead>(reader: &mut R) -> Result<(), Fault<'static>> {
-    if has_failed(reader) {
-        return Err(Fault::Read);
-    }
-    let mut chunk = [0u8; 4096];
-    'rest: for _ in 0..u64::MAX {
-        match reader.read(&mut chunk) {
-            Ok(0) => return Ok(()),
-            Ok(_) => {}
-            Err(_) => return Err(Fault::Read),
+/// Reads the rest of a file whose calls can be counted.
+fn read_blocks<R: CountedRead>(reader: &mut R) -> Result<(), ReadFault>
+    requires { CanCount (R.count reader.old) }
+{
+    'blocks: for _block in 0..u64::MAX {
+        let mut bytes = [0u8; 4096];
+        if read_full(reader, &mut bytes)? < bytes.len() {
+            return Ok(());
         }
     }
-    Err(Fault::TooLong)
+    Err(ReadFault)
+}
+
+/// Reads the rest of a file.
+fn read_rest<R: CountedRead>(reader: &mut R) -> Result<(), ReadFault> {
+    if has_failed(reader) {
+        return Err(ReadFault);
+    }
+    read_blocks(reader)
 }
 
 /// Reads a record.
@@ -88,13 +93,13 @@ fn read_named_record<R: CountedRead>(
 /// The lines that an audit expects of a record: the mode, the options that it shares with a receiver, and the files.
 fn audit_lines(
     alloc: Global,
-    link: LinkArguments,
-    how: Demodulation,
+    words: &AuditArguments<'_>,
+    how: &Demodulation,
     sums: &FileSums,
 ) -> Result<String, AllocError> {
     let mut text = String::new(alloc);
     let found = demodulation_fields(how.divisor, how.turns, how.resync, how.equalize);
-    push_fields(&mut text, link_fields(link).as_slice())?;
+    push_fields(&mut text, link_fields(words.link).as_slice())?;
     push_fields(&mut text, found.as_slice())?;
     push_sum(alloc, &mut text, "rows", sums.rows.take())?;
     push_sum(alloc, &mut text, "symbols", sums.from.take())?;
@@ -115,12 +120,12 @@ fn difference_line(alloc: Global, difference: Difference<'_>) -> Result<String, 
 /// How a record differs from what an audit expects, as a line. It is empty if nothing differs.
 fn differing_line(
     alloc: Global,
-    link: LinkArguments,
-    how: Demodulation,
+    words: &AuditArguments<'_>,
+    how: &Demodulation,
     sums: &FileSums,
     record: &[u8],
 ) -> Result<String, AllocError> {
-    let lines = audit_lines(alloc, link, how, sums)?;
+    let lines = audit_lines(alloc, words, how, sums)?;
     let record = str::from_utf8(record).unwrap_or("");
     match first_difference(lines.as_str(), record) {
         Some(difference) => difference_line(alloc, difference),
@@ -131,8 +136,8 @@ fn differing_line(
 /// Compares a record with what an audit expects, and prints the first difference. The exit is that of the audit, or 2.
 fn print_difference<O: CountedWrite>(
     alloc: Global,
-    link: LinkArguments,
-    how: Demodulation,
+    words: &AuditArguments<'_>,
+    how: &Demodulation,
     sums: &FileSums,
     record: &[u8],
     exit: Exit,
@@ -140,7 +145,7 @@ fn print_difference<O: CountedWrite>(
 ) -> Result<Exit, Fault<'static>>
     requires { CanCount (O.count out.old) }
 {
-    let Ok(line) = differing_line(alloc, link, how, sums, record) else {
+    let Ok(line) = differing_line(alloc, words, how, sums, record) else {
         return Err(Fault::NoMemory);
     };
     if line.is_empty() {
@@ -149,12 +154,18 @@ fn print_difference<O: CountedWrite>(
     print(out, Exit::No, line.as_str().as_bytes())
 }
 
+/// Reads the rest of the recording and of the report.
+fn read_rests<R: CountedRead>(files: &mut AuditFiles<'_, R>) -> Result<(), ReadFault> {
+    read_rest(&mut files.symbols)?;
+    read_rest(&mut files.report)
+}
+
 /// Reads the rest of the files of an audit that ended with this exit, and its record. Prints the first line of the record
 /// that differs from what the audit expects.
 pub(crate) fn compare_record<R: CountedRead, O: CountedWrite>(
     alloc: Global,
-    link: LinkArguments,
-    how: Demodulation,
+    words: &AuditArguments<'_>,
+    how: &Demodulation,
     files: &mut AuditFiles<'_, R>,
     sums: &FileSums,
     exit: Exit,
@@ -162,8 +173,9 @@ pub(crate) fn compare_record<R: CountedRead, O: CountedWrite>(
 ) -> Result<Exit, Fault<'static>>
     requires { CanCount (O.count out.old) }
 {
-    read_rest(&mut files.symbols)?;
-    read_rest(&mut files.report)?;
+    if read_rests(files).is_err() {
+        return Err(Fault::Read);
+    }
     let record = read_named_record(alloc, &mut files.about)?;
-    print_difference(alloc, link, how, sums, record.as_slice(), exit, out)
+    print_difference(alloc, words, how, sums, record.as_slice(), exit, out)
 }

@@ -571,6 +571,22 @@ fn audit_files<R: CountedRead, O: CountedWrite, E: CountedWrite>(
     )
 }
 
+/// Compares the record of `--about` with an audit that ended with this exit.
+fn compare_about<R: CountedRead, O: CountedWrite, E: CountedWrite>(
+    alloc: Global,
+    words: &AuditArguments<'_>,
+    how: &Demodulation,
+    files: &mut AuditFiles<'_, R>,
+    sums: &FileSums,
+    exit: Exit,
+    console: &mut Console<O, E>,
+) -> Exit
+    requires { CanNote console.old }
+{
+    let ended = compare_record(alloc, words, how, files, sums, exit, &mut console.output);
+    console.finish(ended)
+}
+
 /// `audit`. If it is refused, a note names the likely causes. Then the record of `--about` is compared, if one is given.
 fn serve_audit<'a, P: Opens<'a>, R: Disk + AllocGlobal, O: CountedWrite, E: CountedWrite>(
     opener: &mut P,
@@ -591,16 +607,7 @@ fn serve_audit<'a, P: Opens<'a>, R: Disk + AllocGlobal, O: CountedWrite, E: Coun
     note_audit(terminal, exit);
     match sums {
         Some(sums) if exit != Exit::Fault => {
-            let ended = compare_record(
-                alloc,
-                words.link,
-                how,
-                &mut files,
-                sums,
-                exit,
-                &mut console.output,
-            );
-            Ok(console.finish(ended))
+            Ok(compare_about(alloc, words, &how, &mut files, sums, exit, console))
         }
         _ => Ok(exit),
     }
