@@ -1,2 +1,5 @@
+pub mod JoinedTexts
 pub mod PacketLemmas
 pub mod ValueLemmas
+pub mod Assumed
+pub mod RunLemmas

@@ -1,3 +1,9 @@
+pub mod Lines
 pub mod Packets
 pub mod Codewords
 pub mod Certificates
+pub mod Halves
+pub mod Kinds
+pub mod Replay
+pub mod Running
+pub mod Replayers

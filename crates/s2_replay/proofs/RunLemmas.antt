@@ -1,0 +1,124 @@
+-- A run of the receiver over a recording, step by step.
+use Rattle.std.proofs.Common.{◌≡◌, ◌≢◌, ◌⊎◌, ℕ, ◌*◌, ◌<◌, ◌≤◌, ◌&&◌, Bool, true, false, nat_eq, List, [], ◌∷◌, ◌++◌, Option, Some, None, length, refl, sym, ap, subst, ◌∙◌, append_assoc, append-nil, arith, inl, inr, cases_eq, eq-eqb, ne_eqb}
+use Rattle.std.specs.Io.KnownBytes.{Consumes, IsAtEnd}
+use Rattle.s2_mode.specs.Symbols.{symbols_of}
+use Rattle.s2_mode.specs.declared.symbols.Symbol.{Symbol}
+use Rattle.s2_report.specs.ReportLines.{step_line}
+use Rattle.s2_report.specs.declared.report.Step.{Step}
+use Rattle.s2_mode.specs.Mode.{symbols_in}
+use Rattle.s2_receive.specs.Windows.{found_as}
+use Rattle.s2_receive.specs.Receiving.{Decision, begun, left_by}
+use Rattle.s2_receive.specs.Synchronization.{Follows}
+use Rattle.s2_receive.specs.declared.report.Phase.{Phase}
+use Rattle.s2_receive.specs.declared.report.Phase.TheVariants as phases
+use Rattle.s2_receive.specs.declared.window.Next.{Next}
+use Rattle.s2_receive.proofs.SymbolLists.{yields}
+use Rattle.s2_replay.specs.Halves.{Follower, IsRunBy, IsShown, RunSoFar, RunsBy, Seeks, Settles, ahead, asked_of, decision_if, rules_with, wanted_by}
+use Rattle.s2_replay.specs.Replay.{IsBorneOut, Terms, rules_for}
+use Rattle.s2_replay.specs.Running.{GoesOn, IsBy, RanIn, RanOut, RanTo}
+use Rattle.s2_replay.proofs.Assumed.{run_begins, run_seeks, run_settles, run_ends}
+
+front_nil : (xs ys : List ℕ) → xs ++ ys ≡ [] → (xs ≡ []) × (ys ≡ [])
+front_nil [] ys none = (refl, none)
+front_nil (x ∷ xs) ys none = absurd (cc)
+
+-- a new follower has run nothing of a recording
+pub ran_nothing : (t : Terms) (recording : List ℕ) (f : Follower) → f.state ≡ begun → f.found ≡ None → RanTo t recording recording f [] [] []
+ran_nothing t recording f state none =
+    record { taken = []; on = true; all = refl; ended = λ e. cc; run = run_begins (IsBorneOut t) (rules_for t).decide f state none }
+
+-- whole symbols are wanted
+pub wants_fours : (f : Follower) → (n : ℕ) × (asked_of f ≡ 4 * n)
+wants_fours f = by_phase f.state.phase refl
+  where
+    by_phase : (phase : Phase) → f.state.phase ≡ phase → (n : ℕ) × (asked_of f ≡ 4 * n)
+    by_phase phases.Searching is = (_, ap (λ p. wanted_by p f.limit _ f.state.window) is)
+    by_phase phases.Closing is = (0, ap (λ p. wanted_by p f.limit _ f.state.window) is)
+    by_phase phases.Ended is = (0, ap (λ p. wanted_by p f.limit _ f.state.window) is)
+    by_phase phases.Failed is = (0, ap (λ p. wanted_by p f.limit _ f.state.window) is)
+
+-- more bytes were read and searched, all that were wanted or the last ones
+module _ (old new : Follower) (bytes : List ℕ) (found : Option Next) (none : old.found ≡ None) (few : length bytes ≤ asked_of old) (seeks : Seeks old new bytes (nat_eq (length bytes) (asked_of old)) found) where
+  whole : Bool
+  whole = nat_eq (length bytes) (asked_of old)
+
+  -- they come only if more may come
+  come : (on : Bool) (left left_new : List ℕ) → (on ≡ false → left ≡ []) → left ≡ bytes ++ left_new → Follows on (symbols_of bytes)
+  come true left left_new ended read = tt
+  come false left left_new ended read = let none_of : bytes ≡ [] = (front_nil bytes left_new (sym read ∙ ended refl)).0 in ap symbols_of none_of
+
+  -- if more may come no longer, nothing is left
+  over : (on : Bool) (left left_new : List ℕ) → (on ≡ false → left ≡ []) → left ≡ bytes ++ left_new → (length bytes ≢ asked_of old → left_new ≡ []) → (on && whole) ≡ false → left_new ≡ []
+  over false left left_new ended read end no = (front_nil bytes left_new (sym read ∙ ended refl)).1
+  over true left left_new ended read end no = elim (cases_eq (length bytes) (asked_of old)) [
+    | inl same ↦ (let all : whole ≡ true = eq-eqb (length bytes) (asked_of old) same in let never : true ≡ false = sym all ∙ no in absurd (cc))
+    | inr other ↦ end other
+  ]
+
+  known : (t : Terms) (recording left left_new : List ℕ) (decisions : List Decision) (lines : List (List ℕ)) (packets : List ℕ) → left ≡ bytes ++ left_new → (length bytes ≢ asked_of old → left_new ≡ [])
+      → RanTo t recording left old decisions lines packets → RanTo t recording left_new new decisions lines packets
+  known t recording left left_new decisions lines packets read end before =
+      let (n, four) = wants_fours old in
+      let next : symbols_of left ≡ symbols_of bytes ++ symbols_of left_new = yields (Some left) (Some left_new) bytes n read (λ other. end (λ e. other (e ∙ four))) in
+      record {
+        taken = before.taken ++ symbols_of bytes;
+        on = before.on && whole;
+        all = before.all ∙ ap (λ l. before.taken ++ l) next ∙ sym (append_assoc before.taken (symbols_of bytes) (symbols_of left_new));
+        ended = over before.on left left_new before.ended read end;
+        run = run_seeks (IsBorneOut t) (rules_for t).decide before.taken before.on old new decisions lines packets bytes whole found before.run none few (come before.on left left_new before.ended read) seeks;
+      }
+
+  pub ran_on : (left left_new : Option (List ℕ)) → Consumes left left_new bytes → (length bytes ≢ asked_of old → IsAtEnd left_new) → GoesOn old new left left_new
+  ran_on left left_new read end t None decisions lines packets before = tt
+  ran_on None left_new read end t (Some recording) decisions lines packets before = absurd before
+  ran_on (Some left) None read end t (Some recording) decisions lines packets before = absurd read
+  ran_on (Some left) (Some left_new) read end t (Some recording) decisions lines packets before = known t recording left left_new decisions lines packets read end before
+
+-- what was found is handled: a decision, if it is a frame, a line and packets more
+module _ (t : Terms) (old new : Follower) (found : Next) (d : Decision) (step : Step) (is : old.found ≡ Some found) (shown : IsShown (IsBorneOut t) found old.frame d) (settles : Settles old new found d step) where
+  pub ran_step : (whole left : Option (List ℕ)) (decisions : List Decision) (lines : List (List ℕ)) (packets : List ℕ) → RanIn t whole left old decisions lines packets
+      → RanIn t whole left new (decisions ++ decision_if found d) (lines ++ (step_line step new.state.standing.totals ∷ [])) (packets ++ new.packets)
+  ran_step None left decisions lines packets before = tt
+  ran_step (Some recording) None decisions lines packets before = absurd before
+  ran_step (Some recording) (Some left) decisions lines packets before = record {
+    taken = before.taken;
+    on = before.on;
+    all = before.all;
+    ended = before.ended;
+    run = run_settles (IsBorneOut t) (rules_for t).decide before.taken before.on old new decisions lines packets found d step before.run is shown settles;
+  }
+
+-- ---- at the end
+
+-- the rules are those of the terms
+rules_are : (t : Terms) (f : Follower) → IsBy t f → rules_with (rules_for t).decide f ≡ rules_for t
+rules_are t f by = λ i. record {
+  finds = found_as (by.sought i) (by.max_header_errors i);
+  size = symbols_in (by.sought i).mode;
+  resync = by.resync i;
+  decide = (rules_for t).decide;
+  limit = by.limit i;
+}
+
+-- all of the recording was run
+module _ (t : Terms) (f : Follower) (by : IsBy t f) (none : f.found ≡ None) (over : f.state.phase ≡ phases.Ended) where
+  nothing : (recording coming : List Symbol) → RunsBy (IsBorneOut t) (rules_with (rules_for t).decide f) recording f.state.standing (ahead (rules_with (rules_for t).decide f) f f.found coming) [] [] []
+  nothing recording coming =
+      let rules = rules_with (rules_for t).decide f in
+      subst (λ n. RunsBy (IsBorneOut t) rules recording f.state.standing (ahead rules f n coming) [] [] []) (sym none)
+      (subst (λ p. RunsBy (IsBorneOut t) rules recording f.state.standing (left_by (record rules { resync = false }) p f.state.window coming) [] [] []) (sym over) tt)
+
+  last_may : (on : Bool) (left : List ℕ) → (on ≡ false → left ≡ []) → Follows on (symbols_of left)
+  last_may true left ended = tt
+  last_may false left ended = ap symbols_of (ended refl)
+
+  pub ran_out : (whole left : Option (List ℕ)) (decisions : List Decision) (lines : List (List ℕ)) (packets : List ℕ) → RanIn t whole left f decisions lines packets → RanOut t whole decisions lines packets
+  ran_out None left decisions lines packets before = tt
+  ran_out (Some recording) None decisions lines packets before = absurd before
+  ran_out (Some recording) (Some left) decisions lines packets before =
+      let all = before.run.goes_on (symbols_of left) (last_may before.on left before.ended) [] [] [] (nothing (before.taken ++ symbols_of left) (symbols_of left)) in
+      let a = subst (λ x. IsRunBy (IsBorneOut t) x (before.taken ++ symbols_of left) (decisions ++ []) (lines ++ []) (packets ++ [])) (rules_are t f by) all in
+      let b = subst (λ x. IsRunBy (IsBorneOut t) (rules_for t) x (decisions ++ []) (lines ++ []) (packets ++ [])) (sym before.all) a in
+      let c = subst (λ x. IsRunBy (IsBorneOut t) (rules_for t) (symbols_of recording) x (lines ++ []) (packets ++ [])) (append-nil decisions) b in
+      let d = subst (λ x. IsRunBy (IsBorneOut t) (rules_for t) (symbols_of recording) decisions x (packets ++ [])) (append-nil lines) c in
+      subst (λ x. IsRunBy (IsBorneOut t) (rules_for t) (symbols_of recording) decisions lines x) (append-nil packets) d
