@@ -3,3 +3,4 @@ pub mod PacketLemmas
 pub mod ValueLemmas
 pub mod Assumed
 pub mod RunLemmas
+pub mod ReplayerLemmas

@@ -1,5 +1,7 @@
 -- A run of the receiver over a recording, step by step.
-use Rattle.std.proofs.Common.{◌≡◌, ◌≢◌, ◌⊎◌, ℕ, ◌*◌, ◌<◌, ◌≤◌, ◌&&◌, Bool, true, false, nat_eq, List, [], ◌∷◌, ◌++◌, Option, Some, None, length, refl, sym, ap, subst, ◌∙◌, append_assoc, append-nil, arith, inl, inr, cases_eq, eq-eqb, ne_eqb}
+use Rattle.std.proofs.Common.{◌≡◌, ◌≢◌, ◌⊎◌, ℕ, ◌+◌, ◌-◌, ◌*◌, ◌/◌, ◌<◌, ◌≤◌, ◌&&◌, Bool, true, false, nat_eq, List, [], ◌∷◌, ◌++◌, Option, Some, None, length, refl, sym, ap, subst, ◌∙◌, append_assoc, append-nil, arith, inl, inr}
+use Rattle.std.proofs.Math.Nat.{min-le_left}
+use Rattle.std.proofs.lemmas.Bool.{cases_eq, eq-eqb, eqb-true}
 use Rattle.std.specs.Io.KnownBytes.{Consumes, IsAtEnd}
 use Rattle.s2_mode.specs.Symbols.{symbols_of}
 use Rattle.s2_mode.specs.declared.symbols.Symbol.{Symbol}
@@ -8,14 +10,14 @@ use Rattle.s2_report.specs.declared.report.Step.{Step}
 use Rattle.s2_mode.specs.Mode.{symbols_in}
 use Rattle.s2_receive.specs.Windows.{found_as}
 use Rattle.s2_receive.specs.Receiving.{Decision, begun, left_by}
-use Rattle.s2_receive.specs.Synchronization.{Follows}
+use Rattle.s2_receive.specs.Synchronization.{Follows, reached, room_for, wanted}
 use Rattle.s2_receive.specs.declared.report.Phase.{Phase}
 use Rattle.s2_receive.specs.declared.report.Phase.TheVariants as phases
 use Rattle.s2_receive.specs.declared.window.Next.{Next}
-use Rattle.s2_receive.proofs.SymbolLists.{yields}
-use Rattle.s2_replay.specs.Halves.{Follower, IsRunBy, IsShown, RunSoFar, RunsBy, Seeks, Settles, ahead, asked_of, decision_if, rules_with, wanted_by}
+use Rattle.s2_receive.proofs.SymbolLists.{count_symbols, yields}
+use Rattle.s2_replay.specs.Halves.{Follower, IsRunBy, IsShown, RunSoFar, RunsBy, Seeks, SeeksBy, Settles, ahead, asked_of, decision_if, rules_with, wanted_by}
 use Rattle.s2_replay.specs.Replay.{IsBorneOut, Terms, rules_for}
-use Rattle.s2_replay.specs.Running.{GoesOn, IsBy, RanIn, RanOut, RanTo}
+use Rattle.s2_replay.specs.Running.{GoesOn, IsBy, IsNearer, RanIn, RanOut, RanTo}
 use Rattle.s2_replay.proofs.Assumed.{run_begins, run_seeks, run_settles, run_ends}
 
 front_nil : (xs ys : List ℕ) → xs ++ ys ≡ [] → (xs ≡ []) × (ys ≡ [])
@@ -31,15 +33,18 @@ ran_nothing t recording f state none =
 pub wants_fours : (f : Follower) → (n : ℕ) × (asked_of f ≡ 4 * n)
 wants_fours f = by_phase f.state.phase refl
   where
+    room : ℕ
+    room = room_for f.resync (symbols_in f.sought.mode)
+
     by_phase : (phase : Phase) → f.state.phase ≡ phase → (n : ℕ) × (asked_of f ≡ 4 * n)
-    by_phase phases.Searching is = (_, ap (λ p. wanted_by p f.limit _ f.state.window) is)
-    by_phase phases.Closing is = (0, ap (λ p. wanted_by p f.limit _ f.state.window) is)
-    by_phase phases.Ended is = (0, ap (λ p. wanted_by p f.limit _ f.state.window) is)
-    by_phase phases.Failed is = (0, ap (λ p. wanted_by p f.limit _ f.state.window) is)
+    by_phase phases.Searching is = (wanted f.limit room f.state.window, ap (λ p. wanted_by p f.limit room f.state.window) is)
+    by_phase phases.Closing is = (0, ap (λ p. wanted_by p f.limit room f.state.window) is)
+    by_phase phases.Ended is = (0, ap (λ p. wanted_by p f.limit room f.state.window) is)
+    by_phase phases.Failed is = (0, ap (λ p. wanted_by p f.limit room f.state.window) is)
 
 -- more bytes were read and searched, all that were wanted or the last ones
 module _ (old new : Follower) (bytes : List ℕ) (found : Option Next) (none : old.found ≡ None) (few : length bytes ≤ asked_of old) (seeks : Seeks old new bytes (nat_eq (length bytes) (asked_of old)) found) where
-  whole : Bool
+  abbrev whole : Bool
   whole = nat_eq (length bytes) (asked_of old)
 
   -- they come only if more may come
@@ -49,9 +54,9 @@ module _ (old new : Follower) (bytes : List ℕ) (found : Option Next) (none : o
 
   -- if more may come no longer, nothing is left
   over : (on : Bool) (left left_new : List ℕ) → (on ≡ false → left ≡ []) → left ≡ bytes ++ left_new → (length bytes ≢ asked_of old → left_new ≡ []) → (on && whole) ≡ false → left_new ≡ []
-  over false left left_new ended read end no = (front_nil bytes left_new (sym read ∙ ended refl)).1
-  over true left left_new ended read end no = elim (cases_eq (length bytes) (asked_of old)) [
-    | inl same ↦ (let all : whole ≡ true = eq-eqb (length bytes) (asked_of old) same in let never : true ≡ false = sym all ∙ no in absurd (cc))
+  over false left left_new ended read end closed = (front_nil bytes left_new (sym read ∙ ended refl)).1
+  over true left left_new ended read end closed = elim (cases_eq (length bytes) (asked_of old)) [
+    | inl same ↦ (let all : whole ≡ true = eq-eqb (length bytes) (asked_of old) same in let never : true ≡ false = sym all ∙ closed in absurd (cc))
     | inr other ↦ end other
   ]
 
@@ -122,3 +127,36 @@ module _ (t : Terms) (f : Follower) (by : IsBy t f) (none : f.found ≡ None) (o
       let c = subst (λ x. IsRunBy (IsBorneOut t) (rules_for t) (symbols_of recording) x (lines ++ []) (packets ++ [])) (append-nil decisions) b in
       let d = subst (λ x. IsRunBy (IsBorneOut t) (rules_for t) (symbols_of recording) decisions x (packets ++ [])) (append-nil lines) c in
       subst (λ x. IsRunBy (IsBorneOut t) (rules_for t) (symbols_of recording) decisions lines x) (append-nil packets) d
+
+-- ---- towards the limit
+
+-- if bytes are wanted and nothing was found in them, the limit is nearer
+module _ (old new : Follower) (bytes : List ℕ) (some : 0 < asked_of old) where
+  limit_nearer : (n : ℕ) → asked_of old ≡ 4 * n → n ≤ old.limit - reached old.state.window → new.limit ≡ old.limit → length bytes ≡ asked_of old → reached new.state.window ≡ reached old.state.window + length (symbols_of bytes) → IsNearer old new None
+  limit_nearer n four most limit all place =
+      let count : length (symbols_of bytes) ≡ length bytes / 4 = count_symbols bytes in
+      omega (arith, four, most, place, count, limit, all, some)
+
+  pub comes_nearer : (found : Option Next) → Seeks old new bytes (nat_eq (length bytes) (asked_of old)) found → IsNearer old new found
+  comes_nearer (Some found) seeks = tt
+  comes_nearer None seeks = by_phase old.state.phase refl seeks.seeks
+    where
+      room : ℕ
+      room = room_for old.resync (symbols_in old.sought.mode)
+
+      asked_so : (phase : Phase) → old.state.phase ≡ phase → asked_of old ≡ wanted_by phase old.limit room old.state.window
+      asked_so phase is = ap (λ p. wanted_by p old.limit room old.state.window) is
+
+      by_phase : (phase : Phase) → old.state.phase ≡ phase → SeeksBy phase old new bytes (nat_eq (length bytes) (asked_of old)) None → IsNearer old new None
+      by_phase phases.Searching is (takes, last) =
+          let t = takes (λ symbols. false) in
+          limit_nearer (wanted old.limit room old.state.window) (asked_so phases.Searching is) (min-le_left (old.limit - reached old.state.window) (room - length old.state.window.symbols)) seeks.same.limit
+          (eqb-true (length bytes) (asked_of old) t.0) t.2
+      by_phase phases.Closing is seeks = let none : asked_of old ≡ 0 = asked_so phases.Closing is in absurd (omega (arith, none, some))
+      by_phase phases.Ended is seeks = let none : asked_of old ≡ 0 = asked_so phases.Ended is in absurd (omega (arith, none, some))
+      by_phase phases.Failed is seeks = let none : asked_of old ≡ 0 = asked_so phases.Failed is in absurd (omega (arith, none, some))
+
+-- a search without any bytes, if none are wanted
+pub empty_seek : (old new : Follower) (bytes : List ℕ) → length bytes ≤ asked_of old → asked_of old ≡ 0 → (found : Option Next) → Seeks old new bytes (nat_eq (length bytes) (asked_of old)) found → Seeks old new [] true found
+empty_seek old new [] few none found seeks = subst (λ n. Seeks old new [] (nat_eq 0 n) found) none seeks
+empty_seek old new (b ∷ bytes) few none found seeks = absurd (omega (arith, few, none))

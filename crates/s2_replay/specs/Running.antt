@@ -1,11 +1,13 @@
 -- A run of the receiver over a recording, as far as it has come (own).
-use Rattle.std.specs.Prelude.{◌≡◌, ℕ, Bool, false, List, [], ◌++◌, Option, Some, None, ⊤}
+use Rattle.std.specs.Prelude.{◌≡◌, ◌⊎◌, ℕ, ◌+◌, ◌-◌, ◌<◌, Bool, true, false, List, [], ◌++◌, Option, Some, None, ⊤}
 use Rattle.s2_mode.specs.Symbols.{symbols_of}
 use Rattle.s2_mode.specs.declared.symbols.Symbol.{Symbol}
 use Rattle.s2_plframe.specs.Turns.{sought_of}
 use Rattle.s2_receive.specs.Limits.{max_symbols}
 use Rattle.s2_receive.specs.Receiving.{Decision}
-use Rattle.s2_replay.specs.Halves.{Follower, IsRunBy, RunSoFar}
+use Rattle.s2_receive.specs.Synchronization.{reached}
+use Rattle.s2_receive.specs.declared.window.Next.{Next}
+use Rattle.s2_replay.specs.Halves.{Follower, IsRunBy, RunSoFar, Seeks, asked_of}
 use Rattle.s2_replay.specs.Replay.{IsBorneOut, Terms, rules_for}
 
 -- a follower follows a stream by these terms
@@ -39,3 +41,19 @@ GoesOn old new left left_new =
 abbrev pub RanOut : Terms → (whole : Option (List ℕ)) → List Decision → (lines : List (List ℕ)) → (packets : List ℕ) → Type 0
 RanOut t None decisions lines packets = ⊤
 RanOut t (Some recording) decisions lines packets = IsRunBy (IsBorneOut t) (rules_for t) (symbols_of recording) decisions lines packets
+
+-- ---- reads
+
+-- if nothing was found, the limit of symbols is nearer
+abbrev pub IsNearer : (old new : Follower) → Option Next → Type 0
+IsNearer old new None = new.limit - reached new.state.window < old.limit - reached old.state.window
+IsNearer old new (Some found) = ⊤
+
+-- a follower wanted no bytes, and without any it found nothing: its limit is reached
+abbrev pub IsStuck : Follower → Type 0
+IsStuck f = (old : Follower) × (asked_of old ≡ 0) × Seeks old f [] true None
+
+-- no read failed if something was found; else a read failed, or the limit of symbols was reached
+abbrev pub ReadsOrStops : Follower → (reads reads_new : ℕ) → Option Next → Type 0
+ReadsOrStops f reads reads_new (Some found) = reads_new ≡ reads
+ReadsOrStops f reads reads_new None = (reads_new ≡ reads + 1) ⊎ ((reads_new ≡ reads) × IsStuck f)

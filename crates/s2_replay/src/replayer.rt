@@ -1,16 +1,17 @@
 //! The receiver's loop, with decisions that are given.
-ghost use Rattle.std.specs.Prelude.{◌≡◌, ◌≤◌, [], IfOk, IfSome, None, Option, Some, length, nat_eq};
+ghost use Rattle.std.specs.Prelude.{◌≡◌, ◌*◌, ◌<◌, ◌≤◌, [], IfOk, IfSome, None, Option, Some, length, nat_eq, true};
 ghost use Rattle.s2_mode.specs.Counts.{CanCount, CountsFault};
 ghost use Rattle.s2_check.specs.Views.{View};
-ghost use Rattle.s2_mode.specs.Mode.{n_of};
+ghost use Rattle.s2_mode.specs.Mode.{n_of, symbols_in};
+ghost use Rattle.s2_receive.specs.Synchronization.{room_for};
 ghost use Rattle.s2_receive.specs.Decider.{HasPlace};
 ghost use Rattle.s2_message.specs.Decisions.{soft_frame};
 ghost use Rattle.s2_message.specs.Reading.{IsSameReader};
 ghost use Rattle.s2_replay.specs.Halves.{IsSameFollower, Says, Seeks, Settles, asked_of};
-ghost use Rattle.s2_replay.specs.Kinds.{Founds};
+ghost use Rattle.s2_replay.specs.Kinds.{Found, Founds, found_in};
 ghost use Rattle.s2_replay.specs.Replay.{claimed_decision, decision_on};
 ghost use Rattle.s2_replay.specs.Replayers.{HasSoft, IfFrame, IsFrame, IsSameReplayer};
-ghost use Rattle.s2_replay.specs.Running.{GoesOn};
+ghost use Rattle.s2_replay.specs.Running.{GoesOn, IsNearer, ReadsOrStops};
 
 use crate::follow::{Follow, Kind};
 use s2_bbframe::{Header, NO_SYNCD};
@@ -55,6 +56,20 @@ impl<F: Follow> Model for Replayer<F> {
     ghost invariant = { λ r. IsReplayer (F.value r.follower) r.reader r.soft.items r.bytes.items };
 }
 
+/// Finds the soft values of what was found, if it is a frame.
+fn find_soft<F: Follow>(follower: &F, reader: &mut FrameReader, soft: &mut [i16], found: F::Found)
+    requires reader { (F.value follower.now).sought.mode ≡ reader.old.mode }
+    requires soft { length soft.old ≡ n_of reader.old.mode }
+    ensures soft { IfFrame (Some (F.next found)) (HasSoft reader.new (F.value follower.now).frame soft.new) }
+    ensures reader { IsSameReader reader.old reader.new }
+    ensures long { length soft.new ≡ length soft.old }
+{
+    match F::kind(found) {
+        Kind::Frame { at: _ } => reader.find_soft(follower.frame(), soft),
+        Kind::Cut | Kind::End => {}
+    }
+}
+
 /// Takes bytes, no more than are wanted, up to the next thing. The soft values of a frame are found.
 fn seek<F: Follow>(
     follower: &mut F,
@@ -71,13 +86,13 @@ fn seek<F: Follow>(
     ensures reader { IsSameReader reader.old reader.new }
     ensures long { length soft.new ≡ length soft.old }
 {
-    let found = follower.seek(bytes);
-    if let Some(next) = found {
-        if let Kind::Frame { at: _ } = F::kind(next) {
-            reader.find_soft(follower.frame(), soft);
+    match follower.seek(bytes) {
+        Some(found) => {
+            find_soft(follower, reader, soft, found);
+            Some(found)
         }
+        None => None,
     }
-    found
 }
 
 /// Reads the wanted bytes into a buffer of their size, and takes them.
@@ -94,8 +109,10 @@ fn read_on<F: Follow, R: CountedRead>(
     requires reader { (F.value follower.old).sought.mode ≡ reader.old.mode }
     requires soft { length soft.old ≡ n_of reader.old.mode }
     ensures goes_on { IfOk result (λ found. GoesOn (F.value follower.old) (F.value follower.new) (R.remaining symbols.old) (R.remaining symbols.new)) }
-    ensures found { IfOk result (λ found. (F.value follower.new).found ≡ Founds F.next found) }
-    ensures soft { IfOk result (λ found. IfFrame (Founds F.next found) (HasSoft reader.new (F.value follower.new).frame soft.new)) }
+    ensures found { (F.value follower.new).found ≡ found_in F.next result }
+    ensures soft { IfFrame (found_in F.next result) (HasSoft reader.new (F.value follower.new).frame soft.new) }
+    ensures stuck { IfOk result (λ found. length room.old ≡ 0 → Seeks (F.value follower.old) (F.value follower.new) [] true (Founds F.next found)) }
+    ensures nearer { IfOk result (λ found. 0 < length room.old → IsNearer (F.value follower.old) (F.value follower.new) (Founds F.next found)) }
     ensures same { IsSameFollower (F.value follower.old) (F.value follower.new) }
     ensures kept { (F.value follower.new).state.standing ≡ (F.value follower.old).state.standing }
     ensures reader { IsSameReader reader.old reader.new }
@@ -105,6 +122,41 @@ fn read_on<F: Follow, R: CountedRead>(
 {
     let count = read_full(symbols, room)?;
     Ok(seek(follower, reader, soft, &room[..count]))
+}
+
+/// Reads up to the next thing, into a buffer that has room for the wanted bytes.
+fn find_next<F: Follow, R: CountedRead>(
+    follower: &mut F,
+    reader: &mut FrameReader,
+    soft: &mut [i16],
+    bytes: &mut [u8],
+    symbols: &mut R,
+) -> Result<F::Found, ReadFault>
+    requires symbols { CanCount (R.count symbols.old) }
+    requires none { (F.value follower.old).found ≡ None }
+    requires bytes { length bytes.old ≡ 4 * room_for (F.value follower.old).resync (symbols_in (F.value follower.old).sought.mode) }
+    requires reader { (F.value follower.old).sought.mode ≡ reader.old.mode }
+    requires soft { length soft.old ≡ n_of reader.old.mode }
+    ensures goes_on { IfOk result (λ found. GoesOn (F.value follower.old) (F.value follower.new) (R.remaining symbols.old) (R.remaining symbols.new)) }
+    ensures found { (F.value follower.new).found ≡ Found F.next result }
+    ensures soft { IfFrame (Found F.next result) (HasSoft reader.new (F.value follower.new).frame soft.new) }
+    ensures reads { ReadsOrStops (F.value follower.new) (R.count symbols.old) (R.count symbols.new) (Found F.next result) }
+    ensures same { IsSameFollower (F.value follower.old) (F.value follower.new) }
+    ensures kept { (F.value follower.new).state.standing ≡ (F.value follower.old).state.standing }
+    ensures reader { IsSameReader reader.old reader.new }
+    ensures long { length soft.new ≡ length soft.old }
+    ensures bytes { length bytes.new ≡ length bytes.old }
+{
+    'reading: loop {
+        let room = follower.room();
+        let found = read_on(follower, reader, soft, symbols, &mut bytes[..room])?;
+        if let Some(found) = found {
+            return Ok(found);
+        }
+        if room == 0 {
+            return Err(ReadFault);
+        }
+    }
 }
 
 /// What is decided of a frame whose bits are not known.
@@ -142,29 +194,19 @@ impl<F: Follow> Replayer<F> {
         requires symbols { CanCount (R.count symbols.old) }
         requires none { self.old.follower.found ≡ None }
         ensures goes_on { IfOk result (λ found. GoesOn self.old.follower self.new.follower (R.remaining symbols.old) (R.remaining symbols.new)) }
-        ensures found { IfOk result (λ found. self.new.follower.found ≡ Some (F.next found)) }
-        ensures soft { IfOk result (λ found. IfFrame (Some (F.next found)) (self.new.soft ≡ soft_frame self.old.follower.sought.mode self.old.number self.old.options self.new.follower.frame)) }
+        ensures found { self.new.follower.found ≡ Found F.next result }
+        ensures soft { IfFrame (Found F.next result) (self.new.soft ≡ soft_frame self.old.follower.sought.mode self.old.number self.old.options self.new.follower.frame) }
+        ensures reads { ReadsOrStops self.new.follower (R.count symbols.old) (R.count symbols.new) (Found F.next result) }
         ensures kept { self.new.follower.state.standing ≡ self.old.follower.state.standing }
         ensures same { IsSameReplayer self.old self.new }
-        ensures reads { IfOk result (λ found. R.count symbols.new ≡ R.count symbols.old) }
     {
-        'reading: for _turn in 0..u64::MAX {
-            let room = self.follower.room();
-            let found = read_on(
-                &mut self.follower,
-                &mut self.reader,
-                &mut self.soft,
-                symbols,
-                &mut self.bytes[..room],
-            )?;
-            if let Some(found) = found {
-                return Ok(found);
-            }
-            if room == 0 {
-                return Err(ReadFault);
-            }
-        }
-        Err(ReadFault)
+        find_next(
+            &mut self.follower,
+            &mut self.reader,
+            &mut self.soft,
+            &mut self.bytes,
+            symbols,
+        )
     }
 
     /// The soft values of the frame that was found last.
