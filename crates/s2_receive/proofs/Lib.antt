@@ -3,8 +3,12 @@ pub mod SymbolLists
 pub mod Headers
 pub mod MetLemmas
 pub mod LostFrames
+pub mod LastSymbols
 pub mod FindSteps
 pub mod StepLemmas
+pub mod HalfLemmas
+pub mod OwnRuns
+pub mod RunsSoFar
 pub mod ReadLemmas
 pub mod NextLemmas
 pub mod SinkFolds

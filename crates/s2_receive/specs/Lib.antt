@@ -9,6 +9,7 @@ pub mod Sinks
 pub mod Decider
 pub mod ReceiverCore
 pub mod Output
+pub mod Halves
 pub mod Laws
 pub mod Calls
 pub mod Windows

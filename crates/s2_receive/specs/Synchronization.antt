@@ -153,6 +153,17 @@ Takes finds lost size room old new symbols whole buffer (Some found) =
     ((coming : List Symbol) → Follows whole coming → met_within finds lost size old (symbols ++ coming) ≡ met_of found buffer ∷ met_then finds lost size found new coming)
     × (reached new ≡ reached old + length symbols) × IsBehind old.at old.skipped found × HoldsAfter lost size room found buffer new
 
+-- a frame that was found begins with the first symbol held, and these are its symbols, all of them
+abbrev pub IsInFront : ℕ → Option Next → Window → List Symbol → Type 0
+IsInFront size (Some (next.Frame at skipped)) w symbols = (w.at ≡ at) × (size ≤ length w.symbols) × (symbols ≡ take size w.symbols)
+IsInFront size found w symbols = ⊤
+
+-- The symbols held are the last ones of these, the first of which is at this position
+pub record HoldsLast (at : ℕ) (symbols : List Symbol) (w : Window) : Type 0 where
+  pub front : List Symbol
+  pub all : symbols ≡ front ++ w.symbols
+  pub place : w.at ≡ at + length front
+
 -- The number of symbols that a search holds when it returns this. A frame is in front, whole; else it has room for more
 abbrev pub HoldsFor : ℕ → Option Next → (count room : ℕ) → Type 0
 HoldsFor size (Some (next.Frame at skipped)) count room = (size ≤ count) × (count ≤ room)

@@ -1,6 +1,10 @@
 //! Laws, which follow from the definitions alone. Each is the clause of a call that does nothing.
+ghost use Rattle.std.specs.Prelude.{◌≡◌, Bool, List, true};
+ghost use Rattle.s2_mode.specs.declared.symbols.Symbol.{Symbol};
 ghost use Rattle.s2_receive.specs.Calls.{CallsLaw};
+ghost use Rattle.s2_receive.specs.Halves.{HalvesLaw, OwnRunLaw, RunBeginsLaw, RunSeeksLaw, RunSettlesLaw, RunEndsLaw};
 ghost use Rattle.s2_receive.specs.Limits.{LimitsLaw};
+ghost use Rattle.s2_receive.specs.Receiving.{Decision};
 ghost use Rattle.s2_receive.specs.Laws.{JoiningLaw, ReceptionLaw, FrontLaw, ResumeLaw, SearchLaw, SameRunLaw, SameStepLaw, TwoRunsLaw};
 
 /// The packets written are those of all fields and gaps that came to the joiner, one after another. The totals
@@ -56,4 +60,24 @@ pub fn calls()
 /// The limit that is tested, [`crate::MAX_SYMBOLS`], is that of the definitions.
 pub fn limits()
     ensures { LimitsLaw }
+{}
+
+/// The two halves of a step of a [`crate::Follower`] are one step of the receiver, by any rule of decision that comes to the
+/// given decision for the frame that was found.
+pub fn halves()
+    ensures { HalvesLaw }
+{}
+
+/// A run by given decisions, if these are the decisions of a rule on the frames' symbols, is exactly the receiver's own run.
+pub fn own_run()
+    ensures { OwnRunLaw }
+{}
+
+/// A [`crate::Follower`] that makes its steps one after another makes a run by the decisions that it is given. A new one has run
+/// nothing. Each half of a step keeps what was run so far. At the end it is a run over the whole recording.
+pub fn runs()
+    ensures begins { (shows : List Symbol → Decision → Bool) → RunBeginsLaw (λ symbols d. shows symbols d ≡ true) }
+    ensures seeks { (shows : List Symbol → Decision → Bool) → RunSeeksLaw (λ symbols d. shows symbols d ≡ true) }
+    ensures settles { (shows : List Symbol → Decision → Bool) → RunSettlesLaw (λ symbols d. shows symbols d ≡ true) }
+    ensures ends { (shows : List Symbol → Decision → Bool) → RunEndsLaw (λ symbols d. shows symbols d ≡ true) }
 {}

@@ -35,6 +35,7 @@
 #![tactic(auto)]
 
 mod decider;
+mod follower;
 mod frame;
 mod gap;
 mod header_search;
@@ -52,9 +53,11 @@ mod totals;
 mod window;
 
 pub use decider::{Decide, Decided};
+pub use follower::Follower;
 pub use frame::Frame;
 pub use limits::MAX_SYMBOLS;
 pub use receiver::Receiver;
 pub use report::{Fault, Received};
 pub use run::{receive_all, receive_bytes, receive_with};
 pub use sinks::Sink;
+pub use window::Next;

@@ -1,11 +1,11 @@
 //! The finder of one mode's frames.
-ghost use Rattle.std.specs.Prelude.{◌≡◌, ◌+◌, ◌*◌, ◌^◌, ◌<◌, ◌≤◌, ◌&&◌, nat_eq, Bool, List, IfOk, length, take, false};
+ghost use Rattle.std.specs.Prelude.{◌≡◌, ◌+◌, ◌*◌, ◌^◌, ◌<◌, ◌≤◌, ◌&&◌, ◌++◌, nat_eq, Bool, List, IfOk, length, take, false};
 ghost use Rattle.s2_mode.specs.Limits.{header_symbols};
 ghost use Rattle.s2_receive.specs.Limits.{max_symbols};
 ghost use Rattle.s2_mode.specs.Mode.{symbols_in};
 ghost use Rattle.s2_mode.specs.Symbols.{symbols_of};
 ghost use Rattle.s2_mode.specs.declared.symbols.Symbol.{Symbol as SymbolValue};
-ghost use Rattle.s2_receive.specs.Synchronization.{HoldsFor, Takes, passed_by, reached, room_for, wanted, window_after, window_at};
+ghost use Rattle.s2_receive.specs.Synchronization.{HoldsFor, HoldsLast, IsInFront, Takes, passed_by, reached, room_for, wanted, window_after, window_at};
 ghost use Rattle.s2_plframe.specs.Turns.{sought_of};
 ghost use Rattle.s2_receive.specs.Windows.{found_as};
 
@@ -123,6 +123,8 @@ impl Synchronizer {
             (window_after lost (symbols_in self.old.sought.mode) result self.new.window) (symbols_of bytes.now)
             (nat_eq (length bytes.now) (4 * wanted limit (room_for self.old.resync (symbols_in self.old.sought.mode)) self.old.window)) self.new.frame result }
         ensures holds { HoldsFor (symbols_in self.old.sought.mode) result (length self.new.window.symbols) (room_for self.old.resync (symbols_in self.old.sought.mode)) }
+        ensures last { HoldsLast self.old.window.at (self.old.window.symbols ++ symbols_of bytes.now) self.new.window }
+        ensures front { IsInFront (symbols_in self.old.sought.mode) result self.new.window self.new.frame }
         ensures reached { reached self.new.window ≡ reached self.old.window + length (symbols_of bytes.now) }
         ensures same { (self.new.sought ≡ self.old.sought) × (self.new.max_header_errors ≡ self.old.max_header_errors) × (self.new.resync ≡ self.old.resync) }
     {

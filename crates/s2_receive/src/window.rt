@@ -4,7 +4,7 @@ ghost use Rattle.s2_mode.specs.Limits.{header_symbols};
 ghost use Rattle.s2_receive.specs.Limits.{max_symbols};
 ghost use Rattle.s2_mode.specs.Symbols.{symbols_of};
 ghost use Rattle.s2_mode.specs.declared.symbols.Symbol.{Symbol as SymbolValue};
-ghost use Rattle.s2_receive.specs.Synchronization.{HoldsFor, RestOfLost, Takes, MayFollow, met_within, passed_by, window_after, window_at, window_of};
+ghost use Rattle.s2_receive.specs.Synchronization.{HoldsFor, HoldsLast, RestOfLost, Takes, MayFollow, met_within, passed_by, window_after, window_at, window_of};
 ghost use Rattle.s2_receive.specs.Windows.{found_as};
 ghost use Rattle.s2_receive.specs.declared.window.Next.TheVariants as next;
 
@@ -122,6 +122,7 @@ fn resume(
     requires rest { held.old.again ≡ true → RestOfLost size (length buffer.old) held.old }
     ensures met { (lost : List SymbolValue → Bool) (coming : List SymbolValue) → (held.old.again ≡ true → MayFollow size (take held.old.count buffer.old) coming) →
         met_within (found_as search.old.sought max_header_errors) lost size (window_of held.old buffer.old) coming ≡ met_within (found_as search.old.sought max_header_errors) lost size (window_of held.new buffer.new) coming }
+    ensures last { HoldsLast held.old.at (take held.old.count buffer.old) (window_of held.new buffer.new) }
     ensures stays { result ≡ false → (held.new.again ≡ false) × (held.new.at ≡ held.old.at) × (held.new.count ≡ held.old.count) }
     ensures moved { result ≡ true → (held.old.at < held.new.at) × (held.new.at + held.new.count ≡ held.old.at + held.old.count) × (held.old.count ≡ length buffer.old) }
     ensures ended { held.old.count < length buffer.old → result ≡ false }
@@ -178,6 +179,7 @@ fn meet_last(
     ensures takes { (lost : List SymbolValue → Bool) → Takes (found_as search.old.sought max_header_errors) lost size (length buffer.old) (window_of held.old buffer.old)
         (window_after lost size (Some result) (window_of held.new buffer.new)) [] false (take size buffer.new) (Some result) }
     ensures holds { HoldsFor size (Some result) held.new.count (length buffer.old) }
+    ensures last { HoldsLast held.old.at (take held.old.count buffer.old) (window_of held.new buffer.new) }
     ensures reached { held.new.at + held.new.count ≡ held.old.at + held.old.count }
     ensures again { held.new.again ≡ false }
     ensures long { length buffer.new ≡ length buffer.old }
@@ -235,6 +237,7 @@ fn skip_to_header(
         (passed_by (lost (take size (take held.new.count buffer.new))) size (window_of held.new buffer.new)) [] true (take size buffer.new) (Some (next.Frame held.new.at held.new.skipped)) }
     ensures moved { result ≡ true → (size : ℕ) → header_symbols ≤ size → size ≤ length buffer.old → (lost : List SymbolValue → Bool)
         → Takes (found_as search.old.sought max_header_errors) lost size (length buffer.old) (window_of held.old buffer.old) (window_of held.new buffer.new) [] true (take size buffer.new) None }
+    ensures last { HoldsLast held.old.at (take held.old.count buffer.old) (window_of held.new buffer.new) }
     ensures count { held.new.count ≤ length buffer.old }
     ensures full { result ≡ false → held.new.count ≡ length buffer.old }
     ensures fewer { result ≡ true → held.new.count < length buffer.old }
@@ -276,6 +279,7 @@ fn look_on(
     ensures takes { (lost : List SymbolValue → Bool) → Takes (found_as search.old.sought max_header_errors) lost size (length buffer.old) (window_of held.old buffer.old)
         (window_after lost size result (window_of held.new buffer.new)) [] true (take size buffer.new) result }
     ensures holds { HoldsFor size result held.new.count (length buffer.old) }
+    ensures last { HoldsLast held.old.at (take held.old.count buffer.old) (window_of held.new buffer.new) }
     ensures reached { held.new.at + held.new.count ≡ held.old.at + held.old.count }
     ensures rest { held.new.again ≡ true → RestOfLost size (length buffer.old) held.new }
     ensures long { length buffer.new ≡ length buffer.old }
@@ -313,6 +317,7 @@ fn look_last(
     ensures takes { (lost : List SymbolValue → Bool) → Takes (found_as search.old.sought max_header_errors) lost size (length buffer.old) (window_of held.old buffer.old)
         (window_after lost size (Some result) (window_of held.new buffer.new)) [] false (take size buffer.new) (Some result) }
     ensures holds { HoldsFor size (Some result) held.new.count (length buffer.old) }
+    ensures last { HoldsLast held.old.at (take held.old.count buffer.old) (window_of held.new buffer.new) }
     ensures reached { held.new.at + held.new.count ≡ held.old.at + held.old.count }
     ensures rest { held.new.again ≡ true → RestOfLost size (length buffer.old) held.new }
     ensures long { length buffer.new ≡ length buffer.old }
@@ -342,6 +347,7 @@ pub(crate) fn take_symbols(
     ensures takes { (lost : List SymbolValue → Bool) → Takes (found_as search.old.sought max_header_errors) lost size (length buffer.old) (window_of held.old buffer.old)
         (window_after lost size result (window_of held.new buffer.new)) (symbols_of bytes.now) whole (take size buffer.new) result }
     ensures holds { HoldsFor size result held.new.count (length buffer.old) }
+    ensures last { HoldsLast held.old.at (take held.old.count buffer.old ++ symbols_of bytes.now) (window_of held.new buffer.new) }
     ensures reached { held.new.at + held.new.count ≡ held.old.at + held.old.count + length bytes.now / 4 }
     ensures rest { held.new.again ≡ true → RestOfLost size (length buffer.old) held.new }
     ensures long { length buffer.new ≡ length buffer.old }

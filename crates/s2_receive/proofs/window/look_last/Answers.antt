@@ -1,5 +1,6 @@
 use Rattle.s2_receive.proofs.Names.{[], Some, false, length, take, arith, length-take-le, window_after, window_of, found_as}
 use Rattle.s2_receive.proofs.FindSteps.{told_on}
+use Rattle.s2_receive.proofs.LastSymbols.{last-last}
 use Rattle.s2_receive.proofs.window.look_last.Goals as goal
 
 pub returns-clause-takes : goal.returns-clause-takes
@@ -17,3 +18,8 @@ returns-clause-takes c = λ lost.
     (take size c.meet_last.new.buffer) (Some c.meet_last.result)
     (λ coming none. c.resume.ensures.met lost coming (λ again few. none))
     (omega (arith, stays.1, stays.2, long, mid_long)) (omega (arith, stays.1)) c.resume.ensures.skipped (takes lost)
+
+pub returns-clause-last : goal.returns-clause-last
+returns-clause-last c =
+    let held = c.args.held.now in
+    last-last held.at (take held.count c.args.buffer.now) (window_of c.resume.new.held c.resume.new.buffer) (window_of c.meet_last.new.held c.meet_last.new.buffer) c.resume.ensures.last c.meet_last.ensures.last

@@ -1,6 +1,7 @@
-use Rattle.s2_receive.proofs.Names.{[], Some, None, true, length, take, arith, length-take-le, passed_by, window_of, found_as}
+use Rattle.s2_receive.proofs.Names.{[], Some, None, true, length, take, arith, refl, length-take-le, passed_by, window_of, found_as}
 use Rattle.s2_receive.proofs.Names.next
 use Rattle.s2_receive.proofs.FindSteps.{told_on}
+use Rattle.s2_receive.proofs.LastSymbols.{all_last, last-last}
 use Rattle.s2_receive.proofs.window.look_on.Goals as goal
 
 pub returns-then-skip_to_header-clause-takes : goal.returns-then-skip_to_header-clause-takes
@@ -36,3 +37,17 @@ returns-clause-takes c = λ lost.
     (take size after) (Some (next.Frame now.at now.skipped))
     (λ coming any. c.resume.ensures.met lost coming (λ again few. absurd (omega (arith, long, few, c.if-held-buffer.false, (c.requires.rest again).0))))
     (omega (arith, stays.1, stays.2, long, mid_long)) (omega (arith, stays.1)) c.resume.ensures.skipped (takes c.if-skip_to_header.false size c.requires.size.0 c.requires.size.2 lost)
+
+pub returns-then-held-buffer-clause-last : goal.returns-then-held-buffer-clause-last
+returns-then-held-buffer-clause-last c =
+    let held = c.args.held.now in all_last held.at (take held.count c.args.buffer.now) (window_of held c.args.buffer.now) refl refl
+
+pub returns-then-skip_to_header-clause-last : goal.returns-then-skip_to_header-clause-last
+returns-then-skip_to_header-clause-last c =
+    let held = c.args.held.now in
+    last-last held.at (take held.count c.args.buffer.now) (window_of c.resume.new.held c.resume.new.buffer) (window_of c.skip_to_header.new.held c.skip_to_header.new.buffer) c.resume.ensures.last c.skip_to_header.ensures.last
+
+pub returns-clause-last : goal.returns-clause-last
+returns-clause-last c =
+    let held = c.args.held.now in
+    last-last held.at (take held.count c.args.buffer.now) (window_of c.resume.new.held c.resume.new.buffer) (window_of c.skip_to_header.new.held c.skip_to_header.new.buffer) c.resume.ensures.last c.skip_to_header.ensures.last

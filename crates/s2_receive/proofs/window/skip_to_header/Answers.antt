@@ -1,5 +1,6 @@
-use Rattle.s2_receive.proofs.Names.{◌≡◌, ◌∙◌, ◌-◌, ◌≤◌, min, inl, inr, true, length, take, ap, refl, sym, subst, arith, cases_Bool, take_all, take-take, List, Symbol, Scans, window_of, found_as}
+use Rattle.s2_receive.proofs.Names.{◌≡◌, ◌∙◌, ◌-◌, ◌≤◌, min, inl, inr, true, length, take, ap, refl, sym, subst, arith, cases_Bool, take_all, take-take, length-take-le, Window, List, Symbol, Scans, window_of, found_as}
 use Rattle.s2_receive.proofs.FindSteps.{frame_takes, moves_on, scanned, none_of, some_of}
+use Rattle.s2_receive.proofs.LastSymbols.{dropped_last}
 use Rattle.s2_receive.proofs.window.skip_to_header.Goals as goal
 
 pub returns-clause-stands : goal.returns-clause-stands
@@ -37,3 +38,12 @@ returns-clause-moved c = λ some size least fits lost.
     let lowest : c.min.result ≡ min scan.place (length (take held.count buffer)) = c.min.ensures ∙ ap (min scan.place) (c.requires.full ∙ sym long) in
     moves_on finds lost size (window_of held buffer) scan c.requires.again scans (window_of c.stand_before.new.held c.stand_before.new.buffer) (length buffer) c.min.result (take size c.stand_before.new.buffer) c.stand_before.ensures.window
     lowest (omega (arith, c.min.ensures, some_of scan.place some, c.requires.full, least, fits)) (omega (arith, long))
+
+pub returns-clause-last : goal.returns-clause-last
+returns-clause-last c =
+    let held = c.args.held.now in
+    let buffer = c.args.buffer.now in
+    let is = c.stand_before.ensures.window in
+    let few : c.min.result ≤ held.count = omega (arith, c.min.ensures) in
+    let long = length-take-le held.count buffer (omega (arith, c.requires.full)) in
+    dropped_last c.min.result held.at (take held.count buffer) (window_of c.stand_before.new.held c.stand_before.new.buffer) (omega (arith, long, few)) (ap (λ (w : Window). w.at) is) (ap (λ (w : Window). w.symbols) is)

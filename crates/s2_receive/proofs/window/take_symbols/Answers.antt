@@ -1,5 +1,6 @@
 use Rattle.s2_receive.proofs.Names.{Some, length, take, found_as, symbols_of, window_of, window_after}
 use Rattle.s2_receive.proofs.FindSteps.{took}
+use Rattle.s2_receive.proofs.LastSymbols.{filled_last}
 use Rattle.s2_receive.proofs.window.take_symbols.Goals as goal
 
 pub returns-then-whole-clause-takes : goal.returns-then-whole-clause-takes
@@ -15,3 +16,11 @@ returns-clause-takes c = λ lost.
     took (found_as c.args.search.now.sought c.args.max_header_errors) lost c.args.size (length c.args.buffer.now) (window_of c.args.held.now c.args.buffer.now) (window_of c.fill.new.held c.fill.new.buffer)
     (window_after lost c.args.size (Some c.look_last.result) (window_of c.look_last.new.held c.look_last.new.buffer)) (symbols_of c.args.bytes.now) c.args.whole (take c.args.size c.look_last.new.buffer) (Some c.look_last.result) c.fill.ensures.window
     (rw c.if-whole.false (takes lost))
+
+pub returns-then-whole-clause-last : goal.returns-then-whole-clause-last
+returns-then-whole-clause-last c =
+    filled_last (window_of c.args.held.now c.args.buffer.now) (window_of c.fill.new.held c.fill.new.buffer) (window_of c.look_on.new.held c.look_on.new.buffer) (symbols_of c.args.bytes.now) c.fill.ensures.window c.look_on.ensures.last
+
+pub returns-clause-last : goal.returns-clause-last
+returns-clause-last c =
+    filled_last (window_of c.args.held.now c.args.buffer.now) (window_of c.fill.new.held c.fill.new.buffer) (window_of c.look_last.new.held c.look_last.new.buffer) (symbols_of c.args.bytes.now) c.fill.ensures.window c.look_last.ensures.last
