@@ -1,6 +1,7 @@
 pub mod JoinedTexts
 pub mod PacketLemmas
 pub mod ValueLemmas
-pub mod Assumed
 pub mod RunLemmas
 pub mod ReplayerLemmas
+pub mod AuditLemmas
+pub mod OwnReports

@@ -13,7 +13,7 @@ use Rattle.s2_receive.specs.declared.window.Next.{Next}
 use Rattle.s2_receive.specs.declared.window.Next.TheVariants as next
 use Rattle.s2_message.specs.Decisions.{decision_with}
 use Rattle.s2_message.specs.Reading.{DecidesBy, FrameReader, IsSameReader, decision_held}
-use Rattle.s2_replay.specs.Halves.{Follower, IsSameFollower, Says, Settles}
+use Rattle.s2_receive.specs.Halves.{Follower, IsSameFollower, Says, Settles}
 use Rattle.s2_replay.specs.Replay.{claimed_decision, decision_on}
 use Rattle.s2_replay.specs.Replayers.{HasSoft, IfFrame, IsFrame, IsReplayer, IsSameReplayer, Replayer}
 

@@ -15,10 +15,10 @@ use Rattle.s2_receive.specs.declared.report.Phase.{Phase}
 use Rattle.s2_receive.specs.declared.report.Phase.TheVariants as phases
 use Rattle.s2_receive.specs.declared.window.Next.{Next}
 use Rattle.s2_receive.proofs.SymbolLists.{count_symbols, yields}
-use Rattle.s2_replay.specs.Halves.{Follower, IsRunBy, IsShown, RunSoFar, RunsBy, Seeks, SeeksBy, Settles, ahead, asked_of, decision_if, rules_with, wanted_by}
+use Rattle.s2_receive.specs.Halves.{Follower, IsRunBy, IsShown, RunSoFar, RunsBy, Seeks, SeeksBy, Settles, ahead, asked_of, decision_if, rules_with, wanted_by}
 use Rattle.s2_replay.specs.Replay.{IsBorneOut, Terms, rules_for}
 use Rattle.s2_replay.specs.Running.{GoesOn, IsBy, IsNearer, RanIn, RanOut, RanTo}
-use Rattle.s2_replay.proofs.Assumed.{run_begins, run_seeks, run_settles, run_ends}
+use Rattle.s2_receive.proofs.RunsSoFar.{run_begins, run_seeks, run_settles, run_ends}
 
 front_nil : (xs ys : List ℕ) → xs ++ ys ≡ [] → (xs ≡ []) × (ys ≡ [])
 front_nil [] ys none = (refl, none)
@@ -111,7 +111,7 @@ module _ (t : Terms) (f : Follower) (by : IsBy t f) (none : f.found ≡ None) (o
   nothing recording coming =
       let rules = rules_with (rules_for t).decide f in
       subst (λ n. RunsBy (IsBorneOut t) rules recording f.state.standing (ahead rules f n coming) [] [] []) (sym none)
-      (subst (λ p. RunsBy (IsBorneOut t) rules recording f.state.standing (left_by (record rules { resync = false }) p f.state.window coming) [] [] []) (sym over) tt)
+      (subst (λ p. RunsBy (IsBorneOut t) rules recording f.state.standing (left_by (record rules { resync = false }) p f.state.window coming) [] [] []) (sym over) (refl, refl))
 
   last_may : (on : Bool) (left : List ℕ) → (on ≡ false → left ≡ []) → Follows on (symbols_of left)
   last_may true left ended = tt

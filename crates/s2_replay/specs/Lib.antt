@@ -2,8 +2,8 @@ pub mod Lines
 pub mod Packets
 pub mod Codewords
 pub mod Certificates
-pub mod Halves
-pub mod Kinds
 pub mod Replay
 pub mod Running
 pub mod Replayers
+pub mod Auditing
+pub mod Laws

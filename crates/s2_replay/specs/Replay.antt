@@ -18,7 +18,7 @@ use Rattle.s2_receive.specs.Windows.{found_as}
 use Rattle.s2_message.specs.Decisions.{decision_with, soft_frame}
 use Rattle.s2_message.specs.declared.options.FrameOptions.{FrameOptions}
 use Rattle.s2_replay.specs.Certificates.{Certifies, IsParityVerdict}
-use Rattle.s2_replay.specs.Halves.{IsRunBy}
+use Rattle.s2_receive.specs.Halves.{IsRunBy}
 use Rattle.s2_replay.specs.Lines.{BeginsWith, claimed_words, counted_words}
 
 -- How a report was made: the rows of its code, the mode and the scrambling number of its frames, how they are read, the most

@@ -10,7 +10,7 @@ use Rattle.s2_receive.specs.declared.window.Next.TheVariants as next
 use Rattle.s2_message.specs.Decisions.{soft_frame}
 use Rattle.s2_message.specs.Reading.{FrameReader, HasFrame}
 use Rattle.s2_message.specs.declared.options.FrameOptions.{FrameOptions}
-use Rattle.s2_replay.specs.Halves.{Follower, IsSameFollower}
+use Rattle.s2_receive.specs.Halves.{Follower, IsSameFollower}
 
 -- a replayer: the scrambling number of its frames, how they are read, its follower, and the soft values of the frame that was found
 -- last

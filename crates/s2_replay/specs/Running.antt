@@ -1,5 +1,5 @@
 -- A run of the receiver over a recording, as far as it has come (own).
-use Rattle.std.specs.Prelude.{◌≡◌, ◌⊎◌, ℕ, ◌+◌, ◌-◌, ◌<◌, Bool, true, false, List, [], ◌++◌, Option, Some, None, ⊤}
+use Rattle.std.specs.Prelude.{◌≡◌, ◌⊎◌, ℕ, ◌+◌, ◌-◌, ◌<◌, Bool, true, false, List, [], ◌++◌, Option, Some, None, Result, Ok, Err, ⊤}
 use Rattle.s2_mode.specs.Symbols.{symbols_of}
 use Rattle.s2_mode.specs.declared.symbols.Symbol.{Symbol}
 use Rattle.s2_plframe.specs.Turns.{sought_of}
@@ -7,7 +7,7 @@ use Rattle.s2_receive.specs.Limits.{max_symbols}
 use Rattle.s2_receive.specs.Receiving.{Decision}
 use Rattle.s2_receive.specs.Synchronization.{reached}
 use Rattle.s2_receive.specs.declared.window.Next.{Next}
-use Rattle.s2_replay.specs.Halves.{Follower, IsRunBy, RunSoFar, Seeks, asked_of}
+use Rattle.s2_receive.specs.Halves.{Follower, IsRunBy, RunSoFar, Seeks, asked_of}
 use Rattle.s2_replay.specs.Replay.{IsBorneOut, Terms, rules_for}
 
 -- a follower follows a stream by these terms
@@ -57,3 +57,13 @@ IsStuck f = (old : Follower) × (asked_of old ≡ 0) × Seeks old f [] true None
 abbrev pub ReadsOrStops : Follower → (reads reads_new : ℕ) → Option Next → Type 0
 ReadsOrStops f reads reads_new (Some found) = reads_new ≡ reads
 ReadsOrStops f reads reads_new None = (reads_new ≡ reads + 1) ⊎ ((reads_new ≡ reads) × IsStuck f)
+
+-- what was found, if no fault came
+abbrev pub found_of : {E : Type 0} → Result Next E → Option Next
+found_of (Ok found) = Some found
+found_of (Err fault) = None
+
+-- the same, if there may be nothing yet
+abbrev pub found_in : {E : Type 0} → Result (Option Next) E → Option Next
+found_in (Ok found) = found
+found_in (Err fault) = None

@@ -55,10 +55,7 @@ fn claimed_words(number: u64, at: u64, verdict: Verdict, lost: bool) -> Line
 pub fn is_claimed_line(number: u64, at: u64, verdict: Verdict, lost: bool, line: &[u8]) -> bool
     ensures { IsTrue result ↔ BeginsWith (claimed_words number at verdict lost) line.now }
 {
-    begins_with(
-        line,
-        claimed_words(number, at, verdict, lost).as_bytes(),
-    )
+    begins_with(line, claimed_words(number, at, verdict, lost).as_bytes())
 }
 
 /// Whether a line of a report is the end line of this number of frames. No more is compared if the bits of a frame are not

@@ -1,17 +1,17 @@
 use Rattle.std.proofs.Common.{◌≡◌, ◌-◌, None, length}
 use Rattle.s2_message.specs.Reading.{IsSameReader}
 use Rattle.s2_receive.specs.Synchronization.{reached}
-use Rattle.s2_replay.specs.Halves.{IsSameFollower}
+use Rattle.s2_receive.specs.Halves.{IsSameFollower}
 use Rattle.s2_replay.specs.Running.{GoesOn}
 use Rattle.s2_replay.proofs.replayer.find_next.Given as goal
 
 -- symbols were taken, and nothing was found in them; no read failed
 abbrev pub invariant-reading : goal.invariant-reading
 invariant-reading g l = record {
-  goes_on : GoesOn (g.F.Follow.value l.fn.follower) (g.F.Follow.value l.follower) (g.R.CountedRead.remaining l.fn.symbols) (g.R.CountedRead.remaining l.symbols);
-  none : (g.F.Follow.value l.follower).found ≡ None;
-  same : IsSameFollower (g.F.Follow.value l.fn.follower) (g.F.Follow.value l.follower);
-  kept : (g.F.Follow.value l.follower).state.standing ≡ (g.F.Follow.value l.fn.follower).state.standing;
+  goes_on : GoesOn l.fn.follower l.follower (g.R.CountedRead.remaining l.fn.symbols) (g.R.CountedRead.remaining l.symbols);
+  none : l.follower.found ≡ None;
+  same : IsSameFollower l.fn.follower l.follower;
+  kept : l.follower.state.standing ≡ l.fn.follower.state.standing;
   reader : IsSameReader l.fn.reader l.reader;
   long : length l.soft ≡ length l.fn.soft;
   room : length l.bytes ≡ length l.fn.bytes;
@@ -19,4 +19,4 @@ invariant-reading g l = record {
 }
 
 abbrev pub decreases-reading : goal.decreases-reading
-decreases-reading g l = (g.F.Follow.value l.follower).limit - reached (g.F.Follow.value l.follower).state.window
+decreases-reading g l = l.follower.limit - reached l.follower.state.window

@@ -1,32 +1,32 @@
 use Rattle.std.proofs.Common.{◌≡◌, Option, Some, None, ap, sym, subst, ◌∙◌}
 use Rattle.s2_check.specs.Views.{View}
-use Rattle.s2_replay.specs.Halves.{Settles}
+use Rattle.s2_receive.specs.Halves.{Settles}
 use Rattle.s2_replay.specs.Replay.{decision_on}
 use Rattle.s2_replay.specs.Replayers.{IsSameReplayer, Replayer}
 use Rattle.s2_replay.proofs.ReplayerLemmas.{kept_same, settled, settles_by}
 use Rattle.s2_replay.proofs.replayer.Replayer.settle.Goals as goal
 use Rattle.s2_replay.proofs.replayer.Replayer.settle.Goals.{After-settle}
 
-module _ (g : _) (c : After-settle g) where
-  by_bits : (certificate : Option View) → Settles (g.F.Follow.value c.self.inside.follower) (g.F.Follow.value c.settle.new.self) (g.F.Follow.next c.args.found)
-      (decision_on (g.F.Follow.value c.self.inside.follower).sought.mode c.self.inside.reader.number c.self.inside.reader.options (g.F.Follow.value c.self.inside.follower).frame c.args.verdict c.args.word.now certificate c.args.rounds) c.settle.result
+module _ (c : After-settle) where
+  by_bits : (certificate : Option View) → Settles c.self.inside.follower c.settle.new.self c.args.found
+      (decision_on c.self.inside.follower.sought.mode c.self.inside.reader.number c.self.inside.reader.options c.self.inside.follower.frame c.args.verdict c.args.word.now certificate c.args.rounds) c.settle.result
   by_bits =
-      let old = g.F.Follow.value c.self.inside.follower in
+      let old = c.self.inside.follower in
       let found = ap (λ (r : Replayer). r.follower.found) c.self.view_is ∙ c.requires.found in
-      settles_by old (g.F.Follow.value c.settle.new.self) c.self.inside.reader c.read-decided.new.self c.self.inside.soft.items c.self.inside.bytes.items c.self.invariant (g.F.Follow.next c.args.found) c.frame.result.now c.deref.result.now c.field.result.now c.args.verdict c.args.word.now c.args.rounds c.read-decided.result c.settle.result
+      settles_by old c.settle.new.self c.self.inside.reader c.read-decided.new.self c.self.inside.soft.items c.self.inside.bytes.items c.self.invariant c.args.found c.frame.result.now c.deref.result.now c.field.result.now c.args.verdict c.args.word.now c.args.rounds c.read-decided.result c.settle.result
       found c.requires.frame c.frame.ensures.is c.deref.ensures.value c.field.ensures c.read-decided.ensures.decides c.settle.ensures.settles
 
 pub invariant_of-self : goal.invariant_of-self
-invariant_of-self g c =
-    let by = by_bits g c None in
+invariant_of-self c =
+    let by = by_bits c None in
     settled _ _ _ _ _ _ c.self.invariant c.read-decided.ensures.same by.same by.none
 
 pub returns-clause-settles : goal.returns-clause-settles
-returns-clause-settles g c = λ certificate.
-    subst (λ (r : Replayer). Settles r.follower (g.F.Follow.value c.settle.new.self) (g.F.Follow.next c.args.found) (decision_on r.follower.sought.mode r.number r.options r.follower.frame c.args.verdict c.args.word.now certificate c.args.rounds) c.settle.result)
-    c.self.view_is (by_bits g c certificate)
+returns-clause-settles c = λ certificate.
+    subst (λ (r : Replayer). Settles r.follower c.settle.new.self c.args.found (decision_on r.follower.sought.mode r.number r.options r.follower.frame c.args.verdict c.args.word.now certificate c.args.rounds) c.settle.result)
+    c.self.view_is (by_bits c certificate)
 
 pub returns-clause-same : goal.returns-clause-same
-returns-clause-same g c =
-    let by = by_bits g c None in
-    subst (λ (r : Replayer). IsSameReplayer r (record { number = c.read-decided.new.self.number; options = c.read-decided.new.self.options; follower = g.F.Follow.value c.settle.new.self; soft = c.self.inside.soft.items })) c.self.view_is (kept_same _ _ _ _ _ _ c.self.invariant c.read-decided.ensures.same by.same)
+returns-clause-same c =
+    let by = by_bits c None in
+    subst (λ (r : Replayer). IsSameReplayer r (record { number = c.read-decided.new.self.number; options = c.read-decided.new.self.options; follower = c.settle.new.self; soft = c.self.inside.soft.items })) c.self.view_is (kept_same _ _ _ _ _ _ c.self.invariant c.read-decided.ensures.same by.same)
