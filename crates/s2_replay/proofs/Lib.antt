@@ -5,3 +5,4 @@ pub mod RunLemmas
 pub mod ReplayerLemmas
 pub mod AuditLemmas
 pub mod OwnReports
+pub mod BorneOut

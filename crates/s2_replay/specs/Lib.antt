@@ -6,4 +6,5 @@ pub mod Replay
 pub mod Running
 pub mod Replayers
 pub mod Auditing
+pub mod Frames
 pub mod Laws

@@ -1,0 +1,95 @@
+//! The audit of one frame: what shows its bits, and its line.
+ghost use Rattle.std.specs.Prelude.{◌≡◌, IfOk, None, Some, length};
+ghost use Rattle.s2_mode.specs.Mode.{n_of};
+ghost use Rattle.s2_mode.specs.Shape.{code_bits};
+ghost use Rattle.s2_matrix.specs.Code.{code_of};
+ghost use Rattle.s2_replay.specs.Frames.{AuditsFrame, ComparesLine, HoldsSoft, terms_of};
+ghost use Rattle.s2_replay.specs.Replayers.{IsFrame, IsSameReplayer};
+
+use crate::certificates::{Refusal, Shown, read_certificate};
+use crate::lines::is_line_of;
+use crate::replayer::Replayer;
+use crate::verdicts::parity_verdict;
+use s2_bits::Bits;
+use s2_check::Verdict;
+use s2_matrix::Matrix;
+use s2_receive::Next;
+use s2_report::Step;
+use std::alloc::{AllocError, Global};
+
+/// The audit of a frame.
+#[derive(Clone, Copy)]
+pub enum Audited {
+    /// The report has the receiver's own line. The verdict that is shown, and with a certificate the cost of the bits.
+    Told { verdict: Verdict, cost: Option<i64> },
+    /// The report has another line than that of this step.
+    Differs(Step),
+    /// The certificate shows nothing. The frame is not settled.
+    Refused(Refusal),
+}
+
+impl Replayer {
+    /// Whether a line of a report is that of this step, the last one.
+    fn compared(&self, step: Step, line: &[u8], verdict: Verdict, cost: Option<i64>) -> Audited
+        ensures { ComparesLine self.now.follower step line.now verdict cost result }
+    {
+        if is_line_of(step, self.totals(), line) {
+            Audited::Told { verdict, cost }
+        } else {
+            Audited::Differs(step)
+        }
+    }
+
+    /// Audits a frame that was found, by the bytes of its certificate: `word` gets its bits. Its line in the report is given without
+    /// its LF, and `rounds` is what this line says of the rounds of min-sum. `AllocError` only if memory does not suffice.
+    pub fn audit_certified(
+        &mut self,
+        alloc: Global,
+        matrix: &Matrix,
+        found: Next,
+        block: &[u8],
+        rounds: u32,
+        word: &mut Bits,
+        line: &[u8],
+    ) -> Result<Audited, AllocError>
+        requires found { self.old.follower.found ≡ Some found }
+        requires frame { IsFrame found }
+        requires soft { HoldsSoft self.old }
+        requires rows { code_bits matrix.now.shape ≡ n_of self.old.follower.sought.mode }
+        requires word { length word.old ≡ n_of self.old.follower.sought.mode }
+        ensures audits { IfOk result (AuditsFrame (terms_of matrix.now self.old) self.old.follower self.new.follower found (Some block.now) self.old.soft line.now) }
+        ensures same { IsSameReplayer self.old self.new }
+        ensures long { length word.new ≡ length word.old }
+    {
+        let shown = read_certificate(alloc, matrix, block, self.soft(), word)?;
+        match shown {
+            Shown::Refused(refusal) => Ok(Audited::Refused(refusal)),
+            Shown::Word { verdict, cost } => {
+                let step = self.settle(found, verdict, rounds, word);
+                Ok(self.compared(step, line, verdict, Some(cost)))
+            }
+        }
+    }
+
+    /// Audits a frame that was found, by the bits of its codeword, whose verdict the parity checks show.
+    pub fn audit_recorded(
+        &mut self,
+        matrix: &Matrix,
+        found: Next,
+        rounds: u32,
+        word: &Bits,
+        line: &[u8],
+    ) -> Audited
+        requires found { self.old.follower.found ≡ Some found }
+        requires frame { IsFrame found }
+        requires soft { HoldsSoft self.old }
+        requires rows { (code_of matrix.now).bits ≡ n_of self.old.follower.sought.mode }
+        requires word { length word.now ≡ n_of self.old.follower.sought.mode }
+        ensures audits { AuditsFrame (terms_of matrix.now self.old) self.old.follower self.new.follower found None self.old.soft line.now result }
+        ensures same { IsSameReplayer self.old self.new }
+    {
+        let verdict = parity_verdict(matrix, word);
+        let step = self.settle(found, verdict, rounds, word);
+        self.compared(step, line, verdict, None)
+    }
+}
