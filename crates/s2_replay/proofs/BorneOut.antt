@@ -1,5 +1,5 @@
 -- Decisions that are borne out.
-use Rattle.std.proofs.Common.{◌≡◌, ◌⊎◌, ℕ, ℤ, Bool, List, Option, Some, None, Result, Ok, Err, refl, sym, ap, subst, ◌∙◌, inl, inr}
+use Rattle.std.proofs.Common.{◌≡◌, ℕ, ℤ, Bool, List, Option, Some, None, Result, Ok, Err, refl, sym, subst, ◌∙◌, inl, inr}
 use Rattle.s2_mode.specs.Mode.{Mode}
 use Rattle.s2_mode.specs.declared.symbols.Symbol.{Symbol}
 use Rattle.s2_rows.specs.Rows.{Rows}
@@ -11,15 +11,13 @@ use Rattle.s2_check.specs.Views.{View}
 use Rattle.s2_check.specs.declared.verdict.Verdict.{Verdict}
 use Rattle.s2_bch.specs.Decoding.{nearest}
 use Rattle.s2_report.specs.declared.report.Step.{Step}
-use Rattle.s2_receive.specs.Halves.{Follower, Settles}
+use Rattle.s2_receive.specs.Halves.{Follower}
 use Rattle.s2_receive.specs.Receiving.{Decision}
 use Rattle.s2_receive.specs.declared.window.Next.{Next}
 use Rattle.s2_message.specs.Decisions.{received_word, soft_frame, word_decision}
-use Rattle.s2_message.specs.declared.options.FrameOptions.{FrameOptions}
 use Rattle.s2_replay.specs.Certificates.{Certifies, IsParityVerdict, Shows, ShowsParsed}
-use Rattle.s2_replay.specs.Frames.{AuditsFrame, ComparesLine, IsShownBy, SettlesBy, terms_of}
+use Rattle.s2_replay.specs.Frames.{AuditsFrame, ComparesLine, SettlesBy}
 use Rattle.s2_replay.specs.Replay.{IsBorneOut, IsBorneOutBy, Terms, decision_on}
-use Rattle.s2_replay.specs.Replayers.{Replayer}
 use Rattle.s2_replay.specs.declared.certificates.Shown.TheVariants.{Word}
 use Rattle.s2_replay.specs.declared.frames.Audited.{Audited}
 use Rattle.s2_replay.specs.declared.frames.Audited.TheVariants.{Told, Differs, Refused}

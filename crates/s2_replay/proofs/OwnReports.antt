@@ -1,12 +1,12 @@
 -- A receiver's own report.
-use Rattle.std.proofs.Common.{◌≡◌, ℕ, List, [], ◌∷◌, ap, subst, sym}
+use Rattle.std.proofs.Common.{◌≡◌, ℕ, List, [], ◌∷◌, subst, sym}
 use Rattle.s2_mode.specs.declared.symbols.Symbol.{Symbol}
 use Rattle.s2_receive.specs.Meeting.{Met, frame, cut, ended}
 use Rattle.s2_receive.specs.Receiving.{Decision, Rules, Standing, after, at_start}
-use Rattle.s2_receive.specs.Halves.{IsRunBy, RunsBy, deciding, met_behind}
+use Rattle.s2_receive.specs.Halves.{RunsBy, deciding, met_behind}
 use Rattle.s2_receive.proofs.OwnRuns.{own_run}
 use Rattle.s2_replay.specs.Laws.{OwnReportLaw}
-use Rattle.s2_replay.specs.Replay.{IsBorneOut, Terms, rules_for}
+use Rattle.s2_replay.specs.Replay.{IsBorneOut, rules_for}
 
 -- a run by decisions of which more is known, whatever else the rules would decide
 module _ (Old New : List Symbol → Decision → Type 0) (may : (symbols : List Symbol) (d : Decision) → Old symbols d → New symbols d) (rules : Rules) (decide : List Symbol → Decision) (recording : List Symbol) where

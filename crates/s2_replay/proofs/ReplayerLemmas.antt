@@ -1,5 +1,5 @@
 -- A replayer's two halves.
-use Rattle.std.proofs.Common.{◌≡◌, ℕ, ◌*◌, ℤ, Bool, List, [], Option, Some, None, refl, sym, ap, subst, ◌∙◌}
+use Rattle.std.proofs.Common.{◌≡◌, ℕ, ◌*◌, ℤ, Bool, List, Option, Some, None, refl, sym, ap, subst, ◌∙◌}
 use Rattle.s2_mode.specs.Mode.{n_of, symbols_in}
 use Rattle.s2_mode.specs.declared.symbols.Symbol.{Symbol}
 use Rattle.s2_check.specs.Views.{View}
@@ -12,10 +12,10 @@ use Rattle.s2_receive.specs.declared.decider.Decided.{Decided}
 use Rattle.s2_receive.specs.declared.window.Next.{Next}
 use Rattle.s2_receive.specs.declared.window.Next.TheVariants as next
 use Rattle.s2_message.specs.Decisions.{decision_with}
-use Rattle.s2_message.specs.Reading.{DecidesBy, FrameReader, IsSameReader, decision_held}
+use Rattle.s2_message.specs.Reading.{DecidesBy, FrameReader, IsSameReader}
 use Rattle.s2_receive.specs.Halves.{Follower, IsSameFollower, Says, Settles}
-use Rattle.s2_replay.specs.Replay.{claimed_decision, decision_on}
-use Rattle.s2_replay.specs.Replayers.{HasSoft, IfFrame, IsFrame, IsReplayer, IsSameReplayer, Replayer}
+use Rattle.s2_replay.specs.Replay.{decision_on}
+use Rattle.s2_replay.specs.Replayers.{HasSoft, IfFrame, IsFrame, IsReplayer, IsSameReplayer}
 
 -- what holds of a frame that was found
 if_frame : (P : Type 0) (n : Option Next) (found : Next) → n ≡ Some found → IsFrame found → IfFrame n P → P

@@ -1,5 +1,5 @@
 -- A run of the receiver over a recording, step by step.
-use Rattle.std.proofs.Common.{◌≡◌, ◌≢◌, ◌⊎◌, ℕ, ◌+◌, ◌-◌, ◌*◌, ◌/◌, ◌<◌, ◌≤◌, ◌&&◌, Bool, true, false, nat_eq, List, [], ◌∷◌, ◌++◌, Option, Some, None, length, refl, sym, ap, subst, ◌∙◌, append_assoc, append-nil, arith, inl, inr}
+use Rattle.std.proofs.Common.{◌≡◌, ◌≢◌, ℕ, ◌+◌, ◌-◌, ◌*◌, ◌/◌, ◌<◌, ◌≤◌, ◌&&◌, Bool, true, false, nat_eq, List, [], ◌∷◌, ◌++◌, Option, Some, None, length, refl, sym, ap, subst, ◌∙◌, append_assoc, append-nil, arith, inl, inr}
 use Rattle.std.proofs.Math.Nat.{min-le_left}
 use Rattle.std.proofs.lemmas.Bool.{cases_eq, eq-eqb, eqb-true}
 use Rattle.std.specs.Io.KnownBytes.{Consumes, IsAtEnd}
@@ -15,10 +15,10 @@ use Rattle.s2_receive.specs.declared.report.Phase.{Phase}
 use Rattle.s2_receive.specs.declared.report.Phase.TheVariants as phases
 use Rattle.s2_receive.specs.declared.window.Next.{Next}
 use Rattle.s2_receive.proofs.SymbolLists.{count_symbols, yields}
-use Rattle.s2_receive.specs.Halves.{Follower, IsRunBy, IsShown, RunSoFar, RunsBy, Seeks, SeeksBy, Settles, ahead, asked_of, decision_if, rules_with, wanted_by}
+use Rattle.s2_receive.specs.Halves.{Follower, IsRunBy, IsShown, RunsBy, Seeks, SeeksBy, Settles, ahead, asked_of, decision_if, rules_with, wanted_by}
 use Rattle.s2_replay.specs.Replay.{IsBorneOut, Terms, rules_for}
 use Rattle.s2_replay.specs.Running.{GoesOn, IsBy, IsNearer, RanIn, RanOut, RanTo}
-use Rattle.s2_receive.proofs.RunsSoFar.{run_begins, run_seeks, run_settles, run_ends}
+use Rattle.s2_receive.proofs.RunsSoFar.{run_begins, run_seeks, run_settles}
 
 front_nil : (xs ys : List ℕ) → xs ++ ys ≡ [] → (xs ≡ []) × (ys ≡ [])
 front_nil [] ys none = (refl, none)

@@ -1,5 +1,5 @@
 -- What a certificate shows about the soft values of a frame, and what bits show by themselves (own).
-use Rattle.std.specs.Prelude.{◌≡◌, ◌≢◌, ◌⊎◌, ℕ, ℤ, Bool, List, codes, Result, Ok, Err}
+use Rattle.std.specs.Prelude.{◌≡◌, ◌≢◌, ◌⊎◌, ℕ, ℤ, Bool, List, Result, Ok, Err}
 use Rattle.s2_rows.specs.Rows.{Rows}
 use Rattle.s2_matrix.specs.Code.{code_of, IsCodeword}
 use Rattle.s2_certfile.specs.File.{File}
@@ -12,7 +12,6 @@ use Rattle.s2_check.specs.Strict.{IsStrict}
 use Rattle.s2_check.specs.Views.{View}
 use Rattle.s2_check.specs.declared.verdict.Verdict.{Verdict}
 use Rattle.s2_check.specs.declared.verdict.Verdict.TheVariants.{Sole, MostLikely, Parity, Broken}
-use Rattle.s2_replay.specs.declared.certificates.Refusal.{Refusal}
 use Rattle.s2_replay.specs.declared.certificates.Refusal.TheVariants as refusals
 use Rattle.s2_replay.specs.declared.certificates.Shown.{Shown}
 use Rattle.s2_replay.specs.declared.certificates.Shown.TheVariants.{Word, Refused}

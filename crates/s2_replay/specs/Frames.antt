@@ -4,7 +4,6 @@ use Rattle.s2_rows.specs.Rows.{Rows}
 use Rattle.s2_certfile.specs.File.{File}
 use Rattle.s2_certfile.specs.Format.{file_of_bytes}
 use Rattle.s2_check.specs.CertificateFiles.{view_of}
-use Rattle.s2_check.specs.Cost.{cost}
 use Rattle.s2_check.specs.declared.verdict.Verdict.{Verdict}
 use Rattle.s2_report.specs.ReportLines.{step_line}
 use Rattle.s2_report.specs.declared.report.Step.{Step}

@@ -1,5 +1,5 @@
 -- A replayer: a follower whose decisions are found by given bits (own).
-use Rattle.std.specs.Prelude.{◌≡◌, ℕ, ◌*◌, Bool, List, length, Option, Some, None, ℤ, ⊤}
+use Rattle.std.specs.Prelude.{◌≡◌, ℕ, ◌*◌, List, length, Option, Some, ℤ, ⊤}
 use Rattle.s2_mode.specs.Mode.{n_of, symbols_in}
 use Rattle.s2_mode.specs.declared.symbols.Symbol.{Symbol}
 use Rattle.s2_plframe.specs.Turns.{sought_of}

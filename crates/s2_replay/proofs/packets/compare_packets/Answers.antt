@@ -1,4 +1,4 @@
-use Rattle.std.proofs.Common.{◌≡◌, ◌+◌, ◌*◌, ◌≤◌, true, false, length, rules, arith, subst}
+use Rattle.std.proofs.Common.{◌≡◌, ◌+◌, ◌*◌, ◌≤◌, true, false, length, rules, subst}
 use Rattle.s2_bbframe.specs.Limits.{packet_bytes}
 use Rattle.s2_replay.specs.Packets.{Gives}
 use Rattle.s2_replay.proofs.PacketLemmas.{given_more, given_other}

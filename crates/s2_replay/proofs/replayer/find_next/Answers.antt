@@ -1,5 +1,4 @@
-use Rattle.std.proofs.Common.{◌≡◌, ◌∙◌, None, inr, rules, subst, sym}
-use Rattle.s2_receive.specs.Halves.{Seeks}
+use Rattle.std.proofs.Common.{◌≡◌, ◌∙◌, None, inr, rules, sym}
 use Rattle.s2_replay.proofs.replayer.find_next.Goals as goal
 
 pub returns-then-room-eq0-clause-reads : goal.returns-then-room-eq0-clause-reads

@@ -1,4 +1,4 @@
-use Rattle.std.proofs.Common.{◌<◌, rules, arith, subst, sym, ◌∙◌}
+use Rattle.std.proofs.Common.{◌<◌, rules, subst, sym, ◌∙◌}
 use Rattle.s2_replay.proofs.RunLemmas.{comes_nearer, empty_seek, ran_on}
 use Rattle.s2_replay.proofs.replayer.read_on.Goals as goal
 

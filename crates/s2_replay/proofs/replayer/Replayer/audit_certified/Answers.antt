@@ -1,9 +1,8 @@
-use Rattle.std.proofs.Common.{None, Some, sym, subst, ◌∙◌}
+use Rattle.std.proofs.Common.{Some, subst, ◌∙◌}
 use Rattle.s2_check.specs.CertificateFiles.{view_of}
 use Rattle.s2_replay.specs.Certificates.{Certifies, Shows}
 use Rattle.s2_replay.specs.Frames.{terms_of}
 use Rattle.s2_replay.specs.Replay.{decision_on}
-use Rattle.s2_replay.specs.declared.certificates.Shown.TheVariants.{Word}
 use Rattle.s2_replay.proofs.BorneOut.{audits_so, borne_certified, certificate_is, shown_block, verdict_is}
 use Rattle.s2_replay.proofs.replayer.Replayer.audit_certified.Goals as goal
 

@@ -1,5 +1,5 @@
-use Rattle.std.proofs.Common.{◌≡◌, [], ap, sym, subst, ◌∙◌}
-use Rattle.s2_receive.specs.Halves.{Says, Settles}
+use Rattle.std.proofs.Common.{subst}
+use Rattle.s2_receive.specs.Halves.{Settles}
 use Rattle.s2_replay.specs.Replay.{claimed_decision}
 use Rattle.s2_replay.specs.Replayers.{IsSameReplayer, Replayer}
 use Rattle.s2_replay.proofs.ReplayerLemmas.{kept_same, same_reader, settled}

@@ -1,4 +1,4 @@
-use Rattle.std.proofs.Common.{◌≡◌, Option, Some, None, ap, sym, subst, ◌∙◌}
+use Rattle.std.proofs.Common.{Option, None, ap, subst, ◌∙◌}
 use Rattle.s2_check.specs.Views.{View}
 use Rattle.s2_receive.specs.Halves.{Settles}
 use Rattle.s2_replay.specs.Replay.{decision_on}
