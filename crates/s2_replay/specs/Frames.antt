@@ -1,22 +1,27 @@
 -- The audit of one frame: what shows its bits, and its line (own).
-use Rattle.std.specs.Prelude.{◌≡◌, ℕ, ℤ, List, [], ◌∷◌, ◌++◌, Option, Some, None, Ok}
+use Rattle.std.specs.Prelude.{◌≡◌, ◌↔◌, ℕ, ℤ, Bool, true, false, IsTrue, List, [], ◌∷◌, ◌++◌, Option, Some, None, Ok}
 use Rattle.s2_rows.specs.Rows.{Rows}
 use Rattle.s2_certfile.specs.File.{File}
 use Rattle.s2_certfile.specs.Format.{file_of_bytes}
 use Rattle.s2_check.specs.CertificateFiles.{view_of}
 use Rattle.s2_check.specs.declared.verdict.Verdict.{Verdict}
+use Rattle.s2_check.specs.declared.verdict.Verdict.TheVariants.{Broken}
 use Rattle.s2_report.specs.ReportLines.{step_line}
 use Rattle.s2_report.specs.declared.report.Step.{Step}
+use Rattle.s2_report.specs.declared.totals.Totals.{Totals}
 use Rattle.s2_receive.specs.Receiving.{Decision}
 use Rattle.s2_receive.specs.Halves.{Follower, Settles}
 use Rattle.s2_receive.specs.declared.window.Next.{Next}
+use Rattle.s2_receive.specs.declared.window.Next.TheVariants as next
 use Rattle.s2_message.specs.Decisions.{soft_frame}
 use Rattle.s2_replay.specs.Certificates.{Shows}
-use Rattle.s2_replay.specs.Replay.{IsBorneOut, Terms}
+use Rattle.s2_replay.specs.Lines.{BeginsWith, counted_words}
+use Rattle.s2_replay.specs.Replay.{IsBorneOut, Terms, claimed_decision}
 use Rattle.s2_replay.specs.Replayers.{Replayer}
 use Rattle.s2_replay.specs.declared.certificates.Shown.TheVariants as shown
 use Rattle.s2_replay.specs.declared.frames.Audited.{Audited}
 use Rattle.s2_replay.specs.declared.frames.Audited.TheVariants.{Told, Differs, Refused}
+use Rattle.s2_replay.specs.declared.frames.AuditedLast.{AuditedLast}
 
 -- the terms of a replayer, with the rows of a code
 abbrev pub terms_of : Rows → Replayer → Terms
@@ -62,3 +67,18 @@ AuditsFrame t old new found block soft line (Told verdict paid) =
 AuditsFrame t old new found block soft line (Differs step) = (d : Decision) × SettlesBy t old new found block d step × ¬ IsOwnLine new step line
 AuditsFrame t old new found (Some block) soft line (Refused refusal) = Shows t.rows soft [] block (shown.Refused refusal) × (new ≡ old)
 AuditsFrame t old new found None soft line (Refused refusal) = ⊥
+
+-- ---- a cut frame, and the end
+
+-- The line of a cut frame or of the end, with these totals. After a frame whose bits are not known, only the number of frames is
+-- compared at the end
+abbrev pub IsLastOf : Next → (known : Bool) → Step → Totals → (line : List ℕ) → Type 0
+IsLastOf (next.End at skipped) false step t line = BeginsWith (counted_words t.frames) line
+IsLastOf (next.End at skipped) true step t line = step_line step t ≡ line ++ 10 ∷ []
+IsLastOf (next.Cut at skipped count) known step t line = step_line step t ≡ line ++ 10 ∷ []
+IsLastOf (next.Frame at skipped) known step t line = step_line step t ≡ line ++ 10 ∷ []
+
+-- what was found is settled without a decision, and its line is this one, or not
+pub record AuditsLast (old new : Follower) (found : Next) (known : Bool) (line : List ℕ) (last : AuditedLast) : Type 0 where
+  pub settles : Settles old new found (claimed_decision Broken true) last.step
+  pub told : IsTrue last.told ↔ IsLastOf found known last.step new.state.standing.totals line

@@ -1,20 +1,20 @@
 //! The audit of one frame: what shows its bits, and its line.
-ghost use Rattle.std.specs.Prelude.{◌≡◌, IfOk, None, Some, length};
+ghost use Rattle.std.specs.Prelude.{◌≡◌, ◌↔◌, IfOk, IsTrue, None, Some, length};
 ghost use Rattle.s2_mode.specs.Mode.{n_of};
 ghost use Rattle.s2_mode.specs.Shape.{code_bits};
 ghost use Rattle.s2_matrix.specs.Code.{code_of};
-ghost use Rattle.s2_replay.specs.Frames.{AuditsFrame, ComparesLine, HoldsSoft, terms_of};
+ghost use Rattle.s2_replay.specs.Frames.{AuditsFrame, AuditsLast, ComparesLine, HoldsSoft, IsLastOf, terms_of};
 ghost use Rattle.s2_replay.specs.Replayers.{IsFrame, IsSameReplayer};
 
 use crate::certificates::{Refusal, Shown, read_certificate};
-use crate::lines::is_line_of;
+use crate::lines::{is_counted_line, is_line_of};
 use crate::replayer::Replayer;
 use crate::verdicts::parity_verdict;
 use s2_bits::Bits;
 use s2_check::Verdict;
 use s2_matrix::Matrix;
 use s2_receive::Next;
-use s2_report::Step;
+use s2_report::{Step, Totals};
 use std::alloc::{AllocError, Global};
 
 /// The audit of a frame.
@@ -26,6 +26,23 @@ pub enum Audited {
     Differs(Step),
     /// The certificate shows nothing. The frame is not settled.
     Refused(Refusal),
+}
+
+/// The audit of a cut frame, or of the end: its step, and whether the report has its line.
+#[derive(Clone, Copy)]
+pub struct AuditedLast {
+    pub step: Step,
+    pub told: bool,
+}
+
+/// Whether a line of a report is that of this step, a cut frame or the end.
+fn is_last_line(found: Next, known: bool, step: Step, totals: Totals, line: &[u8]) -> bool
+    ensures { IsTrue result ↔ IsLastOf found known step totals line.now }
+{
+    match found {
+        Next::End { .. } if !known => is_counted_line(totals.frames, line),
+        _ => is_line_of(step, totals, line),
+    }
 }
 
 impl Replayer {
@@ -91,5 +108,19 @@ impl Replayer {
         let verdict = parity_verdict(matrix, word);
         let step = self.settle(found, verdict, rounds, word);
         self.compared(step, line, verdict, None)
+    }
+
+    /// Audits what was found after the last frame: a cut frame, or the end. `known` tells whether the decided bits of all frames are
+    /// known. If not, only the number of frames of the end line is compared.
+    pub fn audit_last(&mut self, found: Next, known: bool, line: &[u8]) -> AuditedLast
+        requires found { self.old.follower.found ≡ Some found }
+        ensures audits { AuditsLast self.old.follower self.new.follower found known line.now result }
+        ensures same { IsSameReplayer self.old self.new }
+    {
+        let step = self.claim(found, Verdict::Broken, true);
+        AuditedLast {
+            step,
+            told: is_last_line(found, known, step, self.totals(), line),
+        }
     }
 }
