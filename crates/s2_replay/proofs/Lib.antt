@@ -6,3 +6,4 @@ pub mod ReplayerLemmas
 pub mod AuditLemmas
 pub mod OwnReports
 pub mod BorneOut
+pub mod ClaimLemmas

@@ -8,6 +8,7 @@ use Rattle.s2_check.specs.declared.verdict.Verdict.{Verdict}
 use Rattle.s2_check.specs.declared.verdict.Verdict.TheVariants.{Broken}
 use Rattle.s2_report.specs.ReportLines.{step_line}
 use Rattle.s2_report.specs.declared.report.Step.{Step}
+use Rattle.s2_report.specs.declared.report.Step.TheVariants as steps
 use Rattle.s2_report.specs.declared.totals.Totals.{Totals}
 use Rattle.s2_receive.specs.Receiving.{Decision}
 use Rattle.s2_receive.specs.Halves.{Follower, Settles}
@@ -15,12 +16,13 @@ use Rattle.s2_receive.specs.declared.window.Next.{Next}
 use Rattle.s2_receive.specs.declared.window.Next.TheVariants as next
 use Rattle.s2_message.specs.Decisions.{soft_frame}
 use Rattle.s2_replay.specs.Certificates.{Shows}
-use Rattle.s2_replay.specs.Lines.{BeginsWith, counted_words}
+use Rattle.s2_replay.specs.Lines.{BeginsWith, claimed_words, counted_words}
 use Rattle.s2_replay.specs.Replay.{IsBorneOut, Terms, claimed_decision}
 use Rattle.s2_replay.specs.Replayers.{Replayer}
 use Rattle.s2_replay.specs.declared.certificates.Shown.TheVariants as shown
 use Rattle.s2_replay.specs.declared.frames.Audited.{Audited}
 use Rattle.s2_replay.specs.declared.frames.Audited.TheVariants.{Told, Differs, Refused}
+use Rattle.s2_replay.specs.declared.frames.AuditedClaim.{AuditedClaim}
 use Rattle.s2_replay.specs.declared.frames.AuditedLast.{AuditedLast}
 
 -- the terms of a replayer, with the rows of a code
@@ -82,3 +84,20 @@ IsLastOf (next.Frame at skipped) known step t line = step_line step t ≡ line +
 pub record AuditsLast (old new : Follower) (found : Next) (known : Bool) (line : List ℕ) (last : AuditedLast) : Type 0 where
   pub settles : Settles old new found (claimed_decision Broken true) last.step
   pub told : IsTrue last.told ↔ IsLastOf found known last.step new.state.standing.totals line
+
+-- ---- a frame on the report's word
+
+-- the number and the position of a frame
+abbrev pub ClaimsStep : Step → (number at : ℕ) → Type 0
+ClaimsStep (steps.Frame report) number at = (report.number ≡ number) × (report.at ≡ at)
+ClaimsStep step number at = ⊥
+
+-- A frame was settled on the report's word: its line says that it is lost, or that it is not. Or it is no line of this frame with
+-- this verdict
+pub record AuditsClaim (old new : Follower) (found : Next) (verdict : Verdict) (line : List ℕ) (claim : AuditedClaim) : Type 0 where
+  pub number : ℕ
+  pub at : ℕ
+  pub settles : Settles old new found (claimed_decision verdict claim.lost) claim.step
+  pub step_is : ClaimsStep claim.step number at
+  pub told : IsTrue claim.told ↔ BeginsWith (claimed_words number at verdict claim.lost) line
+  pub lost : IsTrue claim.lost ↔ BeginsWith (claimed_words number at verdict true) line

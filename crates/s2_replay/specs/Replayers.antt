@@ -30,6 +30,11 @@ abbrev pub IsFrame : Next → Type 0
 IsFrame (next.Frame at skipped) = ⊤
 IsFrame found = ⊥
 
+-- it is the frame at this position
+abbrev pub IsFrameAt : Next → (at : ℕ) → Type 0
+IsFrameAt (next.Frame place skipped) at = at ≡ place
+IsFrameAt found at = ⊥
+
 -- these are the soft values of the frame that was found, and the reader holds it
 pub record HasSoft (reader : FrameReader) (symbols : List Symbol) (soft : List ℤ) : Type 0 where
   pub held : HasFrame reader symbols

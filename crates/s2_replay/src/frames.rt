@@ -3,11 +3,11 @@ ghost use Rattle.std.specs.Prelude.{◌≡◌, ◌↔◌, IfOk, IsTrue, None, So
 ghost use Rattle.s2_mode.specs.Mode.{n_of};
 ghost use Rattle.s2_mode.specs.Shape.{code_bits};
 ghost use Rattle.s2_matrix.specs.Code.{code_of};
-ghost use Rattle.s2_replay.specs.Frames.{AuditsFrame, AuditsLast, ComparesLine, HoldsSoft, IsLastOf, terms_of};
-ghost use Rattle.s2_replay.specs.Replayers.{IsFrame, IsSameReplayer};
+ghost use Rattle.s2_replay.specs.Frames.{AuditsClaim, AuditsFrame, AuditsLast, ComparesLine, HoldsSoft, IsLastOf, terms_of};
+ghost use Rattle.s2_replay.specs.Replayers.{IsFrame, IsFrameAt, IsSameReplayer};
 
 use crate::certificates::{Refusal, Shown, read_certificate};
-use crate::lines::{is_counted_line, is_line_of};
+use crate::lines::{is_claimed_line, is_counted_line, is_line_of};
 use crate::replayer::Replayer;
 use crate::verdicts::parity_verdict;
 use s2_bits::Bits;
@@ -26,6 +26,15 @@ pub enum Audited {
     Differs(Step),
     /// The certificate shows nothing. The frame is not settled.
     Refused(Refusal),
+}
+
+/// The audit of a frame on the report's word: its step, whether its line says that it is lost, and whether the report has a line
+/// of it.
+#[derive(Clone, Copy)]
+pub struct AuditedClaim {
+    pub step: Step,
+    pub lost: bool,
+    pub told: bool,
 }
 
 /// The audit of a cut frame, or of the end: its step, and whether the report has its line.
@@ -108,6 +117,30 @@ impl Replayer {
         let verdict = parity_verdict(matrix, word);
         let step = self.settle(found, verdict, rounds, word);
         self.compared(step, line, verdict, None)
+    }
+
+    /// Audits a frame whose bits are not known. Its number, its position and this verdict are compared with its line, which also says
+    /// whether it is lost.
+    pub fn audit_claimed(
+        &mut self,
+        found: Next,
+        at: u64,
+        verdict: Verdict,
+        line: &[u8],
+    ) -> AuditedClaim
+        requires found { self.old.follower.found ≡ Some found }
+        requires frame { IsFrameAt found at }
+        ensures audits { AuditsClaim self.old.follower self.new.follower found verdict line.now result }
+        ensures same { IsSameReplayer self.old self.new }
+    {
+        let number = self.totals().frames.saturating_add(1);
+        let lost = is_claimed_line(number, at, verdict, true, line);
+        let step = self.claim(found, verdict, lost);
+        let told = match step {
+            Step::Frame(report) => is_claimed_line(report.number, report.at, verdict, lost, line),
+            Step::Cut { .. } | Step::End => false,
+        };
+        AuditedClaim { step, lost, told }
     }
 
     /// Audits what was found after the last frame: a cut frame, or the end. `known` tells whether the decided bits of all frames are

@@ -34,7 +34,7 @@ mod verdicts;
 
 pub use certificates::{Refusal, Shown, read_certificate};
 pub use codewords::read_codeword;
-pub use frames::{Audited, AuditedLast};
+pub use frames::{Audited, AuditedClaim, AuditedLast};
 pub use lines::{is_claimed_line, is_counted_line, is_line_of};
 pub use packets::compare_packets;
 pub use replayer::Replayer;
