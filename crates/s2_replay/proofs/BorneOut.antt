@@ -1,6 +1,6 @@
 -- Decisions that are borne out.
-use Rattle.std.proofs.Common.{◌≡◌, ℕ, ℤ, Bool, List, Option, Some, None, Result, Ok, Err, refl, sym, subst, ◌∙◌, inl, inr}
-use Rattle.s2_mode.specs.Mode.{Mode}
+use Rattle.std.proofs.Common.{◌≡◌, ◌⊎◌, ◌∙◌, ℕ, ℤ, Bool, true, false, if◌then◌else◌, List, [], ◌∷◌, length, arith, Option, Some, None, Result, Ok, Err, refl, sym, ap, subst, inl, inr}
+use Rattle.s2_mode.specs.Mode.{Mode, n_of}
 use Rattle.s2_mode.specs.declared.symbols.Symbol.{Symbol}
 use Rattle.s2_rows.specs.Rows.{Rows}
 use Rattle.s2_certfile.specs.File.{File}
@@ -17,10 +17,23 @@ use Rattle.s2_receive.specs.declared.window.Next.{Next}
 use Rattle.s2_message.specs.Decisions.{received_word, soft_frame, word_decision}
 use Rattle.s2_replay.specs.Certificates.{Certifies, IsParityVerdict, Shows, ShowsParsed}
 use Rattle.s2_replay.specs.Frames.{AuditsFrame, ComparesLine, SettlesBy}
-use Rattle.s2_replay.specs.Replay.{IsBorneOut, IsBorneOutBy, Terms, decision_on}
+use Rattle.s2_replay.specs.Replay.{IsBorneOut, IsBorneOutBy, Terms, are_known, decision_on, is_known}
 use Rattle.s2_replay.specs.declared.certificates.Shown.TheVariants.{Word}
 use Rattle.s2_replay.specs.declared.frames.Audited.{Audited}
 use Rattle.s2_replay.specs.declared.frames.Audited.TheVariants.{Told, Differs, Refused}
+
+-- the bits of a codeword are known
+abbrev size_of : Bool → ℕ
+size_of short = if short then 16200 else 64800
+
+no_bit : (short : Bool) → length {A = Bool} [] ≡ size_of short → ⊥
+no_bit true none = absurd (omega (arith, none))
+no_bit false none = absurd (omega (arith, none))
+
+known_bits : (m : Mode) (bits : List Bool) → length bits ≡ n_of m → are_known bits ≡ true
+unfolding n_of
+known_bits m [] long = absurd (no_bit m.short long)
+known_bits m (bit ∷ bits) long = refl
 
 -- the verdict, the bits and the certificate of a decision are those by which it was made
 made_by : (m : Mode) (soft : List ℤ) (verdict : Verdict) (bits : List Bool) (certificate : Option View) (x : Option (List Bool))
@@ -44,6 +57,9 @@ module _ (t : Terms) (symbols : List Symbol) (verdict : Verdict) (bits : List Bo
 
     pub verdict_is : made.verdict ≡ verdict
     verdict_is = parts.0
+
+    pub known_is : length bits ≡ n_of t.mode → is_known made ≡ true
+    known_is long = ap are_known parts.1 ∙ known_bits t.mode bits long
 
     pub certificate_is : made.certificate ≡ certificate
     certificate_is = parts.2

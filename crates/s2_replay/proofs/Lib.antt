@@ -7,3 +7,5 @@ pub mod AuditLemmas
 pub mod OwnReports
 pub mod BorneOut
 pub mod ClaimLemmas
+pub mod OwnWords
+pub mod Told

@@ -17,7 +17,7 @@ use Rattle.s2_receive.specs.declared.window.Next.TheVariants as next
 use Rattle.s2_message.specs.Decisions.{soft_frame}
 use Rattle.s2_replay.specs.Certificates.{Shows}
 use Rattle.s2_replay.specs.Lines.{BeginsWith, claimed_words, counted_words}
-use Rattle.s2_replay.specs.Replay.{IsBorneOut, Terms, claimed_decision}
+use Rattle.s2_replay.specs.Replay.{IsBorneOut, Terms, claimed_decision, is_known}
 use Rattle.s2_replay.specs.Replayers.{Replayer}
 use Rattle.s2_replay.specs.declared.certificates.Shown.TheVariants as shown
 use Rattle.s2_replay.specs.declared.frames.Audited.{Audited}
@@ -45,8 +45,9 @@ abbrev pub IsShownBy : Rows → Decision → (block : Option (List ℕ)) → Typ
 IsShownBy rows d (Some block) = (file : File) × (file_of_bytes block ≡ Ok file) × (d.certificate ≡ Some (view_of rows file))
 IsShownBy rows d None = d.certificate ≡ None
 
--- a frame was settled by a decision that is borne out for it, with this verdict, by these bytes
+-- a frame was settled by a decision that is borne out for it by these bytes, or by no certificate; its bits are known
 pub record SettlesBy (t : Terms) (old new : Follower) (found : Next) (block : Option (List ℕ)) (d : Decision) (step : Step) : Type 0 where
+  pub known : is_known d ≡ true
   pub borne : IsBorneOut t old.frame d
   pub shown : IsShownBy t.rows d block
   pub settles : Settles old new found d step

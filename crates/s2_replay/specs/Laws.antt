@@ -1,17 +1,24 @@
 -- Laws of replays: a receiver's own report is one, and an audit in steps finds one out (own).
-use Rattle.std.specs.Prelude.{◌≡◌, ℕ, Bool, true, ◌&&◌, List, [], ◌∷◌, ◌++◌, Option, Some, None}
+use Rattle.std.specs.Prelude.{◌≡◌, ℕ, ◌+◌, ℤ, Bool, true, false, IsTrue, ◌&&◌, List, [], ◌∷◌, ◌++◌, Option, Some, None}
 use Rattle.s2_mode.specs.declared.symbols.Symbol.{Symbol}
-use Rattle.s2_report.specs.ReportLines.{step_line}
+use Rattle.s2_check.specs.Verdicts.{is_certified}
+use Rattle.s2_check.specs.declared.verdict.Verdict.{Verdict}
+use Rattle.s2_report.specs.ReportLines.{end_line, frame_line, step_line}
+use Rattle.s2_report.specs.declared.totals.Totals.{Totals}
 use Rattle.s2_report.specs.declared.report.Step.{Step}
-use Rattle.s2_receive.specs.Receiving.{Decision, begun}
+use Rattle.s2_receive.specs.Receiving.{Decision, begun, report_for}
 use Rattle.s2_receive.specs.Halves.{Follower, IsOwn, Settles}
 use Rattle.s2_receive.specs.declared.gap.Gap.{Gap}
 use Rattle.s2_receive.specs.declared.window.Next.{Next}
 use Rattle.s2_receive.specs.declared.window.Next.TheVariants as next
 use Rattle.s2_replay.specs.Auditing.{AuditedFrames, AuditedSoFar, ReplaysIn}
-use Rattle.s2_replay.specs.Replay.{AreLines, IsBorneOut, IsEndLine, IsFrameLine, IsReplay, Terms, is_known, rules_for}
-use Rattle.s2_replay.specs.Replayers.{IsFrame}
+use Rattle.s2_replay.specs.Frames.{AuditsClaim, AuditsFrame}
+use Rattle.s2_replay.specs.Lines.{BeginsWith, claimed_words, counted_words}
+use Rattle.s2_replay.specs.Replay.{AreLines, IsBorneOut, IsEndLine, IsFrameLine, IsReplay, Terms, claimed_decision, is_known, rules_for}
+use Rattle.s2_replay.specs.Replayers.{IsFrame, IsFrameAt}
 use Rattle.s2_replay.specs.Running.{GoesOn, IsBy}
+use Rattle.s2_replay.specs.declared.frames.Audited.TheVariants.{Told}
+use Rattle.s2_replay.specs.declared.frames.AuditedClaim.{AuditedClaim}
 
 -- The report of a receiver that decides by a rule is a replay, if each of its decisions is borne out
 abbrev pub OwnReportLaw : Type 0
@@ -53,3 +60,28 @@ AuditEndLaw =
     (t : Terms) (whole left left_new : Option (List ℕ)) (old mid new : Follower) (known : Bool) (decisions : List Decision) (lines : List (List ℕ)) (packets : List ℕ) (at : ℕ) (skipped : Gap) (d : Decision) (step : Step) (line : List ℕ)
     → AuditedFrames t whole left old known decisions lines packets → GoesOn old mid left left_new → mid.found ≡ Some (next.End at skipped) → Settles mid new (next.End at skipped) d step
     → IsBy t new → IsEndLine known (step_line step new.state.standing.totals) line → ReplaysIn t whole decisions (lines ++ line ∷ []) packets
+
+-- the receiver's own lines begin with what is compared of them
+pub record OwnWordsLaw : Type 0 where
+  pub claim : (t : Totals) (at : ℕ) (verdict : Verdict) (lost : Bool) → BeginsWith (claimed_words (t.frames + 1) at verdict lost) (frame_line (report_for (claimed_decision verdict lost) t at))
+  pub count : (t : Totals) → BeginsWith (counted_words t.frames) (end_line t)
+
+-- ---- the calls that audit
+
+-- a frame whose line is told is audited
+abbrev pub TellsFrameLaw : Type 0
+TellsFrameLaw =
+    (t : Terms) (whole left left_new : Option (List ℕ)) (old mid new : Follower) (known : Bool) (decisions : List Decision) (lines : List (List ℕ)) (packets : List ℕ)
+    (found : Next) (block : Option (List ℕ)) (soft : List ℤ) (line : List ℕ) (verdict : Verdict) (paid : Option ℤ)
+    → AuditedSoFar t whole left old known decisions lines packets → GoesOn old mid left left_new → mid.found ≡ Some found → IsFrame found
+    → AuditsFrame t mid new found block soft line (Told verdict paid)
+    → (d : Decision) × AuditedSoFar t whole left_new new known (decisions ++ d ∷ []) (lines ++ line ∷ []) (packets ++ new.packets)
+
+-- so is a frame on the report's word
+abbrev pub TellsClaimLaw : Type 0
+TellsClaimLaw =
+    (t : Terms) (whole left left_new : Option (List ℕ)) (old mid new : Follower) (known : Bool) (decisions : List Decision) (lines : List (List ℕ)) (packets : List ℕ)
+    (found : Next) (place : ℕ) (line : List ℕ) (verdict : Verdict) (claim : AuditedClaim)
+    → AuditedSoFar t whole left old known decisions lines packets → GoesOn old mid left left_new → mid.found ≡ Some found → IsFrameAt found place
+    → is_certified verdict ≡ false → AuditsClaim mid new found verdict line claim → IsTrue claim.told
+    → (d : Decision) × AuditedSoFar t whole left_new new false (decisions ++ d ∷ []) (lines ++ line ∷ []) (packets ++ new.packets)

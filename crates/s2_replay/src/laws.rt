@@ -1,5 +1,5 @@
 //! Laws about replays.
-ghost use Rattle.s2_replay.specs.Laws.{AuditBeginsLaw, AuditCutLaw, AuditEndLaw, AuditFrameLaw, AuditOverLaw, OwnReportLaw};
+ghost use Rattle.s2_replay.specs.Laws.{AuditBeginsLaw, AuditCutLaw, AuditEndLaw, AuditFrameLaw, AuditOverLaw, OwnReportLaw, OwnWordsLaw, TellsClaimLaw, TellsFrameLaw};
 
 /// The report of a receiver is accepted if each of its decisions is borne out: the receiver's own lines and packets are those of a
 /// replay by its decisions.
@@ -17,3 +17,17 @@ pub fn audits()
     ensures cut { AuditCutLaw }
     ensures end { AuditEndLaw }
 {}
+
+/// Of a frame whose bits are not known, and of the end after it, a part of the receiver's own line is compared.
+pub fn own_words()
+    ensures { OwnWordsLaw }
+{
+}
+
+/// A frame that is audited with the line that the report has ([`crate::Replayer::audit_certified`],
+/// [`crate::Replayer::audit_recorded`] or [`crate::Replayer::audit_claimed`]) is a step of an audit.
+pub fn tells()
+    ensures frame { TellsFrameLaw }
+    ensures claim { TellsClaimLaw }
+{
+}
