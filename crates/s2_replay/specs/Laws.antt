@@ -12,13 +12,14 @@ use Rattle.s2_receive.specs.declared.gap.Gap.{Gap}
 use Rattle.s2_receive.specs.declared.window.Next.{Next}
 use Rattle.s2_receive.specs.declared.window.Next.TheVariants as next
 use Rattle.s2_replay.specs.Auditing.{AuditedFrames, AuditedSoFar, ReplaysIn}
-use Rattle.s2_replay.specs.Frames.{AuditsClaim, AuditsFrame}
+use Rattle.s2_replay.specs.Frames.{AuditsClaim, AuditsFrame, AuditsLast}
 use Rattle.s2_replay.specs.Lines.{BeginsWith, claimed_words, counted_words}
 use Rattle.s2_replay.specs.Replay.{AreLines, IsBorneOut, IsEndLine, IsFrameLine, IsReplay, Terms, claimed_decision, is_known, rules_for}
 use Rattle.s2_replay.specs.Replayers.{IsFrame, IsFrameAt}
 use Rattle.s2_replay.specs.Running.{GoesOn, IsBy}
 use Rattle.s2_replay.specs.declared.frames.Audited.TheVariants.{Told}
 use Rattle.s2_replay.specs.declared.frames.AuditedClaim.{AuditedClaim}
+use Rattle.s2_replay.specs.declared.frames.AuditedLast.{AuditedLast}
 
 -- The report of a receiver that decides by a rule is a replay, if each of its decisions is borne out
 abbrev pub OwnReportLaw : Type 0
@@ -85,3 +86,19 @@ TellsClaimLaw =
     → AuditedSoFar t whole left old known decisions lines packets → GoesOn old mid left left_new → mid.found ≡ Some found → IsFrameAt found place
     → is_certified verdict ≡ false → AuditsClaim mid new found verdict line claim → IsTrue claim.told
     → (d : Decision) × AuditedSoFar t whole left_new new false (decisions ++ d ∷ []) (lines ++ line ∷ []) (packets ++ new.packets)
+
+-- after the last frame: a cut frame whose line is told
+abbrev pub TellsCutLaw : Type 0
+TellsCutLaw =
+    (t : Terms) (whole left left_new : Option (List ℕ)) (old mid new : Follower) (known : Bool) (decisions : List Decision) (lines : List (List ℕ)) (packets : List ℕ)
+    (at : ℕ) (skipped : Gap) (count : ℕ) (line : List ℕ) (last : AuditedLast)
+    → AuditedFrames t whole left old known decisions lines packets → GoesOn old mid left left_new → mid.found ≡ Some (next.Cut at skipped count)
+    → AuditsLast mid new (next.Cut at skipped count) known line last → IsTrue last.told → AuditedFrames t whole left_new new known decisions (lines ++ line ∷ []) packets
+
+-- and the end whose line is told: then report and packets are those of the receiver
+abbrev pub TellsEndLaw : Type 0
+TellsEndLaw =
+    (t : Terms) (whole left left_new : Option (List ℕ)) (old mid new : Follower) (known : Bool) (decisions : List Decision) (lines : List (List ℕ)) (packets : List ℕ)
+    (at : ℕ) (skipped : Gap) (line : List ℕ) (last : AuditedLast)
+    → AuditedFrames t whole left old known decisions lines packets → GoesOn old mid left left_new → mid.found ≡ Some (next.End at skipped) → IsBy t new
+    → AuditsLast mid new (next.End at skipped) known line last → IsTrue last.told → ReplaysIn t whole decisions (lines ++ line ∷ []) packets

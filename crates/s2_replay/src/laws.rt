@@ -1,5 +1,5 @@
 //! Laws about replays.
-ghost use Rattle.s2_replay.specs.Laws.{AuditBeginsLaw, AuditCutLaw, AuditEndLaw, AuditFrameLaw, AuditOverLaw, OwnReportLaw, OwnWordsLaw, TellsClaimLaw, TellsFrameLaw};
+ghost use Rattle.s2_replay.specs.Laws.{AuditBeginsLaw, AuditCutLaw, AuditEndLaw, AuditFrameLaw, AuditOverLaw, OwnReportLaw, OwnWordsLaw, TellsClaimLaw, TellsCutLaw, TellsEndLaw, TellsFrameLaw};
 
 /// The report of a receiver is accepted if each of its decisions is borne out: the receiver's own lines and packets are those of a
 /// replay by its decisions.
@@ -25,9 +25,12 @@ pub fn own_words()
 }
 
 /// A frame that is audited with the line that the report has ([`crate::Replayer::audit_certified`],
-/// [`crate::Replayer::audit_recorded`] or [`crate::Replayer::audit_claimed`]) is a step of an audit.
+/// [`crate::Replayer::audit_recorded`] or [`crate::Replayer::audit_claimed`]) is a step of an audit. So are a cut frame and the end
+/// ([`crate::Replayer::audit_last`]), with which report and packets are those of the receiver.
 pub fn tells()
     ensures frame { TellsFrameLaw }
     ensures claim { TellsClaimLaw }
+    ensures cut { TellsCutLaw }
+    ensures end { TellsEndLaw }
 {
 }

@@ -1,4 +1,4 @@
-use Rattle.s2_replay.proofs.Told.{tells_claim, tells_frame}
+use Rattle.s2_replay.proofs.Told.{tells_claim, tells_cut, tells_end, tells_frame}
 use Rattle.s2_replay.proofs.laws.tells.Goals as goal
 
 pub returns-clause-frame : goal.returns-clause-frame
@@ -6,3 +6,9 @@ returns-clause-frame c = tells_frame
 
 pub returns-clause-claim : goal.returns-clause-claim
 returns-clause-claim c = tells_claim
+
+pub returns-clause-cut : goal.returns-clause-cut
+returns-clause-cut c = tells_cut
+
+pub returns-clause-end : goal.returns-clause-end
+returns-clause-end c = tells_end
