@@ -1,5 +1,5 @@
 -- What was audited so far, with one frame more, or with the last things.
-use Rattle.std.proofs.Common.{◌≡◌, ◌↔◌, ℕ, ◌+◌, Bool, true, false, ◌&&◌, IsTrue, List, [], ◌∷◌, ◌++◌, Option, Some, None, refl, sym, ap, subst, inr}
+use Rattle.std.proofs.Common.{◌≡◌, ℕ, ◌+◌, Bool, true, false, ◌&&◌, List, [], ◌∷◌, ◌++◌, refl, sym, ap, subst, inr}
 use Rattle.s2_mode.specs.declared.symbols.Symbol.{Symbol}
 use Rattle.s2_check.specs.Verdicts.{is_certified}
 use Rattle.s2_check.specs.declared.verdict.Verdict.{Verdict}
@@ -14,7 +14,7 @@ use Rattle.s2_receive.specs.Receiving.{Decision, is_lost, report_for}
 use Rattle.s2_receive.specs.declared.window.Next.{Next}
 use Rattle.s2_receive.specs.declared.window.Next.TheVariants as next
 use Rattle.s2_replay.specs.Auditing.{AuditedSoFar}
-use Rattle.s2_replay.specs.Frames.{AuditsClaim, ClaimsStep, IsLastOf}
+use Rattle.s2_replay.specs.Frames.{ClaimsStep, IsLastOf}
 use Rattle.s2_replay.specs.Laws.{TellsClaimLaw, TellsCutLaw, TellsEndLaw, TellsFrameLaw}
 use Rattle.s2_replay.specs.Lines.{BeginsWith, claimed_words, counted_words}
 use Rattle.s2_replay.specs.Replay.{IsBorneOut, IsEndLine, IsFrameLine, Terms, claimed_decision, is_known, rules_for}
@@ -64,9 +64,9 @@ tells_claim t whole left left_new old mid new known decisions lines packets foun
     let step_is = frame_step mid new found place d claim.step frame audits.settles in
     let claims = subst (λ s. ClaimsStep s audits.number audits.at) step_is audits.step_is in
     let own : BeginsWith (claimed_words audits.number audits.at verdict claim.lost) (step_line claim.step totals) =
-      subst (λ s. BeginsWith (claimed_words audits.number audits.at verdict claim.lost) (step_line s totals)) (sym step_is)
-      (subst (λ n. BeginsWith (claimed_words n audits.at verdict claim.lost) (step_line (steps.Frame (report_for d mid.state.standing.totals place)) totals)) claims.0
-      (subst (λ a. BeginsWith (claimed_words (mid.state.standing.totals.frames + 1) a verdict claim.lost) (step_line (steps.Frame (report_for d mid.state.standing.totals place)) totals)) claims.1 (own_claim mid.state.standing.totals place verdict claim.lost))) in
+    subst (λ s. BeginsWith (claimed_words audits.number audits.at verdict claim.lost) (step_line s totals)) (sym step_is)
+    (subst (λ n. BeginsWith (claimed_words n audits.at verdict claim.lost) (step_line (steps.Frame (report_for d mid.state.standing.totals place)) totals)) claims.0
+    (subst (λ a. BeginsWith (claimed_words (mid.state.standing.totals.frames + 1) a verdict claim.lost) (step_line (steps.Frame (report_for d mid.state.standing.totals place)) totals)) claims.1 (own_claim mid.state.standing.totals place verdict claim.lost))) in
     let line_is : IsFrameLine false d (step_line claim.step totals) line = lost_so verdict claim.lost (step_line claim.step totals) line audits.number audits.at own (audits.told.0 told) in
     let all = audited_frame t whole left_new mid new known decisions lines packets (audited_on t whole left left_new old mid known decisions lines packets before goes) found d claim.step line is (frame_at found place frame) (claimed_out t mid.frame verdict claim.lost uncertified) audits.settles line_is in
     (d, subst (λ b. AuditedSoFar t whole left_new new b (decisions ++ d ∷ []) (lines ++ line ∷ []) (packets ++ new.packets)) (and_claimed known) all)

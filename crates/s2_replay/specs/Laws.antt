@@ -1,20 +1,16 @@
 -- Laws of replays: a receiver's own report is one, and an audit in steps finds one out (own).
-use Rattle.std.specs.Prelude.{◌≡◌, ℕ, ◌+◌, ℤ, Bool, true, false, IsTrue, ◌&&◌, List, [], ◌∷◌, ◌++◌, Option, Some, None}
+use Rattle.std.specs.Prelude.{◌≡◌, ℕ, ℤ, Bool, true, false, IsTrue, List, [], ◌∷◌, ◌++◌, Option, Some, None}
 use Rattle.s2_mode.specs.declared.symbols.Symbol.{Symbol}
 use Rattle.s2_check.specs.Verdicts.{is_certified}
 use Rattle.s2_check.specs.declared.verdict.Verdict.{Verdict}
-use Rattle.s2_report.specs.ReportLines.{end_line, frame_line, step_line}
-use Rattle.s2_report.specs.declared.totals.Totals.{Totals}
-use Rattle.s2_report.specs.declared.report.Step.{Step}
-use Rattle.s2_receive.specs.Receiving.{Decision, begun, report_for}
-use Rattle.s2_receive.specs.Halves.{Follower, IsOwn, Settles}
+use Rattle.s2_receive.specs.Receiving.{Decision, begun}
+use Rattle.s2_receive.specs.Halves.{Follower, IsOwn}
 use Rattle.s2_receive.specs.declared.gap.Gap.{Gap}
 use Rattle.s2_receive.specs.declared.window.Next.{Next}
 use Rattle.s2_receive.specs.declared.window.Next.TheVariants as next
 use Rattle.s2_replay.specs.Auditing.{AuditedFrames, AuditedSoFar, ReplaysIn}
 use Rattle.s2_replay.specs.Frames.{AuditsClaim, AuditsFrame, AuditsLast}
-use Rattle.s2_replay.specs.Lines.{BeginsWith, claimed_words, counted_words}
-use Rattle.s2_replay.specs.Replay.{AreLines, IsBorneOut, IsEndLine, IsFrameLine, IsReplay, Terms, claimed_decision, is_known, rules_for}
+use Rattle.s2_replay.specs.Replay.{AreLines, IsBorneOut, IsReplay, Terms, rules_for}
 use Rattle.s2_replay.specs.Replayers.{IsFrame, IsFrameAt}
 use Rattle.s2_replay.specs.Running.{GoesOn, IsBy}
 use Rattle.s2_replay.specs.declared.frames.Audited.TheVariants.{Told}
@@ -34,40 +30,11 @@ OwnReportLaw =
 abbrev pub AuditBeginsLaw : Type 0
 AuditBeginsLaw = (t : Terms) (whole : Option (List ℕ)) (f : Follower) → f.state ≡ begun → f.found ≡ None → AuditedSoFar t whole whole f true [] [] []
 
--- a frame is handled by a decision that is borne out, and the next line of the report is its line
-abbrev pub AuditFrameLaw : Type 0
-AuditFrameLaw =
-    (t : Terms) (whole left left_new : Option (List ℕ)) (old mid new : Follower) (known : Bool) (decisions : List Decision) (lines : List (List ℕ)) (packets : List ℕ) (found : Next) (d : Decision) (step : Step) (line : List ℕ)
-    → AuditedSoFar t whole left old known decisions lines packets → GoesOn old mid left left_new → mid.found ≡ Some found → IsFrame found → IsBorneOut t mid.frame d → Settles mid new found d step
-    → IsFrameLine (is_known d) d (step_line step new.state.standing.totals) line
-    → AuditedSoFar t whole left_new new (known && is_known d) (decisions ++ d ∷ []) (lines ++ line ∷ []) (packets ++ new.packets)
-
 -- after the last frame no decision follows
 abbrev pub AuditOverLaw : Type 0
 AuditOverLaw =
     (t : Terms) (whole left : Option (List ℕ)) (f : Follower) (known : Bool) (decisions : List Decision) (lines : List (List ℕ)) (packets : List ℕ)
     → AuditedSoFar t whole left f known decisions lines packets → AuditedFrames t whole left f known decisions lines packets
-
--- after the last frame a cut frame is handled, and the next line of the report is its line
-abbrev pub AuditCutLaw : Type 0
-AuditCutLaw =
-    (t : Terms) (whole left left_new : Option (List ℕ)) (old mid new : Follower) (known : Bool) (decisions : List Decision) (lines : List (List ℕ)) (packets : List ℕ) (found : Next) (d : Decision) (step : Step) (line : List ℕ)
-    → AuditedFrames t whole left old known decisions lines packets → GoesOn old mid left left_new → mid.found ≡ Some found → (IsFrame found → ⊥) → Settles mid new found d step
-    → step_line step new.state.standing.totals ≡ line ++ 10 ∷ [] → AuditedFrames t whole left_new new known decisions (lines ++ line ∷ []) packets
-
--- at the end the next line of the report is the end line: then report and packets are those of the receiver
-abbrev pub AuditEndLaw : Type 0
-AuditEndLaw =
-    (t : Terms) (whole left left_new : Option (List ℕ)) (old mid new : Follower) (known : Bool) (decisions : List Decision) (lines : List (List ℕ)) (packets : List ℕ) (at : ℕ) (skipped : Gap) (d : Decision) (step : Step) (line : List ℕ)
-    → AuditedFrames t whole left old known decisions lines packets → GoesOn old mid left left_new → mid.found ≡ Some (next.End at skipped) → Settles mid new (next.End at skipped) d step
-    → IsBy t new → IsEndLine known (step_line step new.state.standing.totals) line → ReplaysIn t whole decisions (lines ++ line ∷ []) packets
-
--- the receiver's own lines begin with what is compared of them
-pub record OwnWordsLaw : Type 0 where
-  pub claim : (t : Totals) (at : ℕ) (verdict : Verdict) (lost : Bool) → BeginsWith (claimed_words (t.frames + 1) at verdict lost) (frame_line (report_for (claimed_decision verdict lost) t at))
-  pub count : (t : Totals) → BeginsWith (counted_words t.frames) (end_line t)
-
--- ---- the calls that audit
 
 -- a frame whose line is told is audited
 abbrev pub TellsFrameLaw : Type 0

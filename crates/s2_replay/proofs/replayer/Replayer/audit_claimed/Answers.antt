@@ -1,7 +1,5 @@
-use Rattle.std.proofs.Common.{◌≡◌, ◌+◌, ◌^◌, ◌<◌, ◌↔◌, ◌∙◌, IsTrue, rules, arith, true, sym, ap, subst}
-use Rattle.s2_check.specs.declared.verdict.Verdict.{Verdict}
+use Rattle.std.proofs.Common.{◌≡◌, ◌+◌, ◌^◌, ◌<◌, ◌↔◌, IsTrue, rules, true, sym, ap, subst}
 use Rattle.s2_report.specs.declared.report.Report.{Report}
-use Rattle.s2_report.specs.declared.report.Step.TheVariants as steps
 use Rattle.s2_receive.specs.Receiving.{report_for}
 use Rattle.s2_replay.specs.Lines.{BeginsWith, claimed_words}
 use Rattle.s2_replay.specs.Replay.{claimed_decision}
@@ -27,7 +25,7 @@ returns-in-Frame-clause-audits c =
       step_is = search rules;
       told = c.is_claimed_line-told.ensures;
       lost = subst (λ a. IsTrue lost ↔ BeginsWith (claimed_words c.in-Frame.report.number a c.args.verdict true) c.args.line.now) (sym at_is)
-      (subst (λ n. IsTrue lost ↔ BeginsWith (claimed_words n c.args.at c.args.verdict true) c.args.line.now) same c.is_claimed_line-lost.ensures);
+          (subst (λ n. IsTrue lost ↔ BeginsWith (claimed_words n c.args.at c.args.verdict true) c.args.line.now) same c.is_claimed_line-lost.ensures);
     }
 
 pub returns-in-Cut : goal.returns-in-Cut
