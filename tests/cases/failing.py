@@ -76,6 +76,9 @@ FAILING = [
     (f"mod {LINK} --codewords record --bbframes other made packets out", "out", WRITE, [(0, 0), (32_760, 0)]),
     (f"mod {LINK} --labels record --symbols-plain other made packets out", "out", WRITE, [(0, 0), (32_760, 0)]),
     (f"mod {LINK} --bbframes out made packets sent", "packets", READ, [(0, 0), (384, 0)]),
+    # how a report was made is written at the end, with one write
+    (f"demod {LINK} --about out made two sent", "out", WRITE, [(0, len(TWO))]),
+    (f"demod {LINK} --about record made two out", "out", WRITE, [(0, 0), (188, 26)]),
 ]
 # Commands whose first call on an existing `out` truncates it.
 JOIN = f"join {LINK} bbframes out"

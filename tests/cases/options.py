@@ -3,7 +3,7 @@
 import re
 from dataclasses import dataclass, field
 
-from cases import audit, comparing, equalized, figured, links, listing, progress, records, rotations, slips
+from cases import about, audit, comparing, equalized, figured, links, listing, progress, records, rotations, slips
 from cases.common import (
     ANY, FINE, LINK, NO, PACKET, PAIR, SLIPPED, STORED, STORED_CERTIFICATE, STORED_MOVED, TOY, TWO, UNDECODED, WANTED, Case, Rule, digest, ending, noted,
 )  # fmt: skip
@@ -164,7 +164,7 @@ def join_effects():
     yield Effect("--short", "join --modcod 1 {} in out", {"--short": lost, "": cut}, zeros)
 
 
-def audit_effects(two):
+def audit_effects(two, made):
     """Two frames and their certificates."""
     costs = [sum(value for value in soft if value < 0) for soft, _ in records.decided(two)]
     lines = "".join(f"frame {at + 1} at {8190 * at} sole cost {cost}\n" for at, cost in enumerate(costs))
@@ -180,6 +180,9 @@ def audit_effects(two):
     yield Effect("--ro", f"audit {LINK} {{}} {files}", dict.fromkeys(("", "--ro 0", "--ro 1", "--ro 2"), fine), reads)
     yield Effect("--divisor", f"audit {LINK} {{}} {files}", by_default("--divisor", 4096, 8192, fine, other), reads)
     yield Effect("--tuned", f"audit {LINK} {{}} {files}", {"": fine, "--tuned": other, "--tuned --divisor 4096": fine}, reads)
+    other_divisor = reads["reads"] | {"record": about.demod({"divisor": 8192}, made, two)}
+    differs = ended(f"{fine['out']}about line 9 differs: divisor\n", NO)
+    yield Effect("--about", f"audit {LINK} {{}} {files}", {"": fine, "--about record": differs}, {"reads": other_divisor})
     # the same frames and their certificates, with the symbols of both frames ahead by quarters
     half = len(two) // 2
     ahead = {"reads": reads["reads"] | {"in": rotations.ahead(two[:half], 3) + rotations.ahead(two[half:], 1)}}
@@ -286,11 +289,14 @@ def figure_effects(two, made):
     yield from both("--figures", f"{LINK} --rounds 2 {{}}", {"": plain, "--figures": with_figures}, NOISY, {"reads": {"in": spoilt(two, *NOISY)}})
 
 
-def record_effects(two):
+def record_effects(two, made):
     """Each option of records makes its file, and changes nothing else."""
     for option, text in records.records(two).items():
         ends = {"": WELL, f"{option} record": ended(TWO, out=2 * PACKET, record=text)}
         yield from both(option, f"{LINK} {{}}", ends, (1, 0), {"reads": {"in": two}})
+    received_by = about.demod({}, made, two), about.run({"seed": 1, "last-seed": 1, "level": 0}, made, 2 * PACKET, 2 * PACKET, TWO)
+    for (words, more), text in zip(((f"demod {LINK} {{}} made in out", {"reads": {"in": two}}), (f"run {LINK} --seed 1 --level 0 {{}} made packets out", {})), received_by):
+        yield Effect("--about", words, {"": WELL, "--about record": ended(TWO, out=2 * PACKET, record=text)}, more)
 
 
 def demod_effects(two, pilots):
@@ -374,7 +380,7 @@ def effects(two, made, pilots, dummy, report, others):
     found += [*link_effects(two), *figure_effects(two, made), *scan_effects(two)]
     written = records.records(two)
     found += compare_effects(written["--certificates"], written["--bbframes"])
-    return found + [*record_effects(two), *audit_effects(two), *demod_effects(two, pilots), *run_effects(report, others)]
+    return found + [*record_effects(two, made), *audit_effects(two, made), *demod_effects(two, pilots), *run_effects(report, others)]
 
 
 # Options with cases in progress.py.

@@ -6,10 +6,11 @@
 //!
 //! ```text
 //! let options = DemodOptions { .. };
-//! with_link(opener, terminal, LinkRequest::Demod(words, &options), console, notes)
+//! with_link(opener, terminal, LinkRequest::Demod(words, &options), sums, console, notes)
 //! ```
 #![tactic(auto)]
 
+mod about;
 mod link_request;
 mod opening;
 mod records;

@@ -3,11 +3,14 @@ ghost use Rattle.std.specs.Prelude.{◌≡◌, ◌≢◌, ◌+◌, ◌≤◌, If
 ghost use Rattle.s2_mode.specs.Counts.{CanCount};
 ghost use Rattle.s2_io.specs.Files.{CanStart};
 ghost use Rattle.s2_io.specs.Screens.{CanNote};
+ghost use Rattle.s2_receive.specs.Sinks.{wanted_count};
 ghost use Rattle.s2_link_commands.specs.Failed.{records_failed};
 
-use crate::opening::{Reading, Watching, open_link};
+use crate::about::{AboutFile, finish_about, open_about};
+use crate::opening::{Reading, Watching, link_files, open_three};
 use crate::records::{RecordNames, Records, finish_command, open_records};
 use crate::setup::setup_of;
+use s2_about::FileSums;
 use s2_commands::{DemodOptions, LinkFiles, RunOptions, demod_command, mod_command, run_command};
 use s2_io::{Console, Disk, Exit, Meter, Output, Pace, Show, Terminal, Truncating};
 use s2_link::LinkSetup;
@@ -35,6 +38,8 @@ struct FileWords<'a> {
     names: [&'a str; 3],
     reading: Reading,
     records: RecordNames<'a>,
+    /// The name of the file that says how the report was made, if one is given.
+    about: Option<&'a str>,
     progress: Progress,
     /// The name of its packet file, if it reads one and notes are not suppressed.
     noted_packets: Option<&'a str>,
@@ -56,6 +61,7 @@ fn sending_words<'a>(words: &ModArguments<'a>) -> FileWords<'a> {
             resync: words.resync,
         },
         records: RecordNames::Sent(words.records),
+        about: None,
         progress: words.progress,
         noted_packets: noted(words.quiet, words.packets),
         notes_gaps: false,
@@ -72,6 +78,7 @@ fn receiving_words<'a>(words: &DemodArguments<'a>) -> FileWords<'a> {
             resync: false,
         },
         records: RecordNames::Received(words.records),
+        about: words.about,
         progress: words.progress,
         noted_packets: None,
         notes_gaps: !words.notes.quiet,
@@ -87,6 +94,7 @@ fn looping_words<'a>(words: &RunArguments<'a>) -> FileWords<'a> {
             resync: words.resync,
         },
         records: RecordNames::Received(words.records),
+        about: words.about,
         progress: words.progress,
         noted_packets: noted(words.notes.quiet, words.packets),
         notes_gaps: false,
@@ -202,32 +210,62 @@ fn run_on_files<I: CountedRead, W: Output, F: Output, O: CountedWrite, E: Counte
     }
 }
 
+/// The files of records, and the one that says how the report was made.
+type Recorded<W> = (Records<Truncating<W>>, AboutFile<W>);
+
 /// The opened files of a request on a link: its own, and those of records.
-type Opened<'m, I, W, M> = (Watching<'m, I, W, M>, Records<Truncating<W>>);
+type Opened<'m, 'h, I, W, M> = (Watching<'m, 'h, I, W, M>, Recorded<W>);
 
 /// Opens the files of a request on a link, those of records after the others.
-fn open_all<'a, 'm, P: Opens<'a>, M: Meter>(
+fn open_all<'a, 'm, 'h, P: Opens<'a>, M: Meter>(
     opener: &mut P,
     alloc: Global,
     meter: &'m M,
     unseen: &'m M,
     mode: Mode,
     words: &FileWords<'a>,
-) -> Result<Opened<'m, P::Input, P::Output, M>, Unserved<'a>>
+    sums: Option<&'h FileSums>,
+) -> Result<Opened<'m, 'h, P::Input, P::Output, M>, Unserved<'a>>
     requires { P.opened opener.old ≡ 0 }
     ensures start { IfOk result (λ files. CanStart files.0) }
-    ensures fresh { IfOk result (λ files. records_failed (λ t. P.Output.count t.to) (λ b. P.Output.count b.to.to) files.1 ≡ 0) }
+    ensures fresh { IfOk result (λ files. records_failed (λ t. P.Output.count t.to) (λ b. P.Output.count b.to.to) files.1.0 ≡ 0) }
+    ensures about { IfOk result (λ files. wanted_count (λ t. P.Output.count t.to) files.1.1 ≡ 0) }
 {
-    let files = open_link(opener, alloc, meter, unseen, words.names, words.reading)?;
+    let Reading { buffered, resync } = words.reading;
+    let files = open_three(opener, meter, words.names, buffered)?;
     let records = open_records(opener, alloc, mode, words.records)?;
-    Ok((files, records))
+    let about = open_about(opener, words.about)?;
+    let files = link_files(alloc, meter, unseen, files, resync, sums)?;
+    Ok((files, (records, about)))
 }
 
-/// Opens the files of a request on a link, and runs its command on them. `notes` takes the notes before a report.
+/// The end of a command: its files of records are finished, and that on its report is written.
+fn finish_all<'a, W: Output + Drop>(
+    alloc: Global,
+    request: LinkRequest<'_, '_>,
+    exit: Exit,
+    begun: bool,
+    recorded: Recorded<W>,
+    sums: Option<&FileSums>,
+) -> Result<Exit, Unserved<'a>>
+    requires records { records_failed (λ t. W.count t.to) (λ b. W.count b.to.to) recorded.0 ≤ 1 }
+    requires about { wanted_count (λ t. W.count t.to) recorded.1 ≡ 0 }
+    ensures { OnErr result (exit ≢ Exit.Fault) }
+{
+    let (records, about) = recorded;
+    match finish_command(exit, begun, records) {
+        Ok(exit) => finish_about(alloc, request, exit, begun, about, sums),
+        Err(_) => Err(Unserved::Write),
+    }
+}
+
+/// Opens the files of a request on a link, and runs its command on them. `notes` takes the notes before a report. `sums` has
+/// the sums of the files, if the request has a file for them.
 pub fn with_link<'a, P: Opens<'a>, R: Disk + Clock + AllocGlobal, O: CountedWrite, E: CountedWrite>(
     opener: &mut P,
     terminal: &Terminal<'_, R>,
     request: LinkRequest<'_, 'a>,
+    sums: Option<&FileSums>,
     console: &mut Console<O, E>,
     notes: &mut E,
 ) -> Result<Exit, Unserved<'a>>
@@ -242,12 +280,14 @@ pub fn with_link<'a, P: Opens<'a>, R: Disk + Clock + AllocGlobal, O: CountedWrit
     let pace = pace_of(request, &setup.mode);
     let show = show_of(terminal, pace, words.progress, words.notes_gaps);
     let unseen = Show::new(terminal, pace, false);
-    let (mut files, mut records) = open_all(opener, alloc, &show, &unseen, setup.mode, &words)?;
+    let (mut files, mut recorded) = open_all(
+        opener, alloc, &show, &unseen, setup.mode, &words, sums,
+    )?;
     let exit = run_on_files(
         setup,
         request,
         &mut files,
-        &mut records,
+        &mut recorded.0,
         console,
         notes,
         alloc,
@@ -255,8 +295,9 @@ pub fn with_link<'a, P: Opens<'a>, R: Disk + Clock + AllocGlobal, O: CountedWrit
     show.finish();
     let left_out = files.from.left_out();
     let exit = conclude_packets(terminal, words.noted_packets, left_out, exit);
-    match finish_command(exit, files.to.is_begun(), records) {
+    let begun = files.to.is_begun();
+    match finish_all(alloc, request, exit, begun, recorded, sums) {
         Ok(exit) => Ok(exit),
-        Err(_) => Err(Unserved::Write),
+        Err(unserved) => Err(unserved),
     }
 }

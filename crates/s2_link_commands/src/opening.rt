@@ -3,8 +3,9 @@ ghost use Rattle.std.specs.Prelude.{◌≡◌, IfOk, OnOk};
 ghost use Rattle.either.specs.Either.{either};
 ghost use Rattle.s2_io.specs.Files.{CanStart};
 
+use s2_about::{FileSums, Hashed};
 use s2_commands::LinkFiles;
-use s2_io::{Destination, Meter, Watched};
+use s2_io::{Destination, Meter, Output, Watched};
 use s2_mode::CountedRead;
 use s2_opening::{Opens, Unserved};
 use s2_resync::{PacketReader, PacketSource};
@@ -14,7 +15,10 @@ use std::alloc::{AllocError, Global};
 pub(crate) type Source<I> = PacketSource<I, PacketReader<I>>;
 
 /// The files of a command on a link, all watched. The second may be a reader of packets.
-pub(crate) type Watching<'m, I, W, M> = LinkFiles<Source<Watched<'m, I, M>>, Watched<'m, W, M>>;
+pub(crate) type Watching<'m, 'h, I, W, M> = LinkFiles<
+    Source<Watched<'m, Hashed<'h, I>, M>>,
+    Watched<'m, Hashed<'h, W>, M>,
+>;
 
 /// How the input of a command on a link is read.
 #[derive(Clone, Copy)]
@@ -58,7 +62,7 @@ fn source_of<R: CountedRead + Drop>(
 }
 
 /// Opens the row file, the input and the output of a command on a link, in this order. The meter expects the input's bytes.
-fn open_three<'a, P: Opens<'a>, M: Meter>(
+pub(crate) fn open_three<'a, P: Opens<'a>, M: Meter>(
     opener: &mut P,
     meter: &M,
     names: [&'a str; 3],
@@ -77,21 +81,25 @@ fn open_three<'a, P: Opens<'a>, M: Meter>(
     Ok((rows, from, to))
 }
 
-/// Opens the files of a command on a link. `unseen` takes the bytes of the row file.
-pub(crate) fn open_link<'a, 'm, P: Opens<'a>, M: Meter>(
-    opener: &mut P,
+/// The files of a command on a link, of its opened row file, input and output. `unseen` takes the bytes of the row file. If
+/// there are sums, the bytes of each file are hashed.
+pub(crate) fn link_files<'a, 'm, 'h, I: CountedRead + Drop, W: Output + Drop, M: Meter>(
     alloc: Global,
     meter: &'m M,
     unseen: &'m M,
-    names: [&'a str; 3],
-    reading: Reading,
-) -> Result<Watching<'m, P::Input, P::Output, M>, Unserved<'a>>
-    requires first { P.opened opener.old ≡ 0 }
-    ensures room { OnOk result (P.opened opener.new ≡ 3) }
+    files: (I, I, W),
+    resync: bool,
+    sums: Option<&'h FileSums>,
+) -> Result<Watching<'m, 'h, I, W, M>, Unserved<'a>>
+    requires inputs { (I.count files.0 ≡ 0) × (I.count files.1 ≡ 0) }
+    requires output { W.count files.2 ≡ 0 }
     ensures start { IfOk result CanStart }
 {
-    let (rows, from, to) = open_three(opener, meter, names, reading.buffered)?;
-    let Ok(from) = source_of(alloc, Watched::new(from, meter), reading.resync) else {
+    let (rows, from, to) = files;
+    let rows = Hashed::new(rows, FileSums::rows_of(sums));
+    let from = Hashed::new(from, FileSums::from_of(sums));
+    let to = Hashed::new(to, FileSums::to_of(sums));
+    let Ok(from) = source_of(alloc, Watched::new(from, meter), resync) else {
         return Err(Unserved::NoMemory);
     };
     Ok(LinkFiles {

@@ -172,6 +172,7 @@ fn open_received<'a, P: Opens<'a>>(
     words: RecordArguments<'a>,
 ) -> Result<ReceivedRecords<Truncating<P::Output>>, Unserved<'a>>
     requires room { P.opened opener.old ≤ 4 }
+    ensures room { OnOk result (P.opened opener.new ≤ P.opened opener.old + 4) }
     ensures fresh { IfOk result (λ made. received_failed (λ file. P.Output.count file.to) (λ sink. P.Output.count sink.to.to) made ≡ 0) }
 {
     let certificates = open_certificates(opener, alloc, mode, words.certificates)?;
@@ -189,6 +190,7 @@ fn open_sent<'a, P: Opens<'a>>(
     words: SentRecordArguments<'a>,
 ) -> Result<SentRecords<Truncating<P::Output>>, Unserved<'a>>
     requires room { P.opened opener.old ≤ 4 }
+    ensures room { OnOk result (P.opened opener.new ≤ P.opened opener.old + 4) }
     ensures fresh { IfOk result (λ made. sent_failed (λ file. P.Output.count file.to) (λ sink. P.Output.count sink.to.to) made ≡ 0) }
 {
     let codewords = open_codewords(opener, alloc, mode, words.codewords)?;
@@ -206,6 +208,7 @@ pub(crate) fn open_records<'a, P: Opens<'a>>(
     names: RecordNames<'a>,
 ) -> Result<Records<Truncating<P::Output>>, Unserved<'a>>
     requires room { P.opened opener.old ≤ 4 }
+    ensures room { OnOk result (P.opened opener.new ≤ P.opened opener.old + 4) }
     ensures fresh { IfOk result (λ made. records_failed (λ file. P.Output.count file.to) (λ sink. P.Output.count sink.to.to) made ≡ 0) }
 {
     match names {

@@ -14,20 +14,20 @@ use std::{fs, io};
 #[derive(Clone, Copy)]
 struct Names<'a> {
     texts: [Option<&'a str>; 2],
-    data: [Option<&'a str>; 3],
-    written: [Option<&'a str>; 5],
+    data: [Option<&'a str>; 4],
+    written: [Option<&'a str>; 6],
 }
 
 /// The files of a command without a link. At most one of them is written.
 fn plain<'a>(
     texts: [Option<&'a str>; 2],
-    data: [Option<&'a str>; 3],
+    data: [Option<&'a str>; 4],
     written: Option<&'a str>,
 ) -> Names<'a> {
     Names {
         texts,
         data,
-        written: [written, None, None, None, None],
+        written: [written, None, None, None, None, None],
     }
 }
 
@@ -37,23 +37,24 @@ fn linked<'a>(
     from: &'a str,
     to: &'a str,
     records: [Option<&'a str>; 4],
+    about: Option<&'a str>,
 ) -> Names<'a> {
     let [first, second, third, fourth] = records;
     Names {
         texts: [Some(rows), None],
-        data: [Some(from), None, None],
-        written: [Some(to), first, second, third, fourth],
+        data: [Some(from), None, None, None],
+        written: [Some(to), first, second, third, fourth, about],
     }
 }
 
 /// A file that is read.
-fn one<'a>(name: &'a str) -> [Option<&'a str>; 3] {
-    [Some(name), None, None]
+fn one<'a>(name: &'a str) -> [Option<&'a str>; 4] {
+    [Some(name), None, None, None]
 }
 
 /// The files of a request.
 fn names_of<'a>(request: &Request<'a>) -> Names<'a> {
-    let (no_text, no_data) = ([None; 2], [None; 3]);
+    let (no_text, no_data) = ([None; 2], [None; 4]);
     match request {
         Request::Demo | Request::Modes(_) | Request::Rows(_) => plain(no_text, no_data, None),
         Request::Table(words) => plain([Some(words.rows), None], no_data, None),
@@ -72,26 +73,32 @@ fn names_of<'a>(request: &Request<'a>) -> Names<'a> {
             let [report, certificates] = [Some(words.report), Some(words.certificates)];
             plain(
                 [Some(words.rows), None],
-                [Some(words.symbols), report, certificates],
+                [Some(words.symbols), report, certificates, words.about],
                 None,
             )
         }
         Request::Compare(words) => plain(
             [Some(words.rows), None],
-            [Some(words.certificates), Some(words.words), None],
+            [Some(words.certificates), Some(words.words), None, None],
             None,
         ),
         Request::Mod(words) => {
             let records = words.records.names();
-            linked(words.rows, words.packets, words.symbols, records)
+            linked(words.rows, words.packets, words.symbols, records, None)
         }
         Request::Demod(words) => {
             let records = words.records.names();
-            linked(words.rows, words.symbols, words.packets, records)
+            linked(
+                words.rows,
+                words.symbols,
+                words.packets,
+                records,
+                words.about,
+            )
         }
         Request::Run(words) => {
             let records = words.records.names();
-            linked(words.rows, words.packets, words.to, records)
+            linked(words.rows, words.packets, words.to, records, words.about)
         }
     }
 }

@@ -8,7 +8,7 @@
 //! is begun.
 //!
 //! ```text
-//! let mut screen = screen_beside(&terminal, takes_output(&request), every);
+//! let mut screen = screen_beside(&terminal, takes_output(&request), every, None);
 //! let mut opener = FileOpener::new(&terminal);
 //! let (mut bbframes, mut packets) = open_join(&mut opener, words)?;
 //! ```
@@ -23,7 +23,9 @@ mod thinned;
 
 pub use file_opener::FileOpener;
 pub use noting::{Named, Noting};
-pub use opening::{open_audit, open_compare, open_inputs, open_join, open_noise, open_scan};
+pub use opening::{
+    AuditFiles, open_audit, open_compare, open_inputs, open_join, open_noise, open_scan,
+};
 pub use opens::{Finishes, Opens, Unserved};
 pub use screen::{Screen, screen_beside, show_on, standard_input};
 pub use thinned::Thinned;

@@ -1,7 +1,8 @@
 //! Opens the files of a command in the order of the command line.
-ghost use Rattle.std.specs.Prelude.{◌≡◌, false, IfOk};
+ghost use Rattle.std.specs.Prelude.{◌≡◌, ◌<◌, false, IfOk};
 
 use crate::opens::{Opens, Unserved};
+use s2_about::{FileSums, Hashed};
 use s2_io::{Destination, Meter, Watched};
 use s2_scan::Beginning;
 use s2_words::{AuditArguments, JoinArguments, NoiseArguments, ScanArguments};
@@ -36,20 +37,62 @@ pub fn open_compare<'a, P: Opens<'a>>(
     Ok((rows, certificates, words))
 }
 
-/// Opens the files of `audit`. Report and certificates have a buffer.
-pub fn open_audit<'a, P: Opens<'a>>(
+/// The opened files of `audit`: its rows, symbols, report and certificates, and its record, if one is given.
+pub struct AuditFiles<'h, I> {
+    pub rows: Hashed<'h, I>,
+    pub symbols: Hashed<'h, I>,
+    pub report: Hashed<'h, I>,
+    pub certificates: Hashed<'h, I>,
+    pub about: Option<I>,
+}
+
+impl<I: Drop> Drop for AuditFiles<'_, I> {
+    fn drop(self) {
+        let AuditFiles {
+            rows: _,
+            symbols: _,
+            report: _,
+            certificates: _,
+            about: _,
+        } = self;
+    }
+}
+
+/// Opens a file that is read, if a name is given.
+fn read_named<'a, P: Opens<'a>>(
+    opener: &mut P,
+    name: Option<&'a str>,
+) -> Result<Option<P::Input>, Unserved<'a>>
+    requires { P.opened opener.old < 8 }
+{
+    match name {
+        Some(name) => Ok(Some(opener.read(name)?)),
+        None => Ok(None),
+    }
+}
+
+/// Opens the files of `audit`. Report and certificates have a buffer. If there are sums, the others are hashed.
+pub fn open_audit<'a, 'h, P: Opens<'a>>(
     opener: &mut P,
     words: &AuditArguments<'a>,
-) -> Result<(P::Input, P::Input, P::Input, P::Input), Unserved<'a>>
+    sums: Option<&'h FileSums>,
+) -> Result<AuditFiles<'h, P::Input>, Unserved<'a>>
     requires { P.opened opener.old ≡ 0 }
-    ensures rows { IfOk result (λ files. (P.Input.count files.0 ≡ 0) × (P.Input.count files.1 ≡ 0)) }
-    ensures report { IfOk result (λ files. (P.Input.count files.2 ≡ 0) × (P.Input.count files.3 ≡ 0)) }
+    ensures rows { IfOk result (λ files. (P.Input.count files.rows.inner ≡ 0) × (P.Input.count files.symbols.inner ≡ 0)) }
+    ensures report { IfOk result (λ files. (P.Input.count files.report.inner ≡ 0) × (P.Input.count files.certificates.inner ≡ 0)) }
 {
     let rows = opener.read(words.rows)?;
     let symbols = opener.read(words.symbols)?;
     let report = opener.read_buffered(words.report)?;
     let certificates = opener.read_buffered(words.certificates)?;
-    Ok((rows, symbols, report, certificates))
+    let about = read_named(opener, words.about)?;
+    Ok(AuditFiles {
+        rows: Hashed::new(rows, FileSums::rows_of(sums)),
+        symbols: Hashed::new(symbols, FileSums::from_of(sums)),
+        report: Hashed::new(report, FileSums::report_of(sums)),
+        certificates: Hashed::new(certificates, None),
+        about,
+    })
 }
 
 /// Opens the files of `noise`, both with a buffer.

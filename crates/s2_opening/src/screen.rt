@@ -5,6 +5,7 @@ ghost use Rattle.s2_io.specs.Screens.{CanNote};
 use crate::noting::{Named, Noting};
 use crate::thinned::Thinned;
 use either::{Either, Left, Right};
+use s2_about::{Hashed, SharedSum};
 use s2_io::{Clearing, Console, Disk, Explaining, Pace, Role, Show, StandardStreams, Terminal};
 use s2_notes::{Errors, errors_of};
 use s2_words::Progress;
@@ -13,19 +14,23 @@ use std::time::Clock;
 /// Standard output, or standard error if the data of a command go to standard output.
 type Report<R> = Either<<R as StandardStreams>::Output, <R as StandardStreams>::Errors>;
 
+/// A report whose failed calls are noted.
+type NotedReport<'t, 'r, R> = Noting<Explaining<Report<R>>, Named<'t, 'r, 't, R>>;
+
 /// A command's report and its errors.
-pub type Screen<'t, 'r, R> = Console<
-    Clearing<'t, 'r, Thinned<Noting<Explaining<Report<R>>, Named<'t, 'r, 't, R>>>, R>,
+pub type Screen<'h, 't, 'r, R> = Console<
+    Clearing<'t, 'r, Thinned<Hashed<'h, NotedReport<'t, 'r, R>>>, R>,
     Errors<'t, 'r, R>,
 >;
 
 /// The output of a command. Its report goes to standard error if one of its files takes standard output. Of `every`
-/// frames only one has a line there; if this is 0, each has one.
-pub fn screen_beside<'t, 'r, R: Disk + AllocGlobal>(
+/// frames only one has a line there; if this is 0, each has one. The bytes of the report are hashed if there is a sum.
+pub fn screen_beside<'h, 't, 'r, R: Disk + AllocGlobal>(
     terminal: &'t Terminal<'r, R>,
     taken: bool,
     every: u32,
-) -> Screen<'t, 'r, R>
+    sum: Option<&'h SharedSum>,
+) -> Screen<'h, 't, 'r, R>
     ensures { CanNote result }
 {
     let report = if taken {
@@ -34,7 +39,7 @@ pub fn screen_beside<'t, 'r, R: Disk + AllocGlobal>(
         Left(terminal.host().output())
     };
     let name = Named::new(terminal, Role::Output, "-");
-    let report = Noting::new(Explaining::new(report), name);
+    let report = Hashed::new(Noting::new(Explaining::new(report), name), sum);
     let output = Clearing::reporting(Thinned::new(report, every), terminal);
     Console::new(output, errors_of(terminal))
 }

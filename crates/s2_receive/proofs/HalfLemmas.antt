@@ -1,13 +1,16 @@
 -- A step in two halves.
-use Rattle.s2_receive.proofs.Names.{◌≡◌, ◌≢◌, ◌⊎◌, inl, inr, ℕ, ◌+◌, ◌*◌, ◌<◌, ◌≤◌, ◌&&◌, arith, Bool, true, false, nat_eq, List, [], ◌∷◌, ◌++◌, length, length-append, take, flat_map, Option, Some, None, IfSome, refl, sym, ap, ap₂, subst, ◌∙◌, max_symbols, Mode, Sought, Found, Symbol, symbols_of, no_gap, Synchronizer, Window, window_at, reached, wanted, room_for, window_after, passed_by, met_of, HoldsFor, HoldsLast, IsInFront, Takes, found_as, Fits, IsSound, EndsAt, Rules, Standing, State, state_of, phase_after, Decision, IsDecided, Handles, HandlesNext, Steps, left_by, asked, asked_by, is_none, is_lost, searched_again, room_in, joined_after, Filled, filled_by, joined_by, counts_by, counted, answer_for, delivered_of, StepCounts, Next, Step, Totals, Phase}
+use Rattle.s2_receive.proofs.Names.{◌≡◌, ◌≢◌, ◌⊎◌, inl, inr, ℕ, ◌+◌, ◌*◌, ◌<◌, ◌≤◌, ◌&&◌, arith, Bool, true, false, nat_eq, List, [], ◌∷◌, ◌++◌, length, length-append, take, flat_map, Option, Some, None, IfSome, refl, sym, ap, ap₂, subst, ◌∙◌, max_symbols, Mode, Sought, Found, Symbol, symbols_of, no_gap, Synchronizer, Window, window_at, reached, wanted, room_for, window_after, passed_by, met_of, HoldsFor, HoldsLast, IsInFront, Takes, found_as, Fits, EndsAt, Rules, Standing, State, state_of, phase_after, Decision, IsDecided, Handles, HandlesNext, Steps, IsLive, KeepsWithout, left_by, asked, asked_by, is_none, is_lost, searched_again, room_in, joined_after, Filled, filled_by, joined_by, counts_by, counted, answer_for, delivered_of, StepCounts, Next, Step, Totals, Phase}
 use Rattle.s2_receive.proofs.Names.next
+use Rattle.s2_receive.proofs.Names.steps
 use Rattle.s2_receive.proofs.Names.phases
 use Rattle.s2_bbframe.specs.declared.header.Header.{Header}
 use Rattle.s2_mode.specs.Mode.{symbols_in}
 use Rattle.s2_report.specs.Figures.{no_totals}
-use Rattle.s2_receive.specs.Halves.{CanCount, Follower, HalvesLaw, HoldsWhole, IsFollowing, Seeks, SeeksBy, asked_of, follower_of, wanted_by, rules_with}
-use Rattle.s2_receive.specs.Receiving.{IsDecidedBy, decided_totals}
-use Rattle.s2_receive.proofs.StepLemmas.{closes, counts_in, ends_so, few_come, sound_on, symbols_least, then_left}
+use Rattle.s2_receive.specs.Halves.{CanCount, Follower, HalvesLaw, HoldsWhole, IsFollowing, IsSameFollower, Says, Seeks, SeeksBy, Settles, asked_of, follower_of, rules_with, seen_with}
+use Rattle.s2_receive.specs.Answers.{Advances}
+use Rattle.s2_receive.specs.declared.decider.Decided.{Decided}
+use Rattle.s2_receive.specs.Receiving.{IsDecidedBy, decided_totals, wanted_by}
+use Rattle.s2_receive.proofs.StepLemmas.{closes, counts_in, ends_so, few_come, kept_so, sound_on, symbols_least, then_left, waits}
 
 -- no symbols are held
 some_room : (b : Bool) (m : Mode) → 0 < room_for b (symbols_in m)
@@ -31,6 +34,24 @@ begins_so m resync limit most = record {
   counts = λ again. tt;
   held = tt;
   place = omega arith;
+  most = most;
+}
+
+-- the frames can be counted
+pub frames_most : (m : Mode) (resync : Bool) (limit : ℕ) (found : Option Next) (w : Window) (t : Totals) → IsFollowing m resync limit found w t → t.frames ≤ max_symbols
+frames_most m resync limit found w t sound = let fits = sound.fits true in omega (arith, fits.frames, fits.place, fits.most)
+
+-- with another limit
+pub limited : (m : Mode) (resync : Bool) (limit symbols : ℕ) (w : Window) (t : Totals) → IsFollowing m resync limit None w t → reached w ≤ symbols → symbols ≤ max_symbols → IsFollowing m resync symbols None w t
+limited m resync limit symbols w t sound within most = record {
+  few = sound.few;
+  fits = λ again.
+      (let f = sound.fits again in
+      record { most = most; place = within; frames = f.frames; delivered = f.delivered; packets = f.packets; incomplete = f.incomplete; skipped = f.skipped; places = f.places });
+  counts = sound.counts;
+  held = tt;
+  place = within;
+  most = most;
 }
 
 -- ---- after the first half
@@ -42,23 +63,21 @@ module _ (finds : Bool → List Symbol → Found) (m : Mode) (resync : Bool) (li
   abbrev room_here : ℕ
   room_here = room_for resync all_symbols
 
-  before : IsSound m resync all_symbols limit old t
-  before = record { takes_frames = refl; few = sound.few true; fits = sound.fits true }
-
   -- what holds between two halves
   pub found_on : (found : Option Next) → ((lost : List Symbol → Bool) → Takes finds lost all_symbols room_here old (window_after lost all_symbols found new) symbols whole buffer found) → HoldsFor all_symbols found (length new.symbols) room_here
       → HoldsLast old.at (old.symbols ++ symbols) new → IsFollowing m resync limit found new t
   found_on found takes holds last =
       record {
-        few = λ again. (after_it again).few;
-        fits = λ again. (after_it again).fits;
+        few = λ again. (after_it again).0;
+        fits = λ again. (after_it again).1;
         counts = λ again. counts_of found again (takes (λ symbols. again));
         held = held_of found holds;
         place = omega (arith, last.place, ap length last.all, length-append last.front new.symbols, length-append old.symbols symbols, most);
+        most = sound.most;
       }
     where
-      after_it : (again : Bool) → IsSound m resync all_symbols limit (window_after (λ symbols. again) all_symbols found new) t
-      after_it again = sound_on finds (λ symbols. again) m resync all_symbols limit old (window_after (λ symbols. again) all_symbols found new) t symbols whole buffer found before most (takes (λ symbols. again))
+      after_it : (again : Bool) → (length (window_after (λ symbols. again) all_symbols found new).symbols < room_here) × Fits limit (window_after (λ symbols. again) all_symbols found new) t
+      after_it again = sound_on finds (λ symbols. again) m resync limit old (window_after (λ symbols. again) all_symbols found new) t symbols whole buffer found (sound.fits true) most (takes (λ symbols. again))
 
       counts_of : (found : Option Next) (again : Bool) → Takes finds (λ symbols. again) all_symbols room_here old (window_after (λ symbols. again) all_symbols found new) symbols whole buffer found → CanCount all_symbols t found again new
       counts_of None again takes = tt
@@ -83,6 +102,7 @@ ends_here m resync limit at w t sound = record {
   counts = λ again delivered one none. (let skipped = (sound.fits true).skipped in omega (arith, skipped));
   held = tt;
   place = sound.place;
+  most = sound.most;
 }
 
 -- what a search by the phase gives
@@ -197,6 +217,7 @@ settled old new lost limit found t t' sound is same fits = record {
   counts = λ again. tt;
   held = tt;
   place = fits.place;
+  most = fits.most;
 }
 
 -- ---- the two halves together
@@ -257,3 +278,69 @@ halves decide old mid new bytes whole found d step few seeks decided settles all
         closes rules old.state new.state bytes whole d (reached old.state.window) new.packets step is (closing_few is few) handles kept
     by_phase phases.Ended is (none, same) = cc
     by_phase phases.Failed is (none, same) = cc
+
+-- ---- a step of a receiver
+
+-- a follower stays the same over two calls
+pub same_on : (old mid new : Follower) → IsSameFollower old mid → IsSameFollower mid new → IsSameFollower old new
+same_on old mid new s t = record { sought = t.sought ∙ s.sought; max_header_errors = t.max_header_errors ∙ s.max_header_errors; resync = t.resync ∙ s.resync; limit = t.limit ∙ s.limit }
+
+-- what a decider tells of its last decision
+pub says_so : (decided : Decided) (field : List ℕ) (d : Decision) → decided.verdict ≡ d.verdict → decided.outcome ≡ d.outcome → decided.figures ≡ d.figures → decided.energy ≡ d.energy → decided.turn ≡ d.turn → delivered_of decided.header field ≡ d.delivered
+    → Says decided field d
+says_so decided field d verdict outcome figures energy turn delivered = record { verdict = sym verdict; outcome = sym outcome; delivered = sym delivered; figures = sym figures; energy = sym energy; turn = sym turn }
+
+-- something is found before the end alone
+live_so : (phase : Phase) (old mid : Follower) (bytes : List ℕ) (whole : Bool) (found : Next) → SeeksBy phase old mid bytes whole (Some found) → IsLive phase
+live_so phases.Searching old mid bytes whole found seeks = tt
+live_so phases.Closing old mid bytes whole found seeks = tt
+live_so phases.Ended old mid bytes whole found seeks = cc
+live_so phases.Failed old mid bytes whole found seeks = cc
+
+-- what was found is decided and handled
+pub found_advances : (decide decide' : List Symbol → Decision) (old mid new : Follower) (bytes : List ℕ) (found : Next) (last d : Decision) (step : Step) → length bytes ≤ asked_of old → Seeks old mid bytes (nat_eq (length bytes) (asked_of old)) (Some found)
+    → IsDecidedBy decide (met_of found mid.frame) d → KeepsWithout (Some found) last d → Settles mid new found d step → reached new.state.window ≤ old.limit → Advances (seen_with decide last old) (seen_with decide' d new) bytes (Some step)
+found_advances decide decide' old mid new bytes found last d step few seeks decided kept settles within = record {
+  live = λ live. halves decide old mid new bytes (nat_eq (length bytes) (asked_of old)) found d step few seeks decided settles refl;
+  rests = λ dead. absurd (dead (live_so old.state.phase old mid bytes (nat_eq (length bytes) (asked_of old)) found seeks.seeks));
+  kept = kept_so (rules_with decide mid) mid.state.standing found mid.frame step last d (settles.handles (rules_with decide mid) mid.frame decided).step_is kept;
+  bounded = within;
+}
+
+-- nothing is found
+pub none_advances : (decide decide' : List Symbol → Decision) (old new : Follower) (bytes : List ℕ) (last : Decision) (answer : Option Step) → Seeks old new bytes (nat_eq (length bytes) (asked_of old)) None → reached new.state.window ≤ old.limit
+    → (new.state.phase ≡ phases.Ended → answer ≡ Some steps.End) → (new.state.phase ≢ phases.Ended → answer ≡ None) → Advances (seen_with decide last old) (seen_with decide' last new) bytes answer
+none_advances decide decide' old new bytes last answer seeks within ended other = by old.state.phase refl seeks.seeks
+  where
+    all : Bool
+    all = nat_eq (length bytes) (asked_of old)
+
+    phase : new.state.phase ≡ old.state.phase
+    phase = ap (λ (s : State). s.phase) seeks.state
+
+    by : (p : Phase) → old.state.phase ≡ p → SeeksBy p old new bytes (nat_eq (length bytes) (asked_of old)) None → Advances (seen_with decide last old) (seen_with decide' last new) bytes answer
+    by phases.Searching is found =
+        let rules = rules_with decide old in
+        let none : answer ≡ None = other (λ e. (let never : phases.Searching ≡ phases.Ended = sym (phase ∙ is) ∙ e in cc)) in
+        subst (λ a. Advances (seen_with decide last old) (seen_with decide' last new) bytes a) (sym none) (record {
+          live = λ live. (waits rules old.state new.state (symbols_of bytes) (nat_eq (length bytes) (asked_of old)) new.frame is phase (ap (λ (s : State). s.standing) seeks.state) (found.0 (searched_again rules)), seeks.packets);
+          rests = λ dead. absurd (dead (subst IsLive (sym is) tt));
+          kept = refl;
+          bounded = within;
+        })
+    by phases.Closing is found = cc
+    by phases.Ended is found =
+        subst (λ a. Advances (seen_with decide last old) (seen_with decide' last new) bytes a) (sym (ended (phase ∙ is))) (record {
+          live = λ live. absurd (subst IsLive is live);
+          rests = λ dead. record { state = found.1; packets = seeks.packets; ended = λ e. refl; failed = λ e. (let never : phases.Ended ≡ phases.Failed = sym is ∙ e in cc) };
+          kept = refl;
+          bounded = within;
+        })
+    by phases.Failed is found =
+        let none : answer ≡ None = other (λ e. (let never : phases.Failed ≡ phases.Ended = sym (phase ∙ is) ∙ e in cc)) in
+        subst (λ a. Advances (seen_with decide last old) (seen_with decide' last new) bytes a) (sym none) (record {
+          live = λ live. absurd (subst IsLive is live);
+          rests = λ dead. record { state = found.1; packets = seeks.packets; ended = λ e. (let never : phases.Failed ≡ phases.Ended = sym is ∙ e in cc); failed = λ e. refl };
+          kept = refl;
+          bounded = within;
+        })

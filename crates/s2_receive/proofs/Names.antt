@@ -39,8 +39,8 @@ pub use Rattle.s2_receive.specs.Receiving.{Rules, Standing, after, all_packets, 
 pub use Rattle.s2_receive.specs.Decider.{delivered_of}
 pub use Rattle.s2_report.specs.ReportLines.{frame_line, step_line}
 pub use Rattle.s2_receive.specs.Sinks.{Taking, TakesFrames, TakesStep, FailsStep, frames_of, IsNotTaken, BreaksTaken, StepAnswersWith, RunAnswersWith, NextWith, OnlyFailedWith}
-pub use Rattle.s2_receive.specs.ReceiverCore.{FailsIn, Fits, IsSound, CanCountIn}
-pub use Rattle.s2_receive.specs.Output.{Filled, filled_by, joined_by, counts_by, counted, answer_for, HandlesNext, Searches, TakesDecided, KeepsWithout}
+pub use Rattle.s2_receive.specs.ReceiverCore.{FailsIn, Fits, CanCountIn}
+pub use Rattle.s2_receive.specs.Output.{Filled, filled_by, joined_by, counts_by, counted, answer_for, HandlesNext, KeepsWithout}
 unfoldable pub use Rattle.s2_receive.specs.Windows.{Saw, found_as}
 pub use Rattle.s2_receive.specs.declared.packet_buffer.StepCounts.{StepCounts}
 pub use Rattle.s2_receive.specs.declared.window.Held.{Held}

@@ -1,5 +1,5 @@
 -- A run by the decisions of a rule is the receiver's own.
-use Rattle.s2_receive.proofs.Names.{◌≡◌, ℕ, zero, suc, ◌+◌, Bool, true, false, nat_le, List, [], ◌∷◌, ◌++◌, length, take, drop, flat_map, refl, sym, ap, ap₂, subst, ◌∙◌, drop-drop, if◌then◌else◌, Symbol, Found, Gap, Met, frame, cut, ended, no_gap, extended, begins, by_found, met_from, rest_of, inside_of, window_at, Rules, Standing, Decision, searched_again, after, line_of, packets_of, all_lines, all_packets, at_start}
+use Rattle.s2_receive.proofs.Names.{◌≡◌, ℕ, zero, suc, ◌+◌, Bool, true, false, nat_le, List, [], ◌∷◌, ◌++◌, length, take, drop, flat_map, refl, sym, ap, ap₂, subst, ◌∙◌, drop-drop, if◌then◌else◌, Symbol, Found, Gap, Met, frame, cut, ended, no_gap, extended, begins, by_found, met_from, rest_of, Rules, Standing, Decision, searched_again, after, line_of, packets_of, all_lines, all_packets, at_start}
 use Rattle.s2_receive.proofs.Names.founds
 use Rattle.s2_receive.specs.Halves.{IsOwn, OwnRunLaw, RunsBy, IsRunBy, deciding, decisions_on, lines_in, met_behind, met_in}
 

@@ -1,9 +1,10 @@
 -- A run of a follower, step by step.
-use Rattle.s2_receive.proofs.Names.{◌≡◌, ℕ, ◌+◌, ◌-◌, ◌≤◌, ◌&&◌, arith, Bool, true, false, List, [], ◌∷◌, ◌++◌, length, take, drop, Option, Some, None, refl, sym, ap, ap₂, subst, ◌∙◌, append-nil, append_assoc, drop_at, drop-drop, drop-append-le, if◌then◌else◌, Symbol, symbols_of, Sought, Met, frame, cut, ended, no_gap, met_from, resumed, Window, room_for, passed_by, window_after, met_of, met_then, met_within, Follows, Takes, HoldsLast, IsInFront, Rules, Standing, State, Decision, begun, is_lost, left_by, after, phase_after, IsDecided, Handles, step_line, Next, Step, Totals, Phase, found_as}
+use Rattle.s2_receive.proofs.Names.{◌≡◌, ℕ, ◌+◌, ◌-◌, ◌≤◌, ◌&&◌, arith, Bool, true, false, List, [], ◌∷◌, ◌++◌, length, drop, Option, Some, None, refl, sym, ap, ap₂, subst, ◌∙◌, append-nil, append_assoc, drop_at, drop-drop, drop-append-le, if◌then◌else◌, Symbol, symbols_of, Sought, frame, cut, ended, no_gap, met_from, resumed, Window, room_for, passed_by, window_after, met_of, met_within, Follows, HoldsLast, IsInFront, Rules, Standing, State, Decision, is_lost, left_by, after, IsDecided, Handles, step_line, Next, Phase, found_as}
 use Rattle.s2_receive.proofs.Names.next
 use Rattle.s2_receive.proofs.Names.phases
 use Rattle.s2_mode.specs.Mode.{symbols_in}
-use Rattle.s2_receive.specs.Halves.{Follower, IsSameFollower, IsRunBy, IsShown, RunBeginsLaw, RunEndsLaw, RunSeeksLaw, RunSettlesLaw, RunSoFar, RunsBy, Seeks, SeeksBy, Settles, ahead, asked_of, deciding, decision_if, met_behind, rules_with, wanted_by}
+use Rattle.s2_receive.specs.Halves.{Follower, IsSameFollower, IsRunBy, IsShown, RunBeginsLaw, RunEndsLaw, RunSeeksLaw, RunSettlesLaw, RunsBy, SeeksBy, ahead, deciding, decision_if, met_behind, rules_with}
+use Rattle.s2_receive.specs.Receiving.{wanted_by}
 use Rattle.s2_receive.proofs.LastSymbols.{last-last, last-more, passed_last}
 use Rattle.s2_receive.proofs.MetLemmas.{passed-inside}
 use Rattle.s2_receive.proofs.StepLemmas.{symbols_least}

@@ -1,16 +1,18 @@
--- A step in two halves: the search up to the next thing, and what is done with it by a decision that is given (own).
-use Rattle.std.specs.Prelude.{◌≡◌, ◌↔◌, ℕ, ◌+◌, ◌*◌, ◌<◌, ◌≤◌, ◌&&◌, nat_eq, Bool, true, false, List, [], ◌∷◌, ◌++◌, length, take, drop, Option, Some, None, IfSome, ⊤}
+-- A step in two halves: the search up to the next thing, and its handling by a given decision (own).
+use Rattle.std.specs.Prelude.{◌≡◌, ◌↔◌, ℕ, ◌+◌, ◌<◌, ◌≤◌, ◌&&◌, nat_eq, Bool, true, false, List, [], ◌∷◌, ◌++◌, length, drop, Option, Some, None, IfSome, ⊤}
 use Rattle.std.specs.List.{flat_map}
 use Rattle.s2_mode.specs.Mode.{Mode, symbols_in}
 use Rattle.s2_mode.specs.Symbols.{symbols_of}
 use Rattle.s2_mode.specs.declared.symbols.Symbol.{Symbol}
 use Rattle.s2_plframe.specs.Turns.{Sought}
+use Rattle.s2_receive.specs.Answers.{Seen}
 use Rattle.s2_receive.specs.Decider.{delivered_of}
+use Rattle.s2_receive.specs.Limits.{max_symbols}
 use Rattle.s2_receive.specs.Meeting.{Met, frame, cut, ended, met_from, no_gap, rest_of}
 use Rattle.s2_receive.specs.Output.{HandlesNext}
 use Rattle.s2_receive.specs.ReceiverCore.{CanCountIn, Fits}
-use Rattle.s2_receive.specs.Receiving.{Decision, IsDecided, Rules, Standing, State, Steps, after, all_lines, all_packets, at_start, begun, is_lost, left_by, line_of, packets_of, searched_again, state_of}
-use Rattle.s2_receive.specs.Synchronization.{Follows, HoldsLast, IsInFront, Synchronizer, Takes, Window, met_of, met_then, met_within, reached, room_for, wanted, window_after, window_at}
+use Rattle.s2_receive.specs.Receiving.{Decision, IsDecided, Rules, Standing, State, Steps, after, all_lines, all_packets, at_start, begun, is_lost, left_by, line_of, packets_of, searched_again, state_of, wanted_by}
+use Rattle.s2_receive.specs.Synchronization.{Follows, HoldsLast, IsInFront, Synchronizer, Takes, Window, met_of, met_then, met_within, reached, room_for, window_after, window_at}
 use Rattle.s2_receive.specs.Windows.{found_as}
 use Rattle.s2_receive.specs.declared.decider.Decided.{Decided}
 use Rattle.s2_receive.specs.declared.report.Phase.{Phase}
@@ -43,14 +45,13 @@ follower_of phase s limit held t found packets =
 abbrev pub rules_with : (List Symbol → Decision) → Follower → Rules
 rules_with decide f = record { finds = found_as f.sought f.max_header_errors; size = symbols_in f.sought.mode; resync = f.resync; decide = decide; limit = f.limit }
 
--- how many bytes it wants next, by its phase
-abbrev pub wanted_by : Phase → (limit room : ℕ) → Window → ℕ
-wanted_by phases.Searching limit room w = 4 * wanted limit room w
-wanted_by phase limit room w = 0
-
--- those of a receiver
+-- the number of bytes that it needs next
 abbrev pub asked_of : Follower → ℕ
 asked_of f = wanted_by f.state.phase f.limit (room_for f.resync (symbols_in f.sought.mode)) f.state.window
+
+-- it as a receiver with this rule of decision and this last decision
+abbrev pub seen_with : (List Symbol → Decision) → (last : Decision) → Follower → Seen
+seen_with decide last f = record { rules = rules_with decide f; state = f.state; last = last; packets = f.packets }
 
 -- it follows the same stream in the same way
 pub record IsSameFollower (old new : Follower) : Type 0 where
@@ -61,7 +62,7 @@ pub record IsSameFollower (old new : Follower) : Type 0 where
 
 -- ---- the first half
 
--- The search of these bytes, all that were wanted (`whole`) or the last ones. Nothing is met in them, or this was found, in
+-- The search of these bytes, all that it needs (`whole`) or the last ones. Nothing is met in them, or this was found, in
 -- front of the symbols held, whichever frames are lost. The symbols held are the last ones that came
 abbrev pub SeeksIn : (old new : Follower) → List ℕ → (whole : Bool) → Option Next → Type 0
 SeeksIn old new bytes whole found =
@@ -75,7 +76,7 @@ SeeksBy phases.Searching old new bytes whole found = SeeksIn old new bytes whole
 SeeksBy phases.Closing old new bytes whole found = (found ≡ Some (next.End (reached old.state.window) no_gap)) × (new.state.window ≡ old.state.window)
 SeeksBy phase old new bytes whole found = (found ≡ None) × (new.state ≡ old.state)
 
--- The first half of a step: no more is changed than the symbols held, and what is found in them
+-- The first half of a step: only the symbols held change, and the thing found in them
 pub record Seeks (old new : Follower) (bytes : List ℕ) (whole : Bool) (found : Option Next) : Type 0 where
   pub same : IsSameFollower old new
   pub state : new.state ≡ record old.state { window = new.state.window }
@@ -95,7 +96,7 @@ pub record Says (decided : Decided) (field : List ℕ) (d : Decision) : Type 0 w
   pub energy : d.energy ≡ decided.energy
   pub turn : d.turn ≡ decided.turn
 
--- The second half of a step: what was found is handled by this decision. If it is a frame, it is passed; only its first symbol
+-- The second half of a step: the thing found is handled by this decision. If it is a frame, it is passed; only its first symbol
 -- is, if it is lost and lost frames are searched again
 pub record Settles (old new : Follower) (found : Next) (d : Decision) (step : Step) : Type 0 where
   pub same : IsSameFollower old new
@@ -116,13 +117,13 @@ HalvesLaw =
 abbrev pub deciding : Rules → Decision → Rules
 deciding rules d = record rules { decide = λ symbols. d }
 
--- What is met in a recording after the frame at this position, by its decision: if it is lost and lost frames are searched
--- again, the search goes on in it. What is said of later frames is used of the first thing alone, which depends on no later decision
+-- The things met in a recording after the frame at this position, by its decision: if it is lost and lost frames are searched
+-- again, the search goes on in it. Only the first thing is used; it does not depend on the decisions to come
 abbrev pub met_behind : Rules → (recording : List Symbol) → (at : ℕ) → Decision → List Met
 met_behind rules recording at d =
     met_from rules.finds (λ symbols. false) rules.size (at + 1) (rest_of rules.finds (searched_again (deciding rules d)) rules.size (drop at recording)) true no_gap (drop (at + 1) recording)
 
--- A run in a recording from what is met next, whose frames are decided so, in order, writes exactly these lines and these
+-- A run in a recording from the next things met, whose frames are decided so, in order, writes exactly these lines and these
 -- packets. Each decision is one that may be shown for the frame's symbols. A cut frame and the end have no decision
 abbrev pub RunsBy : (Shows : List Symbol → Decision → Type 0) → Rules → (recording : List Symbol) → Standing → List Met → List Decision → (lines : List (List ℕ)) → (packets : List ℕ) → Type 0
 RunsBy Shows rules recording s (frame at skipped symbols ∷ later) (d ∷ more) (line ∷ lines) packets =
@@ -173,14 +174,14 @@ OwnRunLaw =
 
 -- ---- a run in steps
 
--- what a follower meets next: what it found, or what is still to be found in the symbols to come
+-- the things that a follower meets next: the one found, or those in the symbols to come
 abbrev pub ahead : Rules → Follower → Option Next → (coming : List Symbol) → List Met
 ahead rules f None coming = left_by (record rules { resync = false }) f.state.phase f.state.window coming
 ahead rules f (Some found) coming =
     met_of found f.frame ∷ met_then rules.finds (λ symbols. false) rules.size found (window_after (λ symbols. false) rules.size (Some found) f.state.window) coming
 
 -- What a follower has run so far, by these decisions, with these lines and packets, in the symbols that it has taken. More
--- symbols may come (`more_come`), or none. Each run from here on, put behind it, is a run over the recording
+-- symbols may come (`more_come`), or none. With each run that follows it is a run over the recording
 pub record RunSoFar (Shows : List Symbol → Decision → Type 0) (decide : List Symbol → Decision) (taken : List Symbol) (more_come : Bool) (f : Follower) (decisions : List Decision) (lines : List (List ℕ)) (packets : List ℕ) : Type 0 where
   pub last : HoldsLast 0 taken f.state.window
   pub front : IsInFront (symbols_in f.sought.mode) f.found f.state.window f.frame
@@ -227,7 +228,7 @@ RunEndsLaw Shows =
 
 -- ---- the invariant
 
--- the totals have room to count what was found
+-- the totals have room to count the thing found
 abbrev pub CanCount : ℕ → Totals → Option Next → (again : Bool) → Window → Type 0
 CanCount size t None again w = ⊤
 CanCount size t (Some found) again w = (delivered : ℕ) → delivered ≤ 1 → (again ≡ true → delivered ≡ 0) → CanCountIn (window_after (λ symbols. again) size (Some found) w) t delivered found
@@ -237,7 +238,7 @@ abbrev pub HoldsWhole : ℕ → Next → Window → Type 0
 HoldsWhole size (next.Frame at skipped) w = size ≤ length w.symbols
 HoldsWhole size found w = ⊤
 
--- The totals fit, and the search holds fewer symbols than it has room for, also after what was found, whether or not a frame is
+-- The totals fit, and the search holds fewer symbols than it has room for, also after the thing found, whether or not a frame is
 -- searched again. A frame that was found is held, and no more symbols were taken than the limit
 pub record IsFollowing (mode : Mode) (resync : Bool) (limit : ℕ) (found : Option Next) (window : Window) (t : Totals) : Type 0 where
   pub few : (again : Bool) → length (window_after (λ symbols. again) (symbols_in mode) found window).symbols < room_for resync (symbols_in mode)
@@ -245,3 +246,4 @@ pub record IsFollowing (mode : Mode) (resync : Bool) (limit : ℕ) (found : Opti
   pub counts : (again : Bool) → CanCount (symbols_in mode) t found again window
   pub held : IfSome found (λ n. HoldsWhole (symbols_in mode) n window)
   pub place : reached window ≤ limit
+  pub most : limit ≤ max_symbols

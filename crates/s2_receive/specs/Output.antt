@@ -1,15 +1,13 @@
 -- The packets and counts of a thing met, and the receiver's state after it (own).
-use Rattle.std.specs.Prelude.{◌≡◌, ℕ, ◌+◌, ◌*◌, ◌≤◌, ◌&&◌, IfSome, Bool, List, ◌∷◌, ◌++◌, length, Option, Some, None, ⊤}
+use Rattle.std.specs.Prelude.{◌≡◌, ℕ, ◌+◌, ◌*◌, ◌≤◌, List, length, Option, Some, None, ⊤}
 use Rattle.std.specs.List.{flat_map}
 use Rattle.s2_bbframe.specs.Limits.{max_field_bytes, packets_room}
 use Rattle.s2_bbframe.specs.declared.header.Header.{Header}
 use Rattle.s2_bbframe.specs.Joining.{Joined, still, begun_body}
 use Rattle.s2_mode.specs.Limits.{header_symbols}
 use Rattle.s2_mode.specs.declared.symbols.Symbol.{Symbol}
-use Rattle.s2_plframe.specs.declared.receive.found.Found.{Found}
-use Rattle.s2_receive.specs.Synchronization.{Follows, HoldsAfter, Takes, Window, met_then, met_of, room_for}
-use Rattle.s2_receive.specs.Receiving.{Decision, Handles, IsDecided, IsDecidedBy, Rules, State, Waits, at_end, count_of, counts_after, cut_totals, frame_totals, is_lost, joined_after, met_left, report_for, room_in, searched_again, taken, with_gap}
-use Rattle.s2_receive.specs.ReceiverCore.{CanCountIn}
+use Rattle.s2_receive.specs.Synchronization.{met_of}
+use Rattle.s2_receive.specs.Receiving.{Decision, Handles, IsDecided, Rules, State, at_end, counts_after, cut_totals, frame_totals, joined_after, report_for, with_gap}
 use Rattle.s2_report.specs.declared.report.Step.{Step}
 use Rattle.s2_report.specs.declared.report.Step.TheVariants as steps
 use Rattle.s2_receive.specs.declared.packet_buffer.StepCounts.{StepCounts}
@@ -61,22 +59,6 @@ answer_for last t (next.End at skipped) = steps.End
 abbrev pub HandlesNext : Rules → (old new : State) → Decision → Next → (packets : List ℕ) → Step → Type 0
 HandlesNext rules old new last found packets step =
     (symbols : List Symbol) → IsDecided rules (met_of found symbols) last → Handles rules old new (met_of found symbols) packets step
-
--- Symbols came to a receiver that searches. Nothing is met yet. Or this was met, a frame is decided, and nothing else
--- changed.
-abbrev pub Searches : Rules → (old new : State) → (symbols : List Symbol) → (whole : Bool) → Decision → Option Next → Type 0
-Searches rules old new symbols whole last None = Waits rules old new symbols whole
-Searches rules old new symbols whole last (Some found) =
-    (buffer : List Symbol) × IsDecided rules (met_of found buffer) last
-    × ((coming : List Symbol) → Follows whole coming → met_left rules old (symbols ++ coming) ≡ met_of found buffer ∷ met_then rules.finds (searched_again rules) rules.size found new.window coming)
-    × (taken new ≡ taken old + length symbols) × (new ≡ record old { window = new.window }) × HoldsAfter (searched_again rules) rules.size (room_in rules) found buffer new.window
-    × CanCountIn new.window old.standing.totals (count_of last.delivered) found
-
--- Symbols came to a search, and this was met. If lost frames are searched again, the decision says which frames are lost. If it is
--- a frame, the last decision is on its symbols
-abbrev pub TakesDecided : (Bool → List Symbol → Found) → (List Symbol → Decision) → (resync : Bool) → (size : ℕ) → (old new : Window) → (symbols : List Symbol) → (whole : Bool) → Decision → Option Next → Type 0
-TakesDecided finds decide resync size old new symbols whole last found =
-    (buffer : List Symbol) × Takes finds (λ frame. resync && is_lost (decide frame)) size (room_for resync size) old new symbols whole buffer found × IfSome found (λ next. IsDecidedBy decide (met_of next buffer) last)
 
 -- if no frame was met, the last decision is unchanged
 abbrev pub KeepsWithout : Option Next → (old new : Decision) → Type 0

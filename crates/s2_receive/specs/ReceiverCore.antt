@@ -1,11 +1,10 @@
--- The invariant between a receiver's steps (own).
-use Rattle.std.specs.Prelude.{◌≡◌, ℕ, Bool, ◌+◌, ◌*◌, ◌<◌, ◌≤◌, ◌⊎◌, List, [], length, Option}
+-- The room of a receiver's totals, and a step's output that was cut off (own).
+use Rattle.std.specs.Prelude.{ℕ, ◌+◌, ◌*◌, ◌≤◌, ◌⊎◌, List, [], Option}
 use Rattle.std.specs.Io.KnownBytes.{Appends}
-use Rattle.s2_mode.specs.Mode.{Mode, symbols_in}
 use Rattle.s2_mode.specs.Pieces.{AppendsPart}
 use Rattle.s2_mode.specs.Limits.{header_symbols}
 use Rattle.s2_receive.specs.Limits.{max_symbols}
-use Rattle.s2_receive.specs.Synchronization.{Window, reached, room_for}
+use Rattle.s2_receive.specs.Synchronization.{Window, reached}
 use Rattle.s2_receive.specs.declared.window.Next.{Next}
 use Rattle.s2_receive.specs.declared.window.Next.TheVariants as next
 use Rattle.s2_report.specs.declared.totals.Totals.{Totals}
@@ -34,10 +33,3 @@ CanCountIn w t delivered (next.End at skipped) = t.skipped + skipped.symbols + w
 -- a part of the packets was written and no line; or the packets and a part of the line
 abbrev pub FailsIn : List ℕ → List ℕ → Option (List ℕ) → Option (List ℕ) → Option (List ℕ) → Option (List ℕ) → Type 0
 FailsIn packets line p p' w w' = (AppendsPart packets p p' × Appends w w' []) ⊎ (Appends p p' packets × AppendsPart line w w')
-
--- a receiver's buffers are of the size of the frames that it decides, its search holds fewer symbols than it has room for, and
--- its totals fit
-pub record IsSound (mode : Mode) (resync : Bool) (takes limit : ℕ) (window : Window) (t : Totals) : Type 0 where
-  pub takes_frames : symbols_in mode ≡ takes
-  pub few : length window.symbols < room_for resync (symbols_in mode)
-  pub fits : Fits limit window t

@@ -292,10 +292,14 @@ left_in rules s bytes = left_known rules s.phase s.window bytes
 
 -- ---- symbols that come
 
--- the number of bytes wanted next: those of the symbols that the search lacks, up to the limit; 0 if it does not search
+-- the number of bytes wanted next, by the phase, the limit and the room of the search: those of the symbols that it lacks, up to
+-- the limit; 0 if it does not search
+abbrev pub wanted_by : Phase → (limit room : ℕ) → Window → ℕ
+wanted_by phases.Searching limit room w = 4 * wanted limit room w
+wanted_by phase limit room w = 0
+
 abbrev pub asked_by : Rules → Phase → Window → ℕ
-asked_by rules phases.Searching window = 4 * wanted rules.limit (room_in rules) window
-asked_by rules phase window = 0
+asked_by rules phase window = wanted_by phase rules.limit (room_in rules) window
 
 -- the same for a receiver in this state
 abbrev pub asked : Rules → State → ℕ

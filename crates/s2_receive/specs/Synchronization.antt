@@ -158,7 +158,7 @@ abbrev pub IsInFront : ℕ → Option Next → Window → List Symbol → Type 0
 IsInFront size (Some (next.Frame at skipped)) w symbols = (w.at ≡ at) × (size ≤ length w.symbols) × (symbols ≡ take size w.symbols)
 IsInFront size found w symbols = ⊤
 
--- The symbols held are the last ones of these, the first of which is at this position
+-- The symbols held are the last ones of these symbols, which begin at this position
 pub record HoldsLast (at : ℕ) (symbols : List Symbol) (w : Window) : Type 0 where
   pub front : List Symbol
   pub all : symbols ≡ front ++ w.symbols

@@ -18,11 +18,10 @@ ghost use Rattle.s2_receive.specs.declared.window.Next.TheVariants as next;
 
 use crate::decider::Decided;
 use crate::gap::Gap;
-use crate::packet_buffer::{PacketBuffer, StepCounts};
-use crate::receiver_core::Status;
-use crate::report::{Phase, frame_report};
+use crate::output::{Status, status_for, step_for};
+use crate::packet_buffer::PacketBuffer;
+use crate::report::Phase;
 use crate::synchronizer::Synchronizer;
-use crate::totals::{with_cut, with_frame, with_gap};
 use crate::window::Next;
 use s2_mode::{Mode, Symbol};
 use s2_plframe::HeaderTolerance;
@@ -67,7 +66,8 @@ fn is_lost(decided: Decided) -> bool
     }
 }
 
-/// Passes what was found: if it is a frame, all of it, or its first symbol if it is lost and lost frames are searched again.
+/// Passes the thing found. Of a frame that is all of it, or only its first symbol if it is lost and lost frames are searched
+/// again.
 fn pass_found(synchronizer: &mut Synchronizer, next: Next, lost: bool)
     requires held { HoldsWhole (symbols_in synchronizer.old.sought.mode) next synchronizer.old.window }
     requires limit { reached synchronizer.old.window ≤ max_symbols }
@@ -81,66 +81,11 @@ fn pass_found(synchronizer: &mut Synchronizer, next: Next, lost: bool)
     }
 }
 
-/// The step for what was found, by this decision.
-fn step_for(totals: Totals, next: Next, decided: Decided) -> Step
-    requires { totals.frames ≤ max_symbols }
-    ensures { (field : List ℕ) (d : Decision) → Says decided field d → result ≡ answer_for d totals next }
-{
-    match next {
-        Next::Frame { at, skipped: _ } => {
-            Step::Frame(frame_report(totals.frames + 1, at, decided))
-        }
-        Next::Cut {
-            at,
-            skipped: _,
-            count,
-        } => Step::Cut { at, symbols: count },
-        Next::End { at: _, skipped: _ } => Step::End,
-    }
-}
-
-/// The status after what was found, with these counts and this decision. The synchronizer has passed it.
-fn status_for(
-    synchronizer: &Synchronizer,
-    limit: u64,
-    totals: Totals,
-    next: Next,
-    counts: StepCounts,
-    decided: Decided,
-) -> Status
-    requires fits { Fits limit synchronizer.now.window totals }
-    requires room { CanCountIn synchronizer.now.window totals counts.delivered next }
-    requires few { IsFew counts }
-    ensures phase { result.phase ≡ phase_after (met_of next []) }
-    ensures totals { (field : List ℕ) (d : Decision) → Says decided field d → result.totals ≡ counted totals next counts d }
-    ensures fits { Fits limit synchronizer.now.window result.totals }
-{
-    let _ = synchronizer;
-    match next {
-        Next::Frame { at: _, skipped } => Status {
-            phase: Phase::Searching,
-            totals: with_frame(with_gap(totals, skipped), counts, decided),
-        },
-        Next::Cut {
-            at: _,
-            skipped,
-            count: _,
-        } => Status {
-            phase: Phase::Closing,
-            totals: with_cut(with_gap(totals, skipped), counts.incomplete),
-        },
-        Next::End { at: _, skipped } => Status {
-            phase: Phase::Ended,
-            totals: with_gap(totals, skipped.at_end()),
-        },
-    }
-}
-
 /// A receiver whose decisions are given. A step has two halves: [`Follower::seek`] finds the next thing, and
 /// [`Follower::settle`] handles it by the decision. The decision may depend on the frame's position and symbols.
 ///
-/// In contracts, it is the frames that it seeks, its lock, whether it searches lost frames again, its limit of symbols, its
-/// state, what it found, the symbols of that frame, and the packets of its last step.
+/// In contracts, it is the frames that it seeks, its lock, whether it searches lost frames again, its limit of symbols, and
+/// its state. Then the thing found, the symbols of that frame, and the packets of the last step.
 pub struct Follower {
     synchronizer: Synchronizer,
     joiner: PacketBuffer,
@@ -199,11 +144,12 @@ impl Follower {
         })
     }
 
-    /// The number of bytes that the next half wants.
+    /// The number of bytes that the next half needs.
     pub fn room(&self) -> usize
         requires none { self.now.found ≡ None }
         ensures is { result ≡ asked_of self.now }
         ensures few { result ≤ 4 * room_for self.now.resync (symbols_in self.now.sought.mode) }
+        ensures held { (length self.now.state.window.symbols < room_for self.now.resync (symbols_in self.now.sought.mode)) × (reached self.now.state.window ≤ self.now.limit) }
     {
         match self.status.phase {
             Phase::Searching => 4 * self.synchronizer.wanted(self.limit),
@@ -211,12 +157,13 @@ impl Follower {
         }
     }
 
-    /// Takes bytes, no more than are wanted, up to the next thing: a frame, a cut frame or the end. Returns it, or nothing if
+    /// Takes bytes, no more than it needs, up to the next thing: a frame, a cut frame or the end. Returns it, or nothing if
     /// more symbols are needed. It is then to be passed to [`Follower::settle`].
     pub fn seek(&mut self, bytes: &[u8]) -> Option<Next>
         requires none { self.old.found ≡ None }
         requires room { length bytes.now ≤ asked_of self.old }
         ensures seeks { Seeks self.old self.new bytes.now (nat_eq (length bytes.now) (asked_of self.old)) result }
+        ensures bounded { reached self.new.state.window ≤ self.new.limit }
     {
         self.found = seek_in(&mut self.synchronizer, self.status.phase, bytes, self.limit);
         self.found
@@ -230,11 +177,12 @@ impl Follower {
         self.synchronizer.frame()
     }
 
-    /// Handles what was found, and returns the step. If it is a frame, this is its decision, with its data field.
+    /// Handles the thing found, and returns the step. If it is a frame, this is its decision, with its data field.
     pub fn settle(&mut self, next: Next, decided: Decided, field: &[u8]) -> Step
         requires found { self.old.found ≡ Some next }
         requires place { IfSome decided.header (HasPlace field.now) }
         ensures settles { (d : Decision) → Says decided field.now d → Settles self.old self.new next d result }
+        ensures bounded { reached self.new.state.window ≤ self.new.limit }
     {
         pass_found(&mut self.synchronizer, next, is_lost(decided));
         let counts = self.joiner.give(next, decided.header, field);
@@ -260,8 +208,41 @@ impl Follower {
 
     /// The totals so far.
     pub fn totals(&self) -> Totals
-        ensures { result ≡ self.now.state.standing.totals }
+        ensures is { result ≡ self.now.state.standing.totals }
+        ensures counted { result.frames ≤ max_symbols }
     {
         self.status.totals
+    }
+
+    /// Its phase.
+    pub(crate) fn phase(&self) -> Phase
+        ensures is { result ≡ self.now.state.phase }
+        ensures within { reached self.now.state.window ≤ self.now.limit }
+        ensures counted { self.now.state.standing.totals.frames ≤ max_symbols }
+    {
+        self.status.phase
+    }
+
+    /// The number of symbols taken so far.
+    pub(crate) fn taken(&self) -> u64
+        ensures { result ≡ reached self.now.state.window }
+    {
+        self.synchronizer.reached()
+    }
+
+    /// Sets the limit of symbols in all.
+    pub(crate) fn limit(&mut self, symbols: u64)
+        requires none { self.old.found ≡ None }
+        requires limit { (reached self.old.state.window ≤ symbols) × (symbols ≤ max_symbols) }
+        ensures { self.new ≡ record self.old { limit = symbols } }
+    {
+        self.limit = symbols;
+    }
+
+    /// Marks the receiver as failed.
+    pub(crate) fn fail(&mut self)
+        ensures { self.new ≡ record self.old { state = record self.old.state { phase = phases.Failed } } }
+    {
+        self.status.phase = Phase::Failed;
     }
 }

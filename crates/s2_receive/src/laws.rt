@@ -74,7 +74,7 @@ pub fn own_run()
 {}
 
 /// A [`crate::Follower`] that makes its steps one after another makes a run by the decisions that it is given. A new one has run
-/// nothing. Each half of a step keeps what was run so far. At the end it is a run over the whole recording.
+/// nothing. Each half of a step continues the run so far. At the end it is a run over the whole recording.
 pub fn runs()
     ensures begins { (shows : List Symbol → Decision → Bool) → RunBeginsLaw (λ symbols d. shows symbols d ≡ true) }
     ensures seeks { (shows : List Symbol → Decision → Bool) → RunSeeksLaw (λ symbols d. shows symbols d ≡ true) }

@@ -11,6 +11,9 @@
 //! and then writes the step's line ([`s2_report::line_of`]). [`receive_all`] and [`receive_bytes`] take all steps. Only
 //! [`Receiver::new`] allocates memory.
 //!
+//! [`Follower`] makes the same steps by decisions that are given: [`Follower::seek`] finds the next frame, and
+//! [`Follower::settle`] handles it by its decision. The receiver makes its own steps by it.
+//!
 //! Dummy frames are not reported, and packets are joined across them. The totals count the losses: skipped symbols,
 //! incomplete packets and refused headers. If a decider gives the figures of a frame, its line has them, and the last line
 //! has their sums (`s2_report`). The steps are a function of the symbols (`specs/Meeting.antt`). The state, the output and the
@@ -21,7 +24,9 @@
 //! - frames received unchanged give the packets that were sent;
 //! - the way in which a reader cuts the bytes does not matter;
 //! - two runs in a row are one;
-//! - calls of [`Receiver::advance`] up to the end are one run.
+//! - calls of [`Receiver::advance`] up to the end are one run;
+//! - the two halves of a step are one step;
+//! - steps by given decisions make a run by these decisions. It is the receiver's own run if they are those of its decider.
 //!
 //! ```
 //! let mut receiver = Receiver::new(alloc, mode, false, lock, false, decider, MAX_SYMBOLS)?;

@@ -155,7 +155,7 @@ impl<D: Decide> Receiver<D> {
     pub fn packets(&self) -> &[u8]
         ensures { result.now ≡ self.now.packets }
     {
-        self.inner.joiner.packets()
+        self.inner.packets()
     }
 
     /// Whether the last step was a frame, so that the last decision is on this frame. It is false after a cut frame,

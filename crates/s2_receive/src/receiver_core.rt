@@ -1,114 +1,103 @@
 //! The receiver without input and output: bytes come, and steps are made.
-ghost use Rattle.std.specs.Prelude.{◌≡◌, ◌*◌, ◌<◌, ◌≤◌, ◌&&◌, Bool, List, IfOk, IfSome, length, nat_eq};
+ghost use Rattle.std.specs.Prelude.{◌≡◌, ◌≢◌, ◌*◌, ◌<◌, ◌≤◌, IfOk, None, Some, length};
 ghost use Rattle.s2_receive.specs.Limits.{max_symbols};
 ghost use Rattle.s2_mode.specs.Mode.{symbols_in};
-ghost use Rattle.s2_mode.specs.Symbols.{symbols_of};
 ghost use Rattle.s2_receive.specs.declared.report.Phase.TheVariants as phases;
-ghost use Rattle.s2_mode.specs.declared.symbols.Symbol.{Symbol as SymbolValue};
-ghost use Rattle.s2_receive.specs.Synchronization.{reached, room_for, wanted};
-ghost use Rattle.s2_receive.specs.Receiving.{asked, begun, is_lost, rules_of, taken};
+ghost use Rattle.s2_report.specs.declared.report.Step.TheVariants as steps;
+ghost use Rattle.s2_receive.specs.Synchronization.{met_of, room_for};
+ghost use Rattle.s2_receive.specs.Receiving.{IsDecidedBy, asked, begun, rules_of, taken};
 ghost use Rattle.s2_receive.specs.Answers.{Advances, IsSame, seen_by};
-ghost use Rattle.s2_receive.specs.Output.{KeepsWithout, Searches, TakesDecided};
+ghost use Rattle.s2_receive.specs.Halves.{IsSameFollower, asked_of, seen_with};
+ghost use Rattle.s2_receive.specs.Output.{KeepsWithout};
 ghost use Rattle.s2_plframe.specs.Turns.{sought_of};
-ghost use Rattle.s2_receive.specs.Windows.{found_as};
 
 use crate::decider::Decide;
-use crate::gap::Gap;
-use crate::packet_buffer::PacketBuffer;
+use crate::follower::Follower;
 use crate::report::Phase;
-use crate::synchronizer::Synchronizer;
 use crate::window::Next;
-use s2_mode::Mode;
+use s2_mode::{Mode, Symbol};
 use s2_plframe::HeaderTolerance;
 use s2_report::{Step, Totals};
 use std::alloc::{AllocError, Global};
 use std::marker::Model;
 
-/// The status of a receiver: its phase, and its totals so far.
-#[derive(Clone, Copy)]
-pub(crate) struct Status {
-    pub(crate) phase: Phase,
-    pub(crate) totals: Totals,
-}
-
 /// A receiver without a buffer to read into.
 pub(crate) struct ReceiverCore<D: Decide> {
-    pub(crate) synchronizer: Synchronizer,
+    follower: Follower,
     pub(crate) decider: D,
-    pub(crate) joiner: PacketBuffer,
-    pub(crate) status: Status,
-    limit: u64,
 }
 
 impl<D: Decide + Drop> Drop for ReceiverCore<D> {
     fn drop(self) {
         let ReceiverCore {
-            synchronizer: _,
+            follower: _,
             decider: _,
-            joiner: _,
-            status: _,
-            limit: _,
         } = self;
     }
 }
 
 impl<D: Decide> Model for ReceiverCore<D> {
-    ghost use Rattle.s2_receive.specs.Receiving.{Receiver as ReceiverValue, state_of};
-    ghost use Rattle.s2_receive.specs.ReceiverCore.{IsSound};
+    ghost use Rattle.std.specs.Prelude.{◌≡◌, None};
+    ghost use Rattle.s2_mode.specs.Mode.{symbols_in};
+    ghost use Rattle.s2_receive.specs.Receiving.{Receiver as ReceiverValue};
 
     ghost Value = { ReceiverValue D };
 
     ghost view = { λ r. record {
-      sought = r.synchronizer.sought;
-      max_header_errors = r.synchronizer.max_header_errors;
-      resync = r.synchronizer.resync;
+      sought = r.follower.sought;
+      max_header_errors = r.follower.max_header_errors;
+      resync = r.follower.resync;
       decider = r.decider;
-      limit = r.limit;
-      state = state_of r.status.phase r.synchronizer.window r.joiner.held r.status.totals;
-      packets = r.joiner.packets;
+      limit = r.follower.limit;
+      state = r.follower.state;
+      packets = r.follower.packets;
     } };
 
-    ghost invariant = { λ r. IsSound r.synchronizer.sought.mode r.synchronizer.resync (D.size r.decider) r.limit r.synchronizer.window r.status.totals };
+    ghost invariant = { λ r. (symbols_in r.follower.sought.mode ≡ D.size r.decider) × (r.follower.found ≡ None) };
 }
 
-/// Whether nothing was delivered of the frame that was decided last.
-fn is_lost<D: Decide>(decider: &D) -> bool
-    ensures { result ≡ is_lost (D.last decider.now) }
+/// If a frame was found, whose symbols these are, it is decided.
+fn decide_found<D: Decide>(decider: &mut D, next: Next, frame: &[Symbol])
+    requires size { length frame.now ≡ D.size decider.old }
+    ensures decided { IsDecidedBy (D.decide decider.old) (met_of next frame.now) (D.last decider.new) }
+    ensures kept { KeepsWithout (Some next) (D.last decider.old) (D.last decider.new) }
+    ensures same { (D.decide decider.new ≡ D.decide decider.old) × (D.size decider.new ≡ D.size decider.old) }
 {
-    match decider.decided().header {
-        Some(_) => false,
-        None => true,
-    }
-}
-
-/// Looks for the next frame or the end in the symbols of these bytes. If it is a frame, it is decided and passed.
-fn find_next<D: Decide>(
-    synchronizer: &mut Synchronizer,
-    decider: &mut D,
-    bytes: &[u8],
-    limit: u64,
-) -> Option<Next>
-    requires frames { symbols_in synchronizer.old.sought.mode ≡ D.size decider.old }
-    requires few { length synchronizer.old.window.symbols < room_for synchronizer.old.resync (symbols_in synchronizer.old.sought.mode) }
-    requires room { length bytes.now ≤ 4 * wanted limit (room_for synchronizer.old.resync (symbols_in synchronizer.old.sought.mode)) synchronizer.old.window }
-    requires limit { (reached synchronizer.old.window ≤ limit) × (limit ≤ max_symbols) }
-    requires skipped { synchronizer.old.window.skipped.symbols ≤ synchronizer.old.window.at }
-    ensures takes { TakesDecided (found_as synchronizer.old.sought synchronizer.old.max_header_errors) (D.decide decider.old) synchronizer.old.resync (symbols_in synchronizer.old.sought.mode) synchronizer.old.window synchronizer.new.window (symbols_of bytes.now)
-        (nat_eq (length bytes.now) (4 * wanted limit (room_for synchronizer.old.resync (symbols_in synchronizer.old.sought.mode)) synchronizer.old.window)) (D.last decider.new) result }
-    ensures kept { KeepsWithout result (D.last decider.old) (D.last decider.new) }
-    ensures same { (synchronizer.new.sought ≡ synchronizer.old.sought) × (synchronizer.new.max_header_errors ≡ synchronizer.old.max_header_errors) × (synchronizer.new.resync ≡ synchronizer.old.resync)
-        × (D.decide decider.new ≡ D.decide decider.old) × (D.size decider.new ≡ D.size decider.old) }
-{
-    let next = synchronizer.take(bytes, limit)?;
     match next {
-        Next::Frame { .. } => {
-            decider.decide(synchronizer.frame());
-            synchronizer.pass(is_lost(decider));
-        }
+        Next::Frame { .. } => decider.decide(frame),
         Next::Cut { .. } => {}
         Next::End { .. } => {}
     }
-    Some(next)
+}
+
+/// The result if nothing was found: the end again, or nothing.
+fn at_rest(phase: Phase) -> Option<Step>
+    ensures ended { phase ≡ phases.Ended → result ≡ Some steps.End }
+    ensures other { phase ≢ phases.Ended → result ≡ None }
+{
+    match phase {
+        Phase::Ended => Some(Step::End),
+        Phase::Searching | Phase::Closing | Phase::Failed => None,
+    }
+}
+
+/// Takes bytes, no more than the follower needs, up to the next step, whose frame is decided by this decider.
+fn advance_by<D: Decide>(follower: &mut Follower, decider: &mut D, bytes: &[u8]) -> Option<Step>
+    requires none { follower.old.found ≡ None }
+    requires frames { symbols_in follower.old.sought.mode ≡ D.size decider.old }
+    requires room { length bytes.now ≤ asked_of follower.old }
+    ensures none { follower.new.found ≡ None }
+    ensures follows { IsSameFollower follower.old follower.new }
+    ensures decider { (D.decide decider.new ≡ D.decide decider.old) × (D.size decider.new ≡ D.size decider.old) }
+    ensures advances { Advances (seen_with (D.decide decider.old) (D.last decider.old) follower.old) (seen_with (D.decide decider.new) (D.last decider.new) follower.new) bytes.now result }
+{
+    match follower.seek(bytes) {
+        Some(next) => {
+            decide_found(decider, next, follower.frame());
+            Some(follower.settle(next, decider.decided(), decider.field()))
+        }
+        None => at_rest(follower.phase()),
+    }
 }
 
 impl<D: Decide> ReceiverCore<D> {
@@ -129,16 +118,8 @@ impl<D: Decide> ReceiverCore<D> {
             × (r.resync ≡ resync) × (r.decider ≡ decider) × (r.limit ≡ limit)) }
         ensures begun { IfOk result (λ r. r.state ≡ begun) }
     {
-        Ok(ReceiverCore {
-            synchronizer: Synchronizer::new(alloc, mode, turns, max_header_errors, resync)?,
-            decider,
-            joiner: PacketBuffer::new(alloc)?,
-            status: Status {
-                phase: Phase::Searching,
-                totals: Totals::none(),
-            },
-            limit,
-        })
+        let follower = Follower::new(alloc, mode, turns, max_header_errors, resync, limit)?;
+        Ok(ReceiverCore { follower, decider })
     }
 
     /// Its phase.
@@ -147,7 +128,7 @@ impl<D: Decide> ReceiverCore<D> {
         ensures within { taken self.now.state ≤ self.now.limit }
         ensures counted { self.now.state.standing.totals.frames ≤ max_symbols }
     {
-        self.status.phase
+        self.follower.phase()
     }
 
     /// The totals so far.
@@ -155,14 +136,14 @@ impl<D: Decide> ReceiverCore<D> {
         ensures is { result ≡ self.now.state.standing.totals }
         ensures counted { result.frames ≤ max_symbols }
     {
-        self.status.totals
+        self.follower.totals()
     }
 
     /// The number of symbols taken so far.
     pub(crate) fn taken(&self) -> u64
         ensures { result ≡ taken self.now.state }
     {
-        self.synchronizer.reached()
+        self.follower.taken()
     }
 
     /// Sets the limit of symbols in all.
@@ -170,7 +151,7 @@ impl<D: Decide> ReceiverCore<D> {
         requires { (taken self.old.state ≤ symbols) × (symbols ≤ max_symbols) }
         ensures { self.new ≡ record self.old { limit = symbols } }
     {
-        self.limit = symbols;
+        self.follower.limit(symbols);
     }
 
     /// The number of bytes wanted next.
@@ -179,24 +160,14 @@ impl<D: Decide> ReceiverCore<D> {
         ensures few { result ≤ 4 * room_for self.now.resync (symbols_in self.now.sought.mode) }
         ensures held { (length self.now.state.window.symbols < room_for self.now.resync (symbols_in self.now.sought.mode)) × (taken self.now.state ≤ self.now.limit) }
     {
-        match self.status.phase {
-            Phase::Searching => 4 * self.synchronizer.wanted(self.limit),
-            Phase::Closing | Phase::Ended | Phase::Failed => 0,
-        }
+        self.follower.room()
     }
 
-    /// Looks for the next frame or the end in the symbols of these bytes. If it is a frame, it is decided.
-    fn search(&mut self, bytes: &[u8]) -> Option<Next>
-        requires searching { self.old.state.phase ≡ phases.Searching }
-        requires room { length bytes.now ≤ asked (rules_of D.decide self.old) self.old.state }
-        ensures same { IsSame D.decide self.old self.new }
-        ensures packets { self.new.packets ≡ self.old.packets }
-        ensures searches { Searches (rules_of D.decide self.old) self.old.state self.new.state (symbols_of bytes.now)
-            (nat_eq (length bytes.now) (asked (rules_of D.decide self.old) self.old.state)) (D.last self.new.decider) result }
-        ensures kept { KeepsWithout result (D.last self.old.decider) (D.last self.new.decider) }
-        ensures bounded { taken self.new.state ≤ self.old.limit }
+    /// The packets of the last step.
+    pub(crate) fn packets(&self) -> &[u8]
+        ensures { result.now ≡ self.now.packets }
     {
-        find_next(&mut self.synchronizer, &mut self.decider, bytes, self.limit)
+        self.follower.packets()
     }
 
     /// Takes bytes, no more than are wanted, up to the next step.
@@ -205,22 +176,13 @@ impl<D: Decide> ReceiverCore<D> {
         ensures same { IsSame D.decide self.old self.new }
         ensures advances { Advances (seen_by D.decide D.last self.old) (seen_by D.decide D.last self.new) bytes.now result }
     {
-        let next = match self.status.phase {
-            Phase::Searching => self.search(bytes)?,
-            Phase::Closing => Next::End {
-                at: self.synchronizer.reached(),
-                skipped: Gap::none(),
-            },
-            Phase::Ended => return Some(Step::End),
-            Phase::Failed => return None,
-        };
-        Some(self.step_to(next))
+        advance_by(&mut self.follower, &mut self.decider, bytes)
     }
 
     /// Marks the receiver as failed.
     pub(crate) fn fail(&mut self)
         ensures { self.new ≡ record self.old { state = record self.old.state { phase = phases.Failed } } }
     {
-        self.status.phase = Phase::Failed;
+        self.follower.fail();
     }
 }

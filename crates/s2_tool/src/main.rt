@@ -1,11 +1,14 @@
 //! The program.
 #![tactic(auto)]
 
+mod about;
 mod opening;
 mod options;
 mod serve;
 
+use crate::about::{printed_sum, sums_for};
 use crate::serve::{every_of, print_usage, request_of, run_request, words_given};
+use s2_about::FileSums;
 use s2_io::Terminal;
 use s2_notes::{errors_of, takes_output};
 use s2_opening::screen_beside;
@@ -17,9 +20,12 @@ fn main(rt: HostRuntime) -> ExitCode {
     let exit = match request_of(rt.alloc(), &words) {
         Ok(request) => {
             let every = every_of(&request);
-            let mut screen = screen_beside(&terminal, takes_output(&request), every);
+            let made = FileSums::new();
+            let sums = sums_for(&request, &made);
+            let printed = printed_sum(&request, sums);
+            let mut screen = screen_beside(&terminal, takes_output(&request), every, printed);
             let mut notes = errors_of(&terminal);
-            run_request(&rt, &terminal, &request, &mut screen, &mut notes)
+            run_request(&rt, &terminal, &request, sums, &mut screen, &mut notes)
         }
         Err(unread) => print_usage(&rt, &terminal, &unread),
     };

@@ -1,27 +1,30 @@
 //! Runs the request of the command line. This is plain code: each command has its own contract.
-ghost use Rattle.std.specs.Prelude.{◌≡◌, OnErr};
+ghost use Rattle.std.specs.Prelude.{◌≡◌, ◌≢◌, OnErr};
 ghost use Rattle.s2_mode.specs.Counts.{CanCount};
 ghost use Rattle.s2_io.specs.Screens.{CanNote};
 ghost use Rattle.s2_judging.specs.Files.{CanJudge};
 
+use crate::about::compare_record;
 use crate::opening::open_judge;
 use crate::options::{
     channel_of, demod_options, demodulation_of, form_of, judging_of, run_options, shape_by,
     shape_of,
 };
-use s2_audit::audit_command;
+use s2_about::FileSums;
+use s2_audit::{Demodulation, audit_command};
 use s2_commands::{noise_command, rows_command};
 use s2_compare::compare_command;
 use s2_evidence::{check_command, check_each_command};
 use s2_io::{Console, Disk, Exit, Fault, Output, Pace, Terminal};
 use s2_judging::{JudgeFiles, judge_command, judge_each_command, self_command};
+use s2_link::LinkSetup;
 use s2_link_commands::{LinkRequest, setup_of, with_link};
 use s2_mode::{CountedRead, CountedWrite, FaultText, Mode, Shape};
 use s2_names::modes_command;
 use s2_notes::{has_control, note_audit, note_cause, note_marks, shown};
 use s2_opening::{
-    FileOpener, Finishes, Opens, Unserved, open_audit, open_compare, open_inputs, open_join,
-    open_noise, open_scan, screen_beside, show_on, standard_input,
+    AuditFiles, FileOpener, Finishes, Opens, Unserved, open_audit, open_compare, open_inputs,
+    open_join, open_noise, open_scan, screen_beside, show_on, standard_input,
 };
 use s2_records::join_command;
 use s2_scan::scan_command;
@@ -99,7 +102,7 @@ pub(crate) fn print_usage<R: Disk + AllocGlobal + Print + Eprint>(
     unread: &Unread,
 ) -> Exit {
     match unread {
-        Unread::NoMemory => lacks_memory(&mut screen_beside(terminal, false, 0)),
+        Unread::NoMemory => lacks_memory(&mut screen_beside(terminal, false, 0, None)),
         Unread::Asked(help) => match help.print(rt) {
             Ok(()) => Exit::Fine,
             Err(_) => Exit::Fault,
@@ -201,13 +204,14 @@ pub(crate) fn run_request<R: Disk + Clock + AllocGlobal, O: CountedWrite, E: Cou
     rt: &R,
     terminal: &Terminal<'_, R>,
     request: &Request<'_>,
+    sums: Option<&FileSums>,
     console: &mut Console<O, E>,
     notes: &mut E,
 ) -> Exit
     requires console { CanNote console.old }
     requires notes { CanCount (E.count notes.old) }
 {
-    let exit = match serve_files(terminal, request, console, notes) {
+    let exit = match serve_files(terminal, request, sums, console, notes) {
         Ok(exit) => exit,
         Err(unserved) => report_noted(rt, terminal, request, unserved, console),
     };
@@ -221,6 +225,7 @@ pub(crate) fn run_request<R: Disk + Clock + AllocGlobal, O: CountedWrite, E: Cou
 fn serve_files<'a, R: Disk + Clock + AllocGlobal, O: CountedWrite, E: CountedWrite>(
     terminal: &Terminal<'_, R>,
     request: &Request<'a>,
+    sums: Option<&FileSums>,
     console: &mut Console<O, E>,
     notes: &mut E,
 ) -> Result<Exit, Unserved<'a>>
@@ -229,7 +234,7 @@ fn serve_files<'a, R: Disk + Clock + AllocGlobal, O: CountedWrite, E: CountedWri
     ensures { OnErr result (CanCount console.new.errors_failed) }
 {
     let mut opener = FileOpener::new(terminal);
-    serve_request(&mut opener, terminal, request, console, notes)
+    serve_request(&mut opener, terminal, request, sums, console, notes)
 }
 
 /// The same with an opener.
@@ -237,6 +242,7 @@ fn serve_request<'a, P: Opens<'a>, R: Disk + Clock + AllocGlobal, O: CountedWrit
     opener: &mut P,
     terminal: &Terminal<'_, R>,
     request: &Request<'a>,
+    sums: Option<&FileSums>,
     console: &mut Console<O, E>,
     notes: &mut E,
 ) -> Result<Exit, Unserved<'a>>
@@ -256,11 +262,18 @@ fn serve_request<'a, P: Opens<'a>, R: Disk + Clock + AllocGlobal, O: CountedWrit
         Request::Noise(words) => serve_noise(opener, terminal, words, console),
         Request::Scan(words) => serve_scan(opener, terminal, words, console),
         Request::Join(words) => serve_join(opener, alloc, words, console),
-        Request::Audit(words) => serve_audit(opener, terminal, words, console),
+        Request::Audit(words) => serve_audit(opener, terminal, words, sums, console),
         Request::Compare(words) => serve_compare(opener, alloc, words, console),
-        Request::Mod(words) => with_link(opener, terminal, LinkRequest::Mod(words), console, notes),
-        Request::Demod(words) => serve_demod(opener, terminal, words, console, notes),
-        Request::Run(words) => serve_run(opener, terminal, words, console, notes),
+        Request::Mod(words) => with_link(
+            opener,
+            terminal,
+            LinkRequest::Mod(words),
+            None,
+            console,
+            notes,
+        ),
+        Request::Demod(words) => serve_demod(opener, terminal, words, sums, console, notes),
+        Request::Run(words) => serve_run(opener, terminal, words, sums, console, notes),
     }
 }
 
@@ -293,6 +306,7 @@ fn serve_demod<'a, P: Opens<'a>, R: Disk + Clock + AllocGlobal, O: CountedWrite,
     opener: &mut P,
     terminal: &Terminal<'_, R>,
     words: &DemodArguments<'a>,
+    sums: Option<&FileSums>,
     console: &mut Console<O, E>,
     notes: &mut E,
 ) -> Result<Exit, Unserved<'a>>
@@ -303,7 +317,7 @@ fn serve_demod<'a, P: Opens<'a>, R: Disk + Clock + AllocGlobal, O: CountedWrite,
 {
     let options = demod_options(words).ok_or(Unserved::NoMode)?;
     let request = LinkRequest::Demod(words, &options);
-    with_link(opener, terminal, request, console, notes)
+    with_link(opener, terminal, request, sums, console, notes)
 }
 
 /// `run`.
@@ -311,6 +325,7 @@ fn serve_run<'a, P: Opens<'a>, R: Disk + Clock + AllocGlobal, O: CountedWrite, E
     opener: &mut P,
     terminal: &Terminal<'_, R>,
     words: &RunArguments<'a>,
+    sums: Option<&FileSums>,
     console: &mut Console<O, E>,
     notes: &mut E,
 ) -> Result<Exit, Unserved<'a>>
@@ -321,7 +336,7 @@ fn serve_run<'a, P: Opens<'a>, R: Disk + Clock + AllocGlobal, O: CountedWrite, E
 {
     let options = run_options(words).ok_or(Unserved::NoMode)?;
     let request = LinkRequest::Run(words, &options);
-    with_link(opener, terminal, request, console, notes)
+    with_link(opener, terminal, request, sums, console, notes)
 }
 
 /// `modes`.
@@ -531,11 +546,37 @@ fn serve_join<'a, P: Opens<'a>, O: CountedWrite, E: CountedWrite>(
     Ok(join_command(alloc, mode, &mut bbframes, &mut packets, console))
 }
 
-/// `audit`. If it is refused, a note names the likely causes.
+/// Runs `audit` on its files.
+fn audit_files<R: CountedRead, O: CountedWrite, E: CountedWrite>(
+    alloc: Global,
+    setup: LinkSetup,
+    how: Demodulation,
+    files: &mut AuditFiles<'_, R>,
+    console: &mut Console<O, E>,
+) -> Exit
+    requires rows { (R.count files.old.rows.inner ≡ 0) × (R.count files.old.symbols.inner ≡ 0) }
+    requires report { (R.count files.old.report.inner ≡ 0) × (R.count files.old.certificates.inner ≡ 0) }
+    requires console { CanNote console.old }
+    ensures { result ≢ Exit.Fault → CanNote console.new }
+{
+    audit_command(
+        alloc,
+        setup,
+        how,
+        &mut files.rows,
+        &mut files.symbols,
+        &mut files.report,
+        &mut files.certificates,
+        console,
+    )
+}
+
+/// `audit`. If it is refused, a note names the likely causes. Then the record of `--about` is compared, if one is given.
 fn serve_audit<'a, P: Opens<'a>, R: Disk + AllocGlobal, O: CountedWrite, E: CountedWrite>(
     opener: &mut P,
     terminal: &Terminal<'_, R>,
     words: &AuditArguments<'a>,
+    sums: Option<&FileSums>,
     console: &mut Console<O, E>,
 ) -> Result<Exit, Unserved<'a>>
     requires opener { P.opened opener.old ≡ 0 }
@@ -544,17 +585,23 @@ fn serve_audit<'a, P: Opens<'a>, R: Disk + AllocGlobal, O: CountedWrite, E: Coun
 {
     let setup = setup_of(words.link).ok_or(Unserved::NoMode)?;
     let how = demodulation_of(&setup.mode, words).ok_or(Unserved::OutOfRange)?;
-    let (mut rows, mut symbols, mut report, mut certificates) = open_audit(opener, words)?;
-    let exit = audit_command(
-        terminal.host().alloc(),
-        setup,
-        how,
-        &mut rows,
-        &mut symbols,
-        &mut report,
-        &mut certificates,
-        console,
-    );
+    let mut files = open_audit(opener, words, sums)?;
+    let alloc = terminal.host().alloc();
+    let exit = audit_files(alloc, setup, how, &mut files, console);
     note_audit(terminal, exit);
-    Ok(exit)
+    match sums {
+        Some(sums) if exit != Exit::Fault => {
+            let ended = compare_record(
+                alloc,
+                words.link,
+                how,
+                &mut files,
+                sums,
+                exit,
+                &mut console.output,
+            );
+            Ok(console.finish(ended))
+        }
+        _ => Ok(exit),
+    }
 }

@@ -531,6 +531,17 @@ pub(crate) const BITS_GIVEN: Argument = Argument {
     help: "WORDS is text: a line of n digits 0 and 1 for each word",
 };
 
+pub(crate) const ABOUT: Argument = Argument {
+    name: "about",
+    form: ArgumentKind::Valued(FILE),
+    help: "Write to this file, at the end, how the report was made: version, mode, options, and the SHA-256 of each file, as JSON",
+};
+
+pub(crate) const ABOUT_REPORT: Argument = Argument {
+    help: "Compare the files and the options with those of this file, which `demod --about` wrote",
+    ..ABOUT
+};
+
 /// The argument for the name of a file.
 macro_rules! file {
     ($name:literal, $help:literal) => {

@@ -205,6 +205,8 @@ Files:
   A frame's records are written before its line. A file keeps its contents until the rows",
             $accepted,
             " are accepted.
+  --about writes a JSON object when the command ends, but not after a fault: the version, the mode, every option, and
+  the SHA-256 and the number of bytes of each file and of the report. It is opened after all other files.
 
 Example:
 ",
@@ -292,6 +294,8 @@ The report, a line for each frame that REPORT calls sole or most-likely, and a l
   frame I at SYMBOL REASON                not proved; the audit ends here
   certificates left over                  CERTIFICATES has more after that of the last frame
   audit frames F sole A most-likely B     REPORT has F frames; all frames that it calls sole (A) or most-likely (B) are proved
+  about line N differs: KEY               with --about: line N of its file has another value than these options and files
+  about has no KEY                        with --about: its file has no line with this key
 
 Reasons:
   no certificate    CERTIFICATES ends before the certificate of this frame
@@ -303,7 +307,7 @@ Reasons:
 Exit status:
   0  all frames called sole or most-likely are proved, and no certificate is left over
   1  a usage error, or an error reported on standard error
-  2  a frame is not proved, or certificates are left over
+  2  a frame is not proved, certificates are left over, or the file of --about differs
 
 Notes, on standard error:
   likely causes: ..    after exit 2: another divisor (try --tuned), another mode, or a recording that was cut or shifted

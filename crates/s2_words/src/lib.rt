@@ -26,6 +26,7 @@ mod seed_range;
 mod table;
 mod unread;
 
+pub use parser::VERSION;
 pub use reading::parse_arguments;
 pub use refusal::not_text;
 pub use request::{

@@ -2,10 +2,14 @@
 use crate::arguments::{Argument, ArgumentKind, Value};
 use crate::help::{ABOUT, MORE, more_of};
 use crate::table::{
-    Choice, CommandHelp, CommandName, Rule, arguments_of, choices_of, commands, rule_of,
+    Choice, CommandHelp, CommandName, Rule, Section, arguments_in, choices_of, commands, rule_of,
+    sections_of,
 };
 use clap::{Arg, ArgAction, ArgGroup, Command};
 use std::alloc::{AllocError, Global};
+
+/// The version of the program.
+pub const VERSION: &str = "0.1";
 
 /// An option with a value. A negative number is also taken as its value, so that an error is about the value.
 fn valued<'a>(arg: Arg<'a>, value: Value) -> Arg<'a> {
@@ -51,11 +55,24 @@ fn push_arg<'a>(
     Ok(())
 }
 
+/// Adds the arguments of a part.
+fn push_section<'a>(
+    alloc: Global,
+    args: &mut Vec<Arg<'a>>,
+    command: CommandName,
+    section: Section,
+) -> Result<(), AllocError> {
+    for argument in arguments_in(section) {
+        push_arg(alloc, args, command, *argument)?;
+    }
+    Ok(())
+}
+
 /// The arguments of a command.
 fn args_of<'a>(alloc: Global, command: CommandName) -> Result<Vec<Arg<'a>>, AllocError> {
     let mut args = Vec::new(alloc);
-    for argument in arguments_of(command) {
-        push_arg(alloc, &mut args, command, *argument)?;
+    for section in sections_of(command) {
+        push_section(alloc, &mut args, command, *section)?;
     }
     Ok(args)
 }
@@ -88,31 +105,19 @@ fn command_of<'a>(alloc: Global, entry: CommandHelp) -> Result<Command<'a>, Allo
     described(alloc, entry).args(args)?.groups(groups)
 }
 
-/// Adds a command.
-fn push_command<'a>(
-    alloc: Global,
-    all: &mut Vec<Command<'a>>,
-    entry: CommandHelp,
-) -> Result<(), AllocError> {
-    all.push(command_of(alloc, entry)?)?;
-    Ok(())
-}
-
-/// All commands.
-fn commands_of<'a>(alloc: Global) -> Result<Vec<Command<'a>>, AllocError> {
-    let mut all = Vec::new(alloc);
-    for entry in commands() {
-        push_command(alloc, &mut all, *entry)?;
-    }
-    Ok(all)
+/// The parser without commands.
+fn empty_program<'a>(alloc: Global) -> Command<'a> {
+    Command::new(alloc, "s2")
+        .version(VERSION)
+        .about(ABOUT)
+        .after_help(MORE)
 }
 
 /// The parser of all commands.
 pub(crate) fn program<'a>(alloc: Global) -> Result<Command<'a>, AllocError> {
-    let all = commands_of(alloc)?;
-    Command::new(alloc, "s2")
-        .version("0.1")
-        .about(ABOUT)
-        .after_help(MORE)
-        .subcommands(all)
+    let mut program = empty_program(alloc);
+    for entry in commands() {
+        program = program.subcommand(command_of(alloc, *entry)?)?;
+    }
+    Ok(program)
 }

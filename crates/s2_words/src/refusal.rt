@@ -5,7 +5,7 @@ use crate::misuse::{Misuse, misuse_of};
 use crate::options::read_modcod;
 use crate::reading::roll_off_of;
 use crate::seed_range::read_seeds;
-use crate::table::{CommandHelp, arguments_of, commands};
+use crate::table::{CommandHelp, Section, arguments_in, commands, sections_of};
 use crate::unread::Unread;
 use clap::builder::ValueParser;
 use clap::error::ErrorKind;
@@ -89,14 +89,24 @@ fn parser_of(command: Option<CommandHelp>, option: &str) -> ValueParser<'static>
     let Some(entry) = command else {
         return ValueParser::String;
     };
-    for argument in arguments_of(entry.command) {
-        if let ArgumentKind::Valued(value) = argument.form {
-            if bare(option).strip_prefix("--") == Some(argument.name) {
-                return value.allowed;
-            }
+    for section in sections_of(entry.command) {
+        if let Some(parser) = parser_in(*section, option) {
+            return parser;
         }
     }
     ValueParser::String
+}
+
+/// The parser of the option with this name in the help, if it is in this part.
+fn parser_in(section: Section, option: &str) -> Option<ValueParser<'static>> {
+    for argument in arguments_in(section) {
+        if let ArgumentKind::Valued(value) = argument.form {
+            if bare(option).strip_prefix("--") == Some(argument.name) {
+                return Some(value.allowed);
+            }
+        }
+    }
+    None
 }
 
 /// An option without the name of its value.

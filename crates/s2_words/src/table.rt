@@ -1,15 +1,15 @@
 //! The table of the command line: the commands, and the arguments of each.
 use crate::arguments::{
-    Argument, BBFRAMES, BBFRAMES_GIVEN, BBFRAMES_READ, BITS_GIVEN, CERTIFICATE, CERTIFICATE_READ,
-    CERTIFICATES, CERTIFICATES_GIVEN, CERTIFICATES_READ, CLEAN_SYMBOLS, CODEWORDS, DIVISOR,
-    DIVISOR_OF_REPORT, DUMMY, EACH_CERTIFICATE, EACH_FRAME, EQUALIZE, EQUALIZE_REPORT, ESN0, EVERY,
-    EXIT_BY, FACTOR, FIGURES, FIRST, GROUP, GROUP_OR_MODE, GROUPS, GROUPS_OR_MODE, HARD, LEVEL,
-    LOCK, MODCOD, MODCOD_OR_NONE, NOISY_SYMBOLS, NUMBER, PACKETS, PACKETS_MADE, PACKETS_RECEIVED,
-    PASSES, PILOTS, PROGRESS, Q, Q_OR_MODE, QUIET, QUIET_AND_STILL, RATE, RECORDING, REPORT,
-    RESYNC, RESYNC_BOTH, RESYNC_FRAMES, RESYNC_REPORT, ROLL_OFF, ROLL_OFF_READ, ROUNDS, ROWS, SEED,
-    SEED_OR_SEEDS, SEEDS, SENT_BBFRAMES, SENT_CODEWORDS, SENT_LABELS, SENT_SYMBOLS, SHORT,
-    SOFT_VALUES, STRICT, SYMBOLS, SYMBOLS_MADE, TUNED, TUNED_REPORT, TURNS, TURNS_REPORT,
-    UNCERTIFIED, VALUES, WEIGHT, WORDS,
+    ABOUT, ABOUT_REPORT, Argument, BBFRAMES, BBFRAMES_GIVEN, BBFRAMES_READ, BITS_GIVEN,
+    CERTIFICATE, CERTIFICATE_READ, CERTIFICATES, CERTIFICATES_GIVEN, CERTIFICATES_READ,
+    CLEAN_SYMBOLS, CODEWORDS, DIVISOR, DIVISOR_OF_REPORT, DUMMY, EACH_CERTIFICATE, EACH_FRAME,
+    EQUALIZE, EQUALIZE_REPORT, ESN0, EVERY, EXIT_BY, FACTOR, FIGURES, FIRST, GROUP, GROUP_OR_MODE,
+    GROUPS, GROUPS_OR_MODE, HARD, LEVEL, LOCK, MODCOD, MODCOD_OR_NONE, NOISY_SYMBOLS, NUMBER,
+    PACKETS, PACKETS_MADE, PACKETS_RECEIVED, PASSES, PILOTS, PROGRESS, Q, Q_OR_MODE, QUIET,
+    QUIET_AND_STILL, RATE, RECORDING, REPORT, RESYNC, RESYNC_BOTH, RESYNC_FRAMES, RESYNC_REPORT,
+    ROLL_OFF, ROLL_OFF_READ, ROUNDS, ROWS, SEED, SEED_OR_SEEDS, SEEDS, SENT_BBFRAMES,
+    SENT_CODEWORDS, SENT_LABELS, SENT_SYMBOLS, SHORT, SOFT_VALUES, STRICT, SYMBOLS, SYMBOLS_MADE,
+    TUNED, TUNED_REPORT, TURNS, TURNS_REPORT, UNCERTIFIED, VALUES, WEIGHT, WORDS,
 };
 
 /// The commands.
@@ -113,243 +113,347 @@ pub(crate) fn commands() -> &'static [CommandHelp] {
     &COMMANDS
 }
 
-/// The arguments of `modes`, in order.
+/// A part of a command's arguments. Long lists are cut into parts, because the proof of a table takes a time that grows with
+/// the square of its length.
+#[derive(Clone, Copy)]
+pub(crate) enum Section {
+    /// The mode of a link, and its scrambling number.
+    Link,
+    /// A code, by its shape or by a mode.
+    Code,
+    /// How a receiver decodes.
+    Decoding,
+    /// How a receiver of `run` finds frames.
+    Finding,
+    /// How `demod` finds frames.
+    FindingFrames,
+    /// What a receiver reports.
+    Reporting,
+    /// The files of a receiver's records.
+    Records,
+    /// `modes`.
+    Modes,
+    /// `rows`.
+    Rows,
+    /// `table`.
+    Table,
+    /// `judge`, after the code.
+    Judge,
+    /// The end of `judge`.
+    JudgeFiles,
+    /// `check`.
+    Check,
+    /// `mod`, after the link.
+    Sending,
+    /// The files of the records of `mod`.
+    SentRecords,
+    /// The files of `mod`.
+    ModFiles,
+    /// `noise`.
+    Noise,
+    /// The end of `noise`.
+    NoiseFiles,
+    /// The roll-off, which a receiver ignores.
+    Received,
+    /// The files of `demod`.
+    DemodFiles,
+    /// `run`, after the link.
+    Run,
+    /// The channel of `run`.
+    Channel,
+    /// The files of `run`.
+    RunFiles,
+    /// `scan`.
+    Scan,
+    /// `join`.
+    Join,
+    /// `audit`, after the roll-off.
+    Audit,
+    /// The files of `audit`.
+    AuditFiles,
+    /// `compare`, after the code.
+    Compare,
+    /// The files of `compare`.
+    CompareFiles,
+}
+
+static LINK_ARGUMENTS: [Argument; 4] = [MODCOD, SHORT, PILOTS, NUMBER];
+
+fn link_arguments() -> &'static [Argument] {
+    &LINK_ARGUMENTS
+}
+
+static CODE_ARGUMENTS: [Argument; 5] = [
+    GROUP_OR_MODE,
+    GROUPS_OR_MODE,
+    Q_OR_MODE,
+    MODCOD_OR_NONE,
+    SHORT,
+];
+
+fn code_arguments() -> &'static [Argument] {
+    &CODE_ARGUMENTS
+}
+
+static DECODING_ARGUMENTS: [Argument; 5] = [ROUNDS, PASSES, UNCERTIFIED, DIVISOR, FACTOR];
+
+fn decoding_arguments() -> &'static [Argument] {
+    &DECODING_ARGUMENTS
+}
+
+static FINDING_ARGUMENTS: [Argument; 4] = [LOCK, TURNS, EQUALIZE, TUNED];
+
+fn finding_arguments() -> &'static [Argument] {
+    &FINDING_ARGUMENTS
+}
+
+static FINDING_FRAMES_ARGUMENTS: [Argument; 5] = [LOCK, TURNS, RESYNC_FRAMES, EQUALIZE, TUNED];
+
+fn finding_frames_arguments() -> &'static [Argument] {
+    &FINDING_FRAMES_ARGUMENTS
+}
+
+static REPORTING_ARGUMENTS: [Argument; 6] = [
+    FIGURES,
+    EVERY,
+    EXIT_BY,
+    STRICT,
+    QUIET_AND_STILL,
+    PROGRESS,
+];
+
+fn reporting_arguments() -> &'static [Argument] {
+    &REPORTING_ARGUMENTS
+}
+
+static RECORDS_ARGUMENTS: [Argument; 5] = [CERTIFICATES, VALUES, CODEWORDS, BBFRAMES, ABOUT];
+
+fn records_arguments() -> &'static [Argument] {
+    &RECORDS_ARGUMENTS
+}
+
 static MODES_ARGUMENTS: [Argument; 4] = [RATE, MODCOD_OR_NONE, SHORT, QUIET];
 
 fn modes_arguments() -> &'static [Argument] {
     &MODES_ARGUMENTS
 }
 
-/// The arguments of `rows`, in order.
 static ROWS_ARGUMENTS: [Argument; 6] = [GROUP, GROUPS, Q, WEIGHT, SEED, QUIET];
 
 fn rows_arguments() -> &'static [Argument] {
     &ROWS_ARGUMENTS
 }
 
-/// The arguments of `table`, in order.
 static TABLE_ARGUMENTS: [Argument; 4] = [MODCOD, SHORT, QUIET, ROWS];
 
 fn table_arguments() -> &'static [Argument] {
     &TABLE_ARGUMENTS
 }
 
-/// The arguments of `judge`, in order.
-static JUDGE_ARGUMENTS: [Argument; 14] = [
-    GROUP_OR_MODE,
-    GROUPS_OR_MODE,
-    Q_OR_MODE,
-    MODCOD_OR_NONE,
-    SHORT,
-    EACH_FRAME,
-    HARD,
-    CERTIFICATE,
-    PASSES,
-    UNCERTIFIED,
-    FACTOR,
-    QUIET,
-    ROWS,
-    SOFT_VALUES,
-];
+static JUDGE_ARGUMENTS: [Argument; 5] = [EACH_FRAME, HARD, CERTIFICATE, PASSES, UNCERTIFIED];
 
 fn judge_arguments() -> &'static [Argument] {
     &JUDGE_ARGUMENTS
 }
 
-/// The arguments of `check`, in order.
+static JUDGE_FILES_ARGUMENTS: [Argument; 4] = [FACTOR, QUIET, ROWS, SOFT_VALUES];
+
+fn judge_files_arguments() -> &'static [Argument] {
+    &JUDGE_FILES_ARGUMENTS
+}
+
 static CHECK_ARGUMENTS: [Argument; 4] = [EACH_CERTIFICATE, QUIET, ROWS, CERTIFICATE_READ];
 
 fn check_arguments() -> &'static [Argument] {
     &CHECK_ARGUMENTS
 }
 
-/// The arguments of `mod`, in order.
-static MOD_ARGUMENTS: [Argument; 16] = [
-    MODCOD,
-    SHORT,
-    PILOTS,
-    NUMBER,
-    ROLL_OFF,
-    DUMMY,
-    RESYNC,
-    QUIET_AND_STILL,
-    PROGRESS,
+static SENDING_ARGUMENTS: [Argument; 5] = [ROLL_OFF, DUMMY, RESYNC, QUIET_AND_STILL, PROGRESS];
+
+fn sending_arguments() -> &'static [Argument] {
+    &SENDING_ARGUMENTS
+}
+
+static SENT_RECORDS_ARGUMENTS: [Argument; 4] = [
     SENT_CODEWORDS,
     SENT_BBFRAMES,
     SENT_LABELS,
     SENT_SYMBOLS,
-    ROWS,
-    PACKETS,
-    SYMBOLS_MADE,
 ];
 
-fn mod_arguments() -> &'static [Argument] {
-    &MOD_ARGUMENTS
+fn sent_records_arguments() -> &'static [Argument] {
+    &SENT_RECORDS_ARGUMENTS
 }
 
-/// The arguments of `noise`, in order.
-static NOISE_ARGUMENTS: [Argument; 7] = [
-    SEED,
-    LEVEL,
-    ESN0,
-    QUIET_AND_STILL,
-    PROGRESS,
-    CLEAN_SYMBOLS,
-    NOISY_SYMBOLS,
-];
+static MOD_FILES_ARGUMENTS: [Argument; 3] = [ROWS, PACKETS, SYMBOLS_MADE];
+
+fn mod_files_arguments() -> &'static [Argument] {
+    &MOD_FILES_ARGUMENTS
+}
+
+static NOISE_ARGUMENTS: [Argument; 4] = [SEED, LEVEL, ESN0, QUIET_AND_STILL];
 
 fn noise_arguments() -> &'static [Argument] {
     &NOISE_ARGUMENTS
 }
 
-/// The arguments of `demod`, in order.
-static DEMOD_ARGUMENTS: [Argument; 28] = [
-    MODCOD,
-    SHORT,
-    PILOTS,
-    NUMBER,
-    ROLL_OFF_READ,
-    ROUNDS,
-    PASSES,
-    UNCERTIFIED,
-    DIVISOR,
-    FACTOR,
-    LOCK,
-    TURNS,
-    RESYNC_FRAMES,
-    EQUALIZE,
-    TUNED,
-    FIGURES,
-    EVERY,
-    EXIT_BY,
-    STRICT,
-    QUIET_AND_STILL,
-    PROGRESS,
-    CERTIFICATES,
-    VALUES,
-    CODEWORDS,
-    BBFRAMES,
-    ROWS,
-    SYMBOLS,
-    PACKETS_MADE,
-];
+static NOISE_FILES_ARGUMENTS: [Argument; 3] = [PROGRESS, CLEAN_SYMBOLS, NOISY_SYMBOLS];
 
-fn demod_arguments() -> &'static [Argument] {
-    &DEMOD_ARGUMENTS
+fn noise_files_arguments() -> &'static [Argument] {
+    &NOISE_FILES_ARGUMENTS
 }
 
-/// The arguments of `run`, in order.
-static RUN_ARGUMENTS: [Argument; 33] = [
-    MODCOD,
-    SHORT,
-    PILOTS,
-    NUMBER,
-    ROLL_OFF,
-    DUMMY,
-    RESYNC_BOTH,
-    ROUNDS,
-    PASSES,
-    UNCERTIFIED,
-    DIVISOR,
-    FACTOR,
-    LOCK,
-    TURNS,
-    EQUALIZE,
-    TUNED,
-    SEED_OR_SEEDS,
-    SEEDS,
-    LEVEL,
-    ESN0,
-    FIGURES,
-    EVERY,
-    EXIT_BY,
-    STRICT,
-    QUIET_AND_STILL,
-    PROGRESS,
-    CERTIFICATES,
-    VALUES,
-    CODEWORDS,
-    BBFRAMES,
-    ROWS,
-    PACKETS,
-    PACKETS_RECEIVED,
-];
+static RECEIVED_ARGUMENTS: [Argument; 1] = [ROLL_OFF_READ];
+
+fn received_arguments() -> &'static [Argument] {
+    &RECEIVED_ARGUMENTS
+}
+
+static DEMOD_FILES_ARGUMENTS: [Argument; 3] = [ROWS, SYMBOLS, PACKETS_MADE];
+
+fn demod_files_arguments() -> &'static [Argument] {
+    &DEMOD_FILES_ARGUMENTS
+}
+
+static RUN_ARGUMENTS: [Argument; 3] = [ROLL_OFF, DUMMY, RESYNC_BOTH];
 
 fn run_arguments() -> &'static [Argument] {
     &RUN_ARGUMENTS
 }
 
-/// The arguments of `scan`, in order.
+static CHANNEL_ARGUMENTS: [Argument; 4] = [SEED_OR_SEEDS, SEEDS, LEVEL, ESN0];
+
+fn channel_arguments() -> &'static [Argument] {
+    &CHANNEL_ARGUMENTS
+}
+
+static RUN_FILES_ARGUMENTS: [Argument; 3] = [ROWS, PACKETS, PACKETS_RECEIVED];
+
+fn run_files_arguments() -> &'static [Argument] {
+    &RUN_FILES_ARGUMENTS
+}
+
 static SCAN_ARGUMENTS: [Argument; 4] = [FIRST, QUIET_AND_STILL, PROGRESS, RECORDING];
 
 fn scan_arguments() -> &'static [Argument] {
     &SCAN_ARGUMENTS
 }
 
-/// The arguments of `join`, in order.
 static JOIN_ARGUMENTS: [Argument; 4] = [MODCOD, SHORT, BBFRAMES_READ, PACKETS_MADE];
 
 fn join_arguments() -> &'static [Argument] {
     &JOIN_ARGUMENTS
 }
 
-/// The arguments of `audit`, in order.
-static AUDIT_ARGUMENTS: [Argument; 14] = [
-    MODCOD,
-    SHORT,
-    PILOTS,
-    NUMBER,
-    ROLL_OFF_READ,
+static AUDIT_ARGUMENTS: [Argument; 6] = [
     DIVISOR_OF_REPORT,
     TURNS_REPORT,
     RESYNC_REPORT,
     EQUALIZE_REPORT,
     TUNED_REPORT,
-    ROWS,
-    SYMBOLS,
-    REPORT,
-    CERTIFICATES_READ,
+    ABOUT_REPORT,
 ];
 
 fn audit_arguments() -> &'static [Argument] {
     &AUDIT_ARGUMENTS
 }
 
-/// The arguments of `compare`, in order.
-static COMPARE_ARGUMENTS: [Argument; 11] = [
-    GROUP_OR_MODE,
-    GROUPS_OR_MODE,
-    Q_OR_MODE,
-    MODCOD_OR_NONE,
-    SHORT,
-    BBFRAMES_GIVEN,
-    BITS_GIVEN,
-    QUIET,
-    ROWS,
-    CERTIFICATES_GIVEN,
-    WORDS,
-];
+static AUDIT_FILES_ARGUMENTS: [Argument; 4] = [ROWS, SYMBOLS, REPORT, CERTIFICATES_READ];
+
+fn audit_files_arguments() -> &'static [Argument] {
+    &AUDIT_FILES_ARGUMENTS
+}
+
+static COMPARE_ARGUMENTS: [Argument; 3] = [BBFRAMES_GIVEN, BITS_GIVEN, QUIET];
 
 fn compare_arguments() -> &'static [Argument] {
     &COMPARE_ARGUMENTS
 }
 
-/// The arguments of a command.
-pub(crate) fn arguments_of(command: CommandName) -> &'static [Argument] {
+static COMPARE_FILES_ARGUMENTS: [Argument; 3] = [ROWS, CERTIFICATES_GIVEN, WORDS];
+
+fn compare_files_arguments() -> &'static [Argument] {
+    &COMPARE_FILES_ARGUMENTS
+}
+
+/// The arguments of a part, in order.
+pub(crate) fn arguments_in(section: Section) -> &'static [Argument] {
+    match section {
+        Section::Link => link_arguments(),
+        Section::Code => code_arguments(),
+        Section::Decoding => decoding_arguments(),
+        Section::Finding => finding_arguments(),
+        Section::FindingFrames => finding_frames_arguments(),
+        Section::Reporting => reporting_arguments(),
+        Section::Records => records_arguments(),
+        Section::Modes => modes_arguments(),
+        Section::Rows => rows_arguments(),
+        Section::Table => table_arguments(),
+        Section::Judge => judge_arguments(),
+        Section::JudgeFiles => judge_files_arguments(),
+        Section::Check => check_arguments(),
+        Section::Sending => sending_arguments(),
+        Section::SentRecords => sent_records_arguments(),
+        Section::ModFiles => mod_files_arguments(),
+        Section::Noise => noise_arguments(),
+        Section::NoiseFiles => noise_files_arguments(),
+        Section::Received => received_arguments(),
+        Section::DemodFiles => demod_files_arguments(),
+        Section::Run => run_arguments(),
+        Section::Channel => channel_arguments(),
+        Section::RunFiles => run_files_arguments(),
+        Section::Scan => scan_arguments(),
+        Section::Join => join_arguments(),
+        Section::Audit => audit_arguments(),
+        Section::AuditFiles => audit_files_arguments(),
+        Section::Compare => compare_arguments(),
+        Section::CompareFiles => compare_files_arguments(),
+    }
+}
+
+/// The arguments of a command, part by part, in the order of the help.
+pub(crate) fn sections_of(command: CommandName) -> &'static [Section] {
     match command {
-        CommandName::Modes => modes_arguments(),
-        CommandName::Rows => rows_arguments(),
-        CommandName::Table => table_arguments(),
-        CommandName::Judge => judge_arguments(),
-        CommandName::Check => check_arguments(),
-        CommandName::Mod => mod_arguments(),
-        CommandName::Noise => noise_arguments(),
-        CommandName::Demod => demod_arguments(),
-        CommandName::Run => run_arguments(),
-        CommandName::Scan => scan_arguments(),
-        CommandName::Join => join_arguments(),
-        CommandName::Audit => audit_arguments(),
-        CommandName::Compare => compare_arguments(),
+        CommandName::Modes => &[Section::Modes],
+        CommandName::Rows => &[Section::Rows],
+        CommandName::Table => &[Section::Table],
+        CommandName::Judge => &[Section::Code, Section::Judge, Section::JudgeFiles],
+        CommandName::Check => &[Section::Check],
+        CommandName::Mod => &[
+            Section::Link,
+            Section::Sending,
+            Section::SentRecords,
+            Section::ModFiles,
+        ],
+        CommandName::Noise => &[Section::Noise, Section::NoiseFiles],
+        CommandName::Demod => &[
+            Section::Link,
+            Section::Received,
+            Section::Decoding,
+            Section::FindingFrames,
+            Section::Reporting,
+            Section::Records,
+            Section::DemodFiles,
+        ],
+        CommandName::Run => &[
+            Section::Link,
+            Section::Run,
+            Section::Decoding,
+            Section::Finding,
+            Section::Channel,
+            Section::Reporting,
+            Section::Records,
+            Section::RunFiles,
+        ],
+        CommandName::Scan => &[Section::Scan],
+        CommandName::Join => &[Section::Join],
+        CommandName::Audit => &[
+            Section::Link,
+            Section::Received,
+            Section::Audit,
+            Section::AuditFiles,
+        ],
+        CommandName::Compare => &[Section::Code, Section::Compare, Section::CompareFiles],
     }
 }
 

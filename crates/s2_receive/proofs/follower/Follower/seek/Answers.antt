@@ -28,16 +28,17 @@ invariant_of-self c =
     follows_so inside.synchronizer c.seek_in-self-inside.new.synchronizer inside.limit bytes c.seek_in-self-inside.result inside.status.phase inside.status.totals
     (record { searching = e.searching; last = e.last; holds = e.holds; closing = e.closing; ended = e.ended; rests = e.rests; front = e.front; same = e.same }) sound (wanted_so before bytes few)
 
-pub returns : goal.returns
-returns c = record {
-  seeks =
-      (let inside = c.self.inside in
-      let bytes = c.args.bytes.now in
-      let e = c.seek_in-self-inside.ensures in
-      let found = c.seek_in-self-inside.result in
-      let here =
-      seeks_so inside.synchronizer c.seek_in-self-inside.new.synchronizer inside.limit bytes found inside.status.phase inside.joiner.held inside.status.totals inside.found inside.joiner.packets
-      (record { searching = e.searching; last = e.last; holds = e.holds; closing = e.closing; ended = e.ended; rests = e.rests; front = e.front; same = e.same }) in
-      subst
-      (λ (f : Follower). Seeks f (follower_of inside.status.phase c.seek_in-self-inside.new.synchronizer inside.limit inside.joiner.held inside.status.totals found inside.joiner.packets) bytes (nat_eq (length bytes) (asked_of f)) found) c.self.view_is here);
-}
+pub returns-clause-seeks : goal.returns-clause-seeks
+returns-clause-seeks c =
+    (let inside = c.self.inside in
+    let bytes = c.args.bytes.now in
+    let e = c.seek_in-self-inside.ensures in
+    let found = c.seek_in-self-inside.result in
+    let here =
+    seeks_so inside.synchronizer c.seek_in-self-inside.new.synchronizer inside.limit bytes found inside.status.phase inside.joiner.held inside.status.totals inside.found inside.joiner.packets
+    (record { searching = e.searching; last = e.last; holds = e.holds; closing = e.closing; ended = e.ended; rests = e.rests; front = e.front; same = e.same }) in
+    subst
+    (λ (f : Follower). Seeks f (follower_of inside.status.phase c.seek_in-self-inside.new.synchronizer inside.limit inside.joiner.held inside.status.totals found inside.joiner.packets) bytes (nat_eq (length bytes) (asked_of f)) found) c.self.view_is here)
+
+pub returns-clause-bounded : goal.returns-clause-bounded
+returns-clause-bounded c = (invariant_of-self c).place
