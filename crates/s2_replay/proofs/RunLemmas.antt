@@ -9,13 +9,13 @@ use Rattle.s2_report.specs.ReportLines.{step_line}
 use Rattle.s2_report.specs.declared.report.Step.{Step}
 use Rattle.s2_mode.specs.Mode.{symbols_in}
 use Rattle.s2_receive.specs.Windows.{found_as}
-use Rattle.s2_receive.specs.Receiving.{Decision, begun, left_by}
+use Rattle.s2_receive.specs.Receiving.{Decision, begun, left_by, wanted_by}
 use Rattle.s2_receive.specs.Synchronization.{Follows, reached, room_for, wanted}
 use Rattle.s2_receive.specs.declared.report.Phase.{Phase}
 use Rattle.s2_receive.specs.declared.report.Phase.TheVariants as phases
 use Rattle.s2_receive.specs.declared.window.Next.{Next}
 use Rattle.s2_receive.proofs.SymbolLists.{count_symbols, yields}
-use Rattle.s2_receive.specs.Halves.{Follower, IsRunBy, IsShown, RunsBy, Seeks, SeeksBy, Settles, ahead, asked_of, decision_if, rules_with, wanted_by}
+use Rattle.s2_receive.specs.Halves.{Follower, IsRunBy, IsShown, RunsBy, Seeks, SeeksBy, Settles, ahead, asked_of, decision_if, rules_with}
 use Rattle.s2_replay.specs.Replay.{IsBorneOut, Terms, rules_for}
 use Rattle.s2_replay.specs.Running.{GoesOn, IsBy, IsNearer, RanIn, RanOut, RanTo}
 use Rattle.s2_receive.proofs.RunsSoFar.{run_begins, run_seeks, run_settles}

@@ -1,4 +1,4 @@
--- What was audited of a recording and its report so far (own).
+-- An audit of a recording and its report, as far as it has come (own).
 use Rattle.std.specs.Prelude.{ℕ, Bool, true, List, [], ◌++◌, Option, Some, None, ⊤}
 use Rattle.s2_mode.specs.Symbols.{symbols_of}
 use Rattle.s2_receive.specs.Receiving.{Decision}
@@ -7,7 +7,7 @@ use Rattle.s2_replay.specs.Replay.{AreLines, IsReplay, Terms}
 use Rattle.s2_replay.specs.Running.{RanIn}
 
 -- By these decisions, each borne out, the receiver has come so far in a recording, with these packets; its lines are these lines of
--- the report. Whatever lines follow are told after them
+-- the report. Further lines may follow
 pub record AuditedSoFar (t : Terms) (whole left : Option (List ℕ)) (f : Follower) (known : Bool) (decisions : List Decision) (lines : List (List ℕ)) (packets : List ℕ) : Type 0 where
   pub own : List (List ℕ)
   pub ran : RanIn t whole left f decisions own packets

@@ -81,7 +81,7 @@ IsLastOf (next.End at skipped) true step t line = step_line step t ≡ line ++ 1
 IsLastOf (next.Cut at skipped count) known step t line = step_line step t ≡ line ++ 10 ∷ []
 IsLastOf (next.Frame at skipped) known step t line = step_line step t ≡ line ++ 10 ∷ []
 
--- what was found is settled without a decision, and its line is this one, or not
+-- a cut frame or the end is settled without a decision, and its line is this one, or not
 pub record AuditsLast (old new : Follower) (found : Next) (known : Bool) (line : List ℕ) (last : AuditedLast) : Type 0 where
   pub settles : Settles old new found (claimed_decision Broken true) last.step
   pub told : IsTrue last.told ↔ IsLastOf found known last.step new.state.standing.totals line

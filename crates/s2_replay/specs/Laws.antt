@@ -36,7 +36,7 @@ AuditOverLaw =
     (t : Terms) (whole left : Option (List ℕ)) (f : Follower) (known : Bool) (decisions : List Decision) (lines : List (List ℕ)) (packets : List ℕ)
     → AuditedSoFar t whole left f known decisions lines packets → AuditedFrames t whole left f known decisions lines packets
 
--- a frame whose line is told is audited
+-- a frame is audited if the report has its line
 abbrev pub TellsFrameLaw : Type 0
 TellsFrameLaw =
     (t : Terms) (whole left left_new : Option (List ℕ)) (old mid new : Follower) (known : Bool) (decisions : List Decision) (lines : List (List ℕ)) (packets : List ℕ)
@@ -54,7 +54,7 @@ TellsClaimLaw =
     → is_certified verdict ≡ false → AuditsClaim mid new found verdict line claim → IsTrue claim.told
     → (d : Decision) × AuditedSoFar t whole left_new new false (decisions ++ d ∷ []) (lines ++ line ∷ []) (packets ++ new.packets)
 
--- after the last frame: a cut frame whose line is told
+-- so is a cut frame after the last frame
 abbrev pub TellsCutLaw : Type 0
 TellsCutLaw =
     (t : Terms) (whole left left_new : Option (List ℕ)) (old mid new : Follower) (known : Bool) (decisions : List Decision) (lines : List (List ℕ)) (packets : List ℕ)
@@ -62,7 +62,7 @@ TellsCutLaw =
     → AuditedFrames t whole left old known decisions lines packets → GoesOn old mid left left_new → mid.found ≡ Some (next.Cut at skipped count)
     → AuditsLast mid new (next.Cut at skipped count) known line last → IsTrue last.told → AuditedFrames t whole left_new new known decisions (lines ++ line ∷ []) packets
 
--- and the end whose line is told: then report and packets are those of the receiver
+-- and the end: then report and packets are those of the receiver
 abbrev pub TellsEndLaw : Type 0
 TellsEndLaw =
     (t : Terms) (whole left left_new : Option (List ℕ)) (old mid new : Follower) (known : Bool) (decisions : List Decision) (lines : List (List ℕ)) (packets : List ℕ)

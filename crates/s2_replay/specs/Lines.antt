@@ -7,11 +7,11 @@ use Rattle.s2_check.specs.declared.verdict.Verdict.{Verdict}
 abbrev pub BeginsWith : (front bytes : List ℕ) → Type 0
 BeginsWith front bytes = (rest : List ℕ) × (bytes ≡ front ++ rest)
 
--- what is compared of the line of a frame whose bits are not known: frame I at SYMBOL VERDICT, and whether it is lost
+-- the compared part of the line of a frame with unknown bits: frame I at SYMBOL VERDICT, and whether it is lost
 unfoldable pub claimed_words : (number at : ℕ) → Verdict → (lost : Bool) → List ℕ
 claimed_words number at verdict lost =
     codes "frame " ++ decimal number ++ codes " at " ++ decimal at ++ codes " " ++ verdict_word verdict ++ codes " " ++ (if lost then codes "lost" else codes "fixed ")
 
--- what is compared of the end line after such a frame: end frames F
+-- the compared part of the end line after such a frame: end frames F
 unfoldable pub counted_words : (frames : ℕ) → List ℕ
 counted_words frames = codes "end frames " ++ decimal frames ++ codes " "

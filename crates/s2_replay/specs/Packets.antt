@@ -3,7 +3,7 @@ use Rattle.std.specs.Prelude.{◌≢◌, ℕ, ◌+◌, ◌*◌, ◌<◌, ◌≤�
 use Rattle.std.specs.Io.KnownBytes.{Consumes, IsAtEnd}
 use Rattle.s2_bbframe.specs.Limits.{packet_bytes}
 
--- a reader gave these bytes, or as many others, or it had fewer
+-- a reader gave these bytes; or others, or it had fewer
 abbrev pub Gives : List ℕ → (old new : Option (List ℕ)) → Bool → Type 0
 Gives wanted old new true = Consumes old new wanted
 Gives wanted old new false = (bytes : List ℕ) × Consumes old new bytes × (bytes ≢ wanted) × (length bytes ≤ length wanted) × (length bytes < length wanted → IsAtEnd new)

@@ -21,8 +21,8 @@ use Rattle.s2_replay.specs.Certificates.{Certifies, IsParityVerdict}
 use Rattle.s2_receive.specs.Halves.{IsRunBy}
 use Rattle.s2_replay.specs.Lines.{BeginsWith, claimed_words, counted_words}
 
--- How a report was made: the rows of its code, the mode and the scrambling number of its frames, how they are read, the most
--- wrong bits of a header right after a frame, and whether lost frames were searched again
+-- How a report was made: the rows of its code, the mode and the scrambling number of its frames, and how they are read. Then the
+-- limit of wrong header bits right after a frame, and whether lost frames were searched again
 pub record Terms : Type 0 where
   pub rows : Rows
   pub mode : Mode
@@ -37,7 +37,7 @@ pub record Terms : Type 0 where
 abbrev pub decision_on : Mode → ℕ → FrameOptions → List Symbol → Verdict → List Bool → Option View → (rounds : ℕ) → Decision
 decision_on m number options symbols verdict bits certificate rounds = decision_with m number options symbols (soft_frame m number options symbols) verdict bits certificate rounds
 
--- What is delivered of a frame whose bits are not known: nothing if it is lost, else a data field without a byte
+-- The delivery of a frame with unknown bits: nothing if it is lost, else a data field without a byte
 abbrev pub claimed_field : (lost : Bool) → Option (Header × List ℕ)
 claimed_field true = None
 claimed_field false = Some (record { roll_off = 0; second = 0; dfl = 0; syncd = no_syncd }, [])

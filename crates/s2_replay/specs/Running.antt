@@ -49,7 +49,7 @@ abbrev pub IsNearer : (old new : Follower) → Option Next → Type 0
 IsNearer old new None = new.limit - reached new.state.window < old.limit - reached old.state.window
 IsNearer old new (Some found) = ⊤
 
--- a follower wanted no bytes, and without any it found nothing: its limit is reached
+-- a follower requested no bytes, and found nothing without any: its limit is reached
 abbrev pub IsStuck : Follower → Type 0
 IsStuck f = (old : Follower) × (asked_of old ≡ 0) × Seeks old f [] true None
 
@@ -58,7 +58,7 @@ abbrev pub ReadsOrStops : Follower → (reads reads_new : ℕ) → Option Next �
 ReadsOrStops f reads reads_new (Some found) = reads_new ≡ reads
 ReadsOrStops f reads reads_new None = (reads_new ≡ reads + 1) ⊎ ((reads_new ≡ reads) × IsStuck f)
 
--- what was found, if no fault came
+-- the next thing, if no fault came
 abbrev pub found_of : {E : Type 0} → Result Next E → Option Next
 found_of (Ok found) = Some found
 found_of (Err fault) = None

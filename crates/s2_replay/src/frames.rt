@@ -143,8 +143,8 @@ impl Replayer {
         AuditedClaim { step, lost, told }
     }
 
-    /// Audits what was found after the last frame: a cut frame, or the end. `known` tells whether the decided bits of all frames are
-    /// known. If not, only the number of frames of the end line is compared.
+    /// Audits a cut frame, or the end, after the last frame. `known` says whether the decided bits of all frames are known. If not,
+    /// only the number of frames of the end line is compared.
     pub fn audit_last(&mut self, found: Next, known: bool, line: &[u8]) -> AuditedLast
         requires found { self.old.follower.found ≡ Some found }
         ensures audits { AuditsLast self.old.follower self.new.follower found known line.now result }

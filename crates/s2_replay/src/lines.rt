@@ -35,8 +35,7 @@ pub fn is_line_of(step: Step, totals: Totals, line: &[u8]) -> bool
     is_joined(own.as_bytes(), line, b"\n")
 }
 
-/// What is compared of the line of a frame whose bits are not known: its number, its position and its verdict, and whether it
-/// is lost.
+/// The compared part of the line of a frame with unknown bits: its number, position and verdict, and whether it is lost.
 #[tactic(auto, unfolding(crate::specs::Lines::claimed_words))]
 fn claimed_words(number: u64, at: u64, verdict: Verdict, lost: bool) -> Line
     ensures { result ≡ claimed_words number at verdict lost }

@@ -11,8 +11,8 @@ ghost use Rattle.s2_receive.specs.Receiving.{begun};
 ghost use Rattle.s2_message.specs.Decisions.{soft_frame};
 ghost use Rattle.s2_message.specs.Reading.{IsSameReader};
 ghost use Rattle.s2_receive.specs.Halves.{IsSameFollower, Says, Seeks, Settles, asked_of};
-ghost use Rattle.s2_replay.specs.Replay.{claimed_decision, decision_on};
-ghost use Rattle.s2_replay.specs.Replayers.{HasSoft, IfFrame, IsFrame, IsSameReplayer};
+ghost use Rattle.s2_replay.specs.Replay.{claimed_decision};
+ghost use Rattle.s2_replay.specs.Replayers.{HasSoft, IfFrame, IsFrame, IsSameReplayer, decision_for};
 ghost use Rattle.s2_replay.specs.Running.{GoesOn, IsNearer, ReadsOrStops, found_in, found_of};
 
 use s2_bbframe::{Header, NO_SYNCD};
@@ -73,7 +73,7 @@ fn room_for(mode: Mode, resync: bool) -> usize
     }
 }
 
-/// Finds the soft values of what was found, if it is a frame.
+/// Finds the soft values of the next thing, if it is a frame.
 fn find_soft(follower: &Follower, reader: &mut FrameReader, soft: &mut [i16], found: Next)
     requires reader { follower.now.sought.mode ≡ reader.old.mode }
     requires soft { length soft.old ≡ n_of reader.old.mode }
@@ -87,7 +87,7 @@ fn find_soft(follower: &Follower, reader: &mut FrameReader, soft: &mut [i16], fo
     }
 }
 
-/// Takes bytes, no more than are wanted, up to the next thing. The soft values of a frame are found.
+/// Takes bytes, at most those that the follower requests, up to the next thing. The soft values of a frame are found.
 fn seek(
     follower: &mut Follower,
     reader: &mut FrameReader,
@@ -112,7 +112,7 @@ fn seek(
     }
 }
 
-/// Reads the wanted bytes into a buffer of their size, and takes them.
+/// Reads the requested bytes into a buffer of their size, and takes them.
 fn read_on<R: CountedRead>(
     follower: &mut Follower,
     reader: &mut FrameReader,
@@ -141,7 +141,7 @@ fn read_on<R: CountedRead>(
     Ok(seek(follower, reader, soft, &room[..count]))
 }
 
-/// Reads up to the next thing, into a buffer that has room for the wanted bytes.
+/// Reads up to the next thing, into a buffer that has room for the requested bytes.
 fn find_next<R: CountedRead>(
     follower: &mut Follower,
     reader: &mut FrameReader,
@@ -176,7 +176,7 @@ fn find_next<R: CountedRead>(
     }
 }
 
-/// What is decided of a frame whose bits are not known.
+/// The decision on a frame with unknown bits.
 fn claimed(verdict: Verdict, lost: bool) -> Decided
     ensures says { Says result [] (claimed_decision verdict lost) }
     ensures place { IfSome result.header (HasPlace []) }
@@ -269,8 +269,7 @@ impl Replayer {
         requires found { self.old.follower.found ≡ Some found }
         requires frame { IsFrame found }
         requires word { length word.now ≡ n_of self.old.follower.sought.mode }
-        ensures settles { (certificate : Option View) → Settles self.old.follower self.new.follower found
-            (decision_on self.old.follower.sought.mode self.old.number self.old.options self.old.follower.frame verdict word.now certificate rounds) result }
+        ensures settles { (certificate : Option View) → Settles self.old.follower self.new.follower found (decision_for self.old verdict word.now certificate rounds) result }
         ensures same { IsSameReplayer self.old self.new }
     {
         let decided = self
@@ -279,8 +278,8 @@ impl Replayer {
         self.follower.settle(found, decided, self.reader.field())
     }
 
-    /// Handles what was found on the report's word: a frame whose bits are not known, with this verdict, lost or not. Of a cut frame
-    /// and the end nothing is decided.
+    /// Handles the next thing on the report's word: a frame with unknown bits and this verdict, lost or not. For a cut frame and the
+    /// end there is no decision.
     pub fn claim(&mut self, found: Next, verdict: Verdict, lost: bool) -> Step
         requires found { self.old.follower.found ≡ Some found }
         ensures settles { Settles self.old.follower self.new.follower found (claimed_decision verdict lost) result }
