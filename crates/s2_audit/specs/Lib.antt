@@ -7,3 +7,5 @@ pub mod Lines
 pub mod Outcomes
 pub mod Auditing
 pub mod Commands
+pub mod Turns
+pub mod Evidences

@@ -18,6 +18,7 @@ mod auditor;
 mod command;
 mod counts;
 mod demodulation;
+mod evidence;
 mod judging;
 pub mod laws;
 mod limits;
