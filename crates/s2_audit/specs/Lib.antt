@@ -9,3 +9,4 @@ pub mod Auditing
 pub mod Commands
 pub mod Turns
 pub mod Evidences
+pub mod ReportLines

@@ -24,6 +24,7 @@ pub mod laws;
 mod limits;
 mod lines;
 mod outcome;
+mod report_lines;
 
 pub use command::audit_command;
 pub use demodulation::Demodulation;
