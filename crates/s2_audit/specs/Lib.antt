@@ -10,3 +10,4 @@ pub mod Commands
 pub mod Turns
 pub mod Evidences
 pub mod ReportLines
+pub mod FrameAnswers

@@ -19,6 +19,7 @@ mod command;
 mod counts;
 mod demodulation;
 mod evidence;
+mod frame;
 mod judging;
 pub mod laws;
 mod limits;
