@@ -11,6 +11,10 @@ use Rattle.s2_receive.specs.declared.window.Next.{Next}
 use Rattle.s2_replay.specs.Frames.{AuditsClaim}
 use Rattle.s2_replay.specs.Replayers.{Replayer}
 use Rattle.s2_replay.specs.declared.frames.AuditedClaim.{AuditedClaim}
+use Rattle.s2_link.specs.Link.{Link}
+use Rattle.s2_replay.specs.Replay.{Terms}
+use Rattle.s2_audit.specs.Limits.{certificate_bytes}
+use Rattle.s2_audit.specs.declared.how.How.{How}
 use Rattle.s2_audit.specs.Evidences.{AuditsBlock, AuditsRecord}
 use Rattle.s2_audit.specs.declared.evidence.ByCertificate.{ByCertificate}
 use Rattle.s2_audit.specs.declared.evidence.ByCertificate.TheVariants as certificates
@@ -31,7 +35,7 @@ pub record IsFrameAuditor (rows : Rows) (replayer : Replayer) (bits : List Bool)
   pub word : length bits ≡ n_of replayer.follower.sought.mode
   pub record_is : length bits ≡ 8 * length packed
   pub record_some : 0 < length packed
-  pub block_some : 0 < length bytes
+  pub block_is : length bytes ≡ certificate_bytes replayer.follower.sought.mode
 
 abbrev pub answer_by_certificate : ByCertificate → FrameAnswer
 answer_by_certificate certificates.Missing = answers.NoCertificate
@@ -43,7 +47,7 @@ answer_by_codeword (codewords.Judged audited) = answers.Judged audited
 
 -- the audit by some bytes, which are read as the next certificate
 abbrev pub ByBlock : (old new : FrameAuditor) → Next → (line : List ℕ) → (certificates certificates_new : Option (List ℕ)) → Result ByCertificate Fault → Type 0
-ByBlock old new found line c c' result = (block : List ℕ) × AuditsBlock old.rows old.replayer new.replayer found line block c c' result
+ByBlock old new found line c c' result = (block : List ℕ) × (length block ≡ certificate_bytes old.replayer.follower.sought.mode) × AuditsBlock old.rows old.replayer new.replayer found line block c c' result
 
 -- the same by the next record of a codeword
 abbrev pub ByRecord : (old new : FrameAuditor) → Next → (line : List ℕ) → (codewords codewords_new : Option (List ℕ)) → Result ByCodeword Fault → Type 0
@@ -71,3 +75,14 @@ Answers old new found verdict line c c' w w' recorded result =
     ((is_certified verdict ≡ true) × ((by : Result ByCertificate Fault) × ByBlock old new found line c c' by × Maps answer_by_certificate by result) × (w' ≡ w))
     ⊎ (((is_certified verdict ≡ false) × (recorded ≡ true) × ((by : Result ByCodeword Fault) × ByRecord old new found line w w' by × Maps answer_by_codeword by result) × (c' ≡ c))
     ⊎ ((is_certified verdict ≡ false) × (recorded ≡ false) × ((claim : AuditedClaim) × AuditsClaim old.replayer.follower new.replayer.follower found verdict line claim × (result ≡ Ok (answers.Claimed claim))) × (c' ≡ c) × (w' ≡ w)))
+
+-- how a report on a link was made
+abbrev pub terms_for : Link → How → Terms
+terms_for link how = record {
+  rows = link.rows;
+  mode = link.setup.mode;
+  number = link.setup.number;
+  options = how.options;
+  max_header_errors = how.max_header_errors;
+  resync = how.resync;
+}

@@ -1,19 +1,25 @@
 //! The audit of a frame that was found, by what its line claims (draft).
-ghost use Rattle.std.specs.Prelude.{◌≡◌, ◌≢◌, ◌+◌, Err, Some, is_some};
+ghost use Rattle.std.specs.Prelude.{◌≡◌, ◌≢◌, ◌+◌, ◌*◌, ◌<◌, Err, IfOk, None, Some, is_some};
 ghost use Rattle.s2_mode.specs.Counts.{CanCount};
-ghost use Rattle.s2_replay.specs.Frames.{HoldsSoft};
+ghost use Rattle.s2_mode.specs.Mode.{n_of};
+ghost use Rattle.s2_receive.specs.Receiving.{begun};
+ghost use Rattle.s2_replay.specs.Frames.{HoldsSoft, terms_of};
+ghost use Rattle.s2_replay.specs.Running.{IsBy};
 ghost use Rattle.s2_replay.specs.Replayers.{IsFrame, IsFrameAt, IsSameReplayer};
-ghost use Rattle.s2_audit.specs.FrameAnswers.{Answers, ByBlock, ByRecord, answer_by_certificate, answer_by_codeword, count_if, rest_if};
+ghost use Rattle.s2_audit.specs.FrameAnswers.{Answers, ByBlock, ByRecord, answer_by_certificate, answer_by_codeword, count_if, rest_if, terms_for};
+ghost use Rattle.s2_audit.specs.Limits.{certificate_bytes};
 
 use crate::evidence::{ByCertificate, ByCodeword, audit_by_certificate, audit_by_codeword};
+use crate::how::How;
 use s2_bits::Bits;
 use s2_check::Verdict;
 use s2_io::Fault;
+use s2_link::Link;
 use s2_matrix::Matrix;
-use s2_mode::CountedRead;
+use s2_mode::{CountedRead, Mode};
 use s2_receive::Next;
 use s2_replay::{Audited, AuditedClaim, Replayer};
-use std::alloc::Global;
+use std::alloc::{AllocError, Global};
 use std::marker::Model;
 
 /// The audit of a frame: what the replayer finds, or that its certificate or its codeword is missing.
@@ -75,7 +81,54 @@ fn codeword_answer(by: ByCodeword) -> FrameAnswer
     }
 }
 
+/// The number of bytes of a certificate of a mode, in version 2.
+fn certificate_bytes(mode: Mode) -> usize
+    ensures is { result ≡ certificate_bytes mode }
+    ensures some { 0 < result }
+{
+    13 + 2 * mode.n() + (mode.n() + 7) / 8 + 6 * (360 * mode.q())
+}
+
+/// The number of bytes of a codeword of a mode, eight bits to a byte.
+#[tactic(auto, unfolding(s2_mode::specs::Mode::n_of))]
+fn codeword_bytes(mode: Mode) -> usize
+    ensures is { n_of mode ≡ 8 * result }
+    ensures some { 0 < result }
+{
+    if mode.is_short() { 2025 } else { 8100 }
+}
+
 impl<'a> FrameAuditor<'a> {
+    /// What audits the frames of a link, with all the memory that it needs but for a certificate that is taken apart.
+    pub(crate) fn new(
+        alloc: Global,
+        link: &Link<'a>,
+        how: How,
+    ) -> Result<FrameAuditor<'a>, AllocError>
+        ensures terms { IfOk result (λ a. terms_of a.rows a.replayer ≡ terms_for link.now how) }
+        ensures by { IfOk result (λ a. IsBy (terms_for link.now how) a.replayer.follower) }
+        ensures begun { IfOk result (λ a. a.replayer.follower.state ≡ begun) }
+        ensures none { IfOk result (λ a. a.replayer.follower.found ≡ None) }
+    {
+        let mode = link.mode();
+        let number = link.number();
+        let replayer = Replayer::new(
+            alloc,
+            mode,
+            number,
+            how.options,
+            how.max_header_errors,
+            how.resync,
+        )?;
+        Ok(FrameAuditor {
+            matrix: link.matrix(),
+            replayer,
+            word: Bits::zeroed(alloc, mode.n())?,
+            block: vec![in alloc; 0u8; certificate_bytes(mode)]?,
+            record: vec![in alloc; 0u8; codeword_bytes(mode)]?,
+        })
+    }
+
     /// Audits the frame that was found by the next certificate.
     pub(crate) fn by_certificate<R: CountedRead>(
         &mut self,
@@ -169,9 +222,7 @@ impl<'a> FrameAuditor<'a> {
                 Ok(by) => Ok(codeword_answer(by)),
                 Err(fault) => Err(fault),
             },
-            None => Ok(FrameAnswer::Claimed(
-                self.replayer.audit_claimed(found, at, verdict, line),
-            )),
+            None => Ok(FrameAnswer::Claimed(self.replayer.audit_claimed(found, at, verdict, line))),
         }
     }
 }

@@ -20,6 +20,7 @@ mod counts;
 mod demodulation;
 mod evidence;
 mod frame;
+mod how;
 mod judging;
 pub mod laws;
 mod limits;
