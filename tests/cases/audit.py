@@ -233,3 +233,73 @@ def likely_cases(symbols, report, certificates):
 
 # Rows are read first, and are refused as by other commands.
 ROWS = [fault(f"audit {LINK} toy symbols report certificates", "rows: too few rows", reads={"symbols": b"", "report": b"", "certificates": b""})]
+
+
+# ---- the whole report
+
+def whole(report, symbols, certificates, codewords, packets, code, out):
+    """An audit with `--codewords` and `--packets`. `out` may be a function of what is printed."""
+    reads = {"report": report.encode(), "symbols": symbols, "certificates": certificates, "codewords": codewords, "packets": packets}
+    words = WORDS.replace("made symbols", "--codewords codewords --packets packets made symbols")
+    return Case(words, code, out, noted(HINT) if code == NO else "", reads=reads)
+
+
+def expected(number, text):
+    return f"report line {number}: expected {text}\n"
+
+
+def whole_cases(symbols, report, certificates, codewords, packets):
+    """Of at least two frames, all of them sole. What today's audit accepts is refused: frames left out, another verdict, another
+    number of corrected bits, other totals, another packet file."""
+    each = apart(certificates)
+    lines, text = shown(report, each), report.splitlines()
+    frames = [line for line in text if line.startswith("frame ")]
+    fine = "".join(lines) + f"audit frames {len(frames)} sole {len(frames)} most-likely 0 unchecked 0\n"
+    yield whole(report, symbols, certificates, codewords, packets, 0, fine)
+
+    def altered(at, line):
+        return "".join(f"{one}\n" for one in [*text[:at], *line, *text[at + 1 :]])
+
+    for at, line in enumerate(frames):
+        words = line.split()
+        # a frame is left out, with its certificate or without
+        before = "".join(lines[: at + 1])
+        if at + 1 < len(frames):
+            yield whole(altered(at, []), symbols, certificates, codewords, packets, NO, before + expected(at + 1, line))
+        else:
+            yield whole(altered(at, []), symbols, b"".join(each[:-1]), codewords, packets, NO, "".join(lines[:-1]) + expected(at + 1, " ".join(words[:4])))
+        # another number, position, count of corrected bits
+        for place, other in ((1, int(words[1]) + 1), (3, int(words[3]) + 90), (6, int(words[6]) + 1)):
+            yield whole(altered(at, [" ".join([*words[:place], str(other), *words[place + 1 :]])]), symbols, certificates, codewords, packets, NO, before + expected(at + 1, line))
+        yield whole(altered(at, [" ".join([*words[:5], "lost"])]), symbols, certificates, codewords, packets, NO, before + expected(at + 1, line))
+    # the end line: left out, with each number altered, repeated
+    end = text[-1].split()
+    yield whole(altered(len(text) - 1, []), symbols, certificates, codewords, packets, NO, "".join(lines) + expected(len(text), text[-1]))
+    for place in range(2, len(end), 2):
+        other = " ".join([*end[:place], str(int(end[place]) + 1), *end[place + 1 :]])
+        yield whole(altered(len(text) - 1, [other]), symbols, certificates, codewords, packets, NO, "".join(lines) + expected(len(text), text[-1]))
+    yield whole(report + f"{text[-1]}\n", symbols, certificates, codewords, packets, NO, "".join(lines) + f"report line {len(text) + 1}: expected no more\n")
+    # packets: a byte, one missing, one too many
+    for at in (0, len(packets) // 2, len(packets) - 1):
+        other = changed(packets, at, packets[at] ^ 1)
+        first = 188 * (at // 188)
+        message = f"packet {at // 188 + 1}: expected {packets[first : first + 188].hex()}\n"
+        yield whole(report, symbols, certificates, codewords, other, NO, lambda out, message=message: out.endswith(message))
+    yield whole(report, symbols, certificates, codewords, packets + packets[-188:], NO, "".join(lines) + f"packet {len(packets) // 188 + 1}: expected no more\n")
+
+
+def altered_cases(random, symbols, report, certificates, codewords, packets, count=200):
+    """One byte altered at random: of the report, of the packets, of the codewords, or of a certificate's header, soft values or word. A move
+    is left alone: another move can show the same."""
+    *_, n = code(certificates)
+    known = HEAD + 2 * n + n // 8
+    for _ in range(count):
+        files = [report.encode(), certificates, codewords, packets]
+        which = random.randrange(4)
+        at = random.randrange(len(files[which]))
+        if which == 1:
+            at = at // size(certificates) * size(certificates) + at % known
+        files[which] = changed(files[which], at, files[which][at] ^ (1 << random.randrange(8)))
+        reads = dict(zip(("report", "certificates", "codewords", "packets"), files), symbols=symbols)
+        words = WORDS.replace("made symbols", "--codewords codewords --packets packets made symbols")
+        yield Case(words, (NO, FAULT), reads=reads)

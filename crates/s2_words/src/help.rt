@@ -288,26 +288,32 @@ Example:
 
 /// The text below the options of `audit`.
 const AUDIT_MORE: &str = "\
-The report, a line for each frame that REPORT calls sole or most-likely, and a line at the end:
+The receiver's own loop runs over SYMBOLS. The decided bits of a frame are those of its certificate, else those of
+--codewords, and are never searched. Each line and each packet is made again and compared.
+
+The output, a line for each frame that REPORT calls sole or most-likely, and a line at the end:
   frame I at SYMBOL sole cost C           proved: the decided bits cost C, and every other codeword costs more
   frame I at SYMBOL most-likely cost C    proved: the decided bits cost C, and no codeword costs less
   frame I at SYMBOL REASON                not proved; the audit ends here
-  certificates left over                  CERTIFICATES has more after that of the last frame
-  audit frames F sole A most-likely B     REPORT has F frames; all frames that it calls sole (A) or most-likely (B) are proved
+  report line L: expected TEXT            REPORT has another line L; the audit ends here
+  packet P: expected HEX                  with --packets: the P-th packet is another one; the audit ends here
+  certificates left over                  CERTIFICATES has more after that of the last frame; as well `codewords left over`
+  audit frames F sole A most-likely B unchecked U
+                                          REPORT is the receiver's, has F frames, and is right about A sole and B most-likely
+                                          ones; of U frames the bits are not known (see --codewords)
   about line N differs: KEY               with --about: line N of its file has another value than these options and files
   about has no KEY                        with --about: its file has no line with this key
 
 Reasons:
   no certificate    CERTIFICATES ends before the certificate of this frame
-  no symbols        SYMBOLS ends before the end of this frame, or the frame begins inside an earlier one: see --resync
   other values      the certificate is for other soft values: of another recording, or with another --divisor or --tuned
   not accepted      the certificate proves nothing with these rows
   not sole          the certificate proves only that the bits are most likely
 
 Exit status:
-  0  all frames called sole or most-likely are proved, and no certificate is left over
+  0  all frames called sole or most-likely are proved, and report and packets are the receiver's
   1  a usage error, or an error reported on standard error
-  2  a frame is not proved, certificates are left over, or the file of --about differs
+  2  a frame is not proved, a line or a packet is another one, something is left over, or the file of --about differs
 
 Notes, on standard error:
   likely causes: ..    after exit 2: another divisor (try --tuned), another mode, or a recording that was cut or shifted
