@@ -1,0 +1,14 @@
+//! A receiver's run over a recording, with the decisions that several runs over its pieces recorded.
+#![tactic(auto)]
+
+pub mod laws;
+mod limits;
+mod read;
+mod record;
+mod verdicts;
+mod write;
+
+pub use limits::MAX_CERTIFICATE;
+pub use read::{RecordFault, read_record};
+pub use record::Record;
+pub use write::record_into;
