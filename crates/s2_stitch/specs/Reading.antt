@@ -1,5 +1,5 @@
 -- What is read of a reader of records (own).
-use Rattle.std.specs.Prelude.{◌≡◌, ◌⊎◌, ℕ, ◌+◌, ◌<◌, ◌≤◌, List, [], ◌∷◌, ◌++◌, length, take, drop, Option, Some, None, IfSome, Result, Ok, Err, ⊤, ⊥}
+use Rattle.std.specs.Prelude.{◌≡◌, ℕ, ◌+◌, ◌≤◌, List, [], ◌∷◌, ◌++◌, length, Option, Some, None, IfSome, Result, Ok, Err, ⊤}
 use Rattle.std.specs.Io.KnownBytes.{Consumes, IsAtEnd}
 use Rattle.s2_stitch.specs.Records.{Record, front, max_certificate, record_at, verdict_of}
 use Rattle.s2_stitch.specs.declared.read.Front.{Front}
@@ -15,33 +15,24 @@ CountsRead old new (Ok value) = new ≡ old
 
 -- ---- in parts
 
--- a front in these bytes: the numbers, and the verdict of the byte after them
-pub record IsFront (bytes : List ℕ) (f : Front) : Type 0 where
-  pub head : List ℕ
-  pub byte : ℕ
-  pub all : bytes ≡ head ++ (byte ∷ [])
+-- sixteen bytes and one more are a front: the numbers, and the verdict
+pub record IsFront (head : List ℕ) (byte : ℕ) (f : Front) : Type 0 where
   pub long : length head ≡ front.size
   pub numbers : front.value head ≡ (f.at, (f.rounds, f.size))
   pub verdict : verdict_of byte ≡ Some f.verdict
   pub few : f.size ≤ max_certificate
 
--- the front in seventeen bytes, or none, so that no record begins with them
-abbrev pub SaysFront : (bytes : List ℕ) → Option Front → Type 0
-SaysFront bytes (Some f) = IsFront bytes f
-SaysFront bytes None = (n : ℕ) (rest : List ℕ) → record_at n (bytes ++ rest) ≡ None
+-- they are this front, or none, so that no record begins with them
+abbrev pub SaysFront : (head : List ℕ) → (byte : ℕ) → Option Front → Type 0
+SaysFront head byte (Some f) = IsFront head byte f
+SaysFront head byte None = (n : ℕ) (rest : List ℕ) → record_at n (head ++ (byte ∷ rest)) ≡ None
 
 -- the bytes of a front were read; or there are none; or they begin with no record
 abbrev pub ReadsFront : (old new : Option (List ℕ)) → Result (Option Front) RecordFault → Type 0
-ReadsFront old new (Ok (Some f)) = (bytes : List ℕ) × Consumes old new bytes × IsFront bytes f
+ReadsFront old new (Ok (Some f)) = (head : List ℕ) × (byte : ℕ) × Consumes old new (head ++ (byte ∷ [])) × IsFront head byte f
 ReadsFront old new (Ok None) = Consumes old new [] × IsAtEnd new
 ReadsFront old new (Err faults.NotARecord) = IfSome old (λ xs. (n : ℕ) → record_at n xs ≡ None)
 ReadsFront old new (Err fault) = ⊤
-
--- this number of bytes was read, or there are fewer
-abbrev pub ReadsBytes : (size : ℕ) → (old new : Option (List ℕ)) → Result (List ℕ) RecordFault → Type 0
-ReadsBytes size old new (Ok bytes) = (length bytes ≡ size) × Consumes old new bytes
-ReadsBytes size old new (Err faults.NotARecord) = IfSome old (λ xs. length xs < size)
-ReadsBytes size old new (Err fault) = ⊤
 
 -- ---- the record
 

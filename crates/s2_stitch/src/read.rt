@@ -1,9 +1,9 @@
 //! Reads a record.
-ghost use Rattle.std.specs.Prelude.{◌≡◌, ◌^◌, ◌<◌, ◌≤◌, IfOk, length};
+ghost use Rattle.std.specs.Prelude.{◌≡◌, ◌^◌, ◌<◌, IfOk, IfSome, IsErrOf, length};
+ghost use Rattle.std.specs.Io.KnownBytes.{Consumes};
 ghost use Rattle.std.specs.Int.{from_be_bytes, w32, w64};
 ghost use Rattle.s2_mode.specs.Counts.{CanCount};
-ghost use Rattle.s2_stitch.specs.Records.{front};
-ghost use Rattle.s2_stitch.specs.Reading.{CountsRead, ReadsBytes, ReadsFront, ReadsRecord, SaysFront};
+ghost use Rattle.s2_stitch.specs.Reading.{CountsRead, ReadsFront, ReadsRecord, SaysFront};
 
 use crate::limits::{FRONT_BYTES, MAX_CERTIFICATE};
 use crate::record::Record;
@@ -52,19 +52,18 @@ fn number32(bytes: &[u8]) -> u32
     u32::from_be_bytes([bytes[0], bytes[1], bytes[2], bytes[3]])
 }
 
-/// The front in these bytes, if there is one.
-fn front_in(bytes: &[u8]) -> Option<Front>
-    requires { length bytes.now ≡ 17 }
-    ensures { SaysFront bytes.now result }
+/// The front that these sixteen bytes and this byte are, if they are one.
+fn front_in(numbers: &[u8], byte: u8) -> Option<Front>
+    requires { length numbers.now ≡ 16 }
+    ensures { SaysFront numbers.now byte result }
 {
-    let (numbers, last) = bytes.split_at(16);
     let (at, numbers) = numbers.split_at(8);
     let (rounds, size) = numbers.split_at(4);
     let size = number32(size) as usize;
     if size > MAX_CERTIFICATE {
         return None;
     }
-    match verdict_of(last[0]) {
+    match verdict_of(byte) {
         Some(verdict) => Some(Front {
             at: number64(at),
             rounds: number32(rounds),
@@ -89,7 +88,7 @@ fn read_front<R: CountedRead>(reader: &mut R) -> Result<Option<Front>, RecordFau
     if count < FRONT_BYTES {
         return Err(RecordFault::NotARecord);
     }
-    match front_in(&bytes) {
+    match front_in(&bytes[..FRONT_BYTES - 1], bytes[FRONT_BYTES - 1]) {
         Some(front) => Ok(Some(front)),
         None => Err(RecordFault::NotARecord),
     }
@@ -103,7 +102,8 @@ fn read_bytes<R: CountedRead>(
 ) -> Result<Vec<u8>, RecordFault>
     requires count { CanCount (R.count reader.old) }
     requires size { size < 2 ^ 32 }
-    ensures reads { ReadsBytes size (R.remaining reader.old) (R.remaining reader.new) result }
+    ensures bytes { IfOk result (λ v. (length v.items ≡ size) × Consumes (R.remaining reader.old) (R.remaining reader.new) v.items) }
+    ensures fewer { IsErrOf result RecordFault.NotARecord → IfSome (R.remaining reader.old) (λ xs. length xs < size) }
     ensures counts { CountsRead (R.count reader.old) (R.count reader.new) result }
 {
     let mut bytes = vec![in alloc; 0u8; size].map_err(|_| RecordFault::NoMemory)?;
