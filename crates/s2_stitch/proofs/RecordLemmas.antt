@@ -1,12 +1,12 @@
 -- A record's bytes, and what is read of them.
 use Rattle.std.proofs.Common.{◌≡◌, ℕ, ◌+◌, ◌^◌, ◌<◌, ◌≤◌, ◌||◌, Bool, true, false, List, [], ◌∷◌, ◌++◌, length, take, drop, Option, Some, None, w32, w64, refl, sym, ap, ap₂, subst, ◌∙◌, arith, ltb, le-ltb, length-append, append_assoc}
-use Rattle.std.proofs.lemmas.List.{take_at, drop_at, drop-drop, same_lists, get_or-map, get_or_default, drop_all, drop_more, take-append-drop}
-use Rattle.std.proofs.lemmas.Bool.{cases_Bool}
+use Rattle.std.proofs.lemmas.List.{take_at, drop_at, drop-drop, same_lists, get_or-map, get_or_default, drop_all, drop_more, take_more, take-append-drop}
+use Rattle.std.proofs.lemmas.Bool.{cases_Bool, ltb-false}
 use Rattle.std.proofs.lemmas.List.FromFn.{length-range_with_len, get_or-range_with_len}
 use Rattle.std.specs.Io.KnownBytes.{Consumes, IsAtEnd}
-use Rattle.std.proofs.Common.{IfSome, inl, inr, lt-ltb, ltb-le, map, get_or}
+use Rattle.std.proofs.Common.{IfSome, inl, inr, lt-ltb, map, get_or}
 use Rattle.s2_bits.specs.Bits.{bit_at, bit_of_bytes}
-use Rattle.s2_certfile.proofs.EntryLemmas.{length-listed, pushed_one}
+use Rattle.s2_certfile.proofs.EntryLemmas.{length-listed}
 use Rattle.s2_certfile.specs.Field.{places}
 use Rattle.s2_stitch.specs.Reading.{IsFront, ReadsAs}
 use Rattle.s2_stitch.specs.declared.read.Front.{Front}
@@ -46,7 +46,7 @@ unfolding record_at
 too_short n bytes few = elim (cases_Bool (ltb (length bytes) front.size)) [
   | inl less ↦ rw less refl
   | inr enough ↦ (
-      let full : length bytes ≡ 16 = omega (arith, few, ltb-le _ _ enough) in
+      let full : length bytes ≡ 16 = omega (arith, few, ltb-false _ _ enough) in
       let none : drop front.size bytes ≡ [] = drop_all 16 bytes (omega (arith, full)) in
       rw (enough, none) refl
       )
@@ -189,7 +189,7 @@ pub put_four : (start one two three four a b c d : List ℕ) → one ≡ start +
 put_four start one two three four a b c d e1 e2 e3 e4 =
     e4 ∙ ap (λ l. l ++ d) (e3 ∙ ap (λ l. l ++ c) (e2 ∙ ap (λ l. l ++ b) e1 ∙ append_assoc start a b) ∙ append_assoc start (a ++ b) c ∙ ap (λ l. start ++ l) (append_assoc a b c)) ∙ append_assoc start (a ++ (b ++ c)) d
 
--- one more byte of the bits
-pub put_byte : (start old new : List ℕ) (f : ℕ → ℕ) (k byte : ℕ) → old ≡ start ++ map f (places k) → new ≡ old ++ (byte ∷ []) → byte ≡ f k → new ≡ start ++ map f (places (k + 1))
-put_byte start old new f k byte before is byte_is =
-    is ∙ ap (λ l. l ++ (byte ∷ [])) before ∙ append_assoc start (map f (places k)) (byte ∷ []) ∙ ap (λ l. start ++ l) (pushed_one f (map f (places k)) (map f (places k) ++ (byte ∷ [])) k byte refl refl byte_is)
+-- one more byte of some
+pub put_byte : (start old new xs : List ℕ) (k byte : ℕ) → k < length xs → old ≡ start ++ take k xs → new ≡ old ++ (byte ∷ []) → byte ≡ get_or xs k 0 → new ≡ start ++ take (k + 1) xs
+put_byte start old new xs k byte low before is byte_is =
+    is ∙ ap (λ l. l ++ (byte ∷ [])) before ∙ append_assoc start (take k xs) (byte ∷ []) ∙ ap (λ l. start ++ l) (ap (λ b. take k xs ++ (b ∷ [])) byte_is ∙ sym (take_more xs k 0 low))

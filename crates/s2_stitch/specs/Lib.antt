@@ -1,4 +1,5 @@
 pub mod Records
 pub mod Reading
 pub mod Stitching
+pub mod Stitchers
 pub mod Laws

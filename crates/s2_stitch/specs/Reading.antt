@@ -42,9 +42,8 @@ ReadsAs n None new r = ⊤
 ReadsAs n (Some bytes) None r = ⊥
 ReadsAs n (Some bytes) (Some left) r = record_at n bytes ≡ Some (r, left)
 
--- a record was read; or nothing is left; or the bytes begin with no record
+-- a record was read, or nothing is left
 abbrev pub ReadsRecord : (n : ℕ) → (old new : Option (List ℕ)) → Result (Option Record) RecordFault → Type 0
 ReadsRecord n old new (Ok (Some r)) = ReadsAs n old new r × (length r.bits ≡ n)
 ReadsRecord n old new (Ok None) = Consumes old new [] × IsAtEnd new
-ReadsRecord n old new (Err faults.NotARecord) = IfSome old (λ xs. record_at n xs ≡ None)
 ReadsRecord n old new (Err fault) = ⊤

@@ -5,10 +5,12 @@ pub mod laws;
 mod limits;
 mod read;
 mod record;
+mod stitcher;
 mod verdicts;
 mod write;
 
 pub use limits::MAX_CERTIFICATE;
 pub use read::{RecordFault, read_record};
 pub use record::Record;
+pub use stitcher::Stitcher;
 pub use write::record_into;

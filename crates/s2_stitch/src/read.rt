@@ -1,8 +1,9 @@
 //! Reads a record.
-ghost use Rattle.std.specs.Prelude.{◌≡◌, ◌^◌, ◌<◌, IfOk, IfSome, IsErrOf, length};
+ghost use Rattle.std.specs.Prelude.{◌≡◌, ◌^◌, ◌<◌, IfOk, IfSome, IsErrOf, None, length};
 ghost use Rattle.std.specs.Io.KnownBytes.{Consumes};
 ghost use Rattle.std.specs.Int.{from_be_bytes, w32, w64};
 ghost use Rattle.s2_mode.specs.Counts.{CanCount};
+ghost use Rattle.s2_stitch.specs.Records.{record_at};
 ghost use Rattle.s2_stitch.specs.Reading.{CountsRead, ReadsFront, ReadsRecord, SaysFront};
 
 use crate::limits::{FRONT_BYTES, MAX_CERTIFICATE};
@@ -123,6 +124,7 @@ pub fn read_record<R: CountedRead>(
     requires count { CanCount (R.count reader.old) }
     requires bits { bits < 2 ^ 32 }
     ensures reads { ReadsRecord bits (R.remaining reader.old) (R.remaining reader.new) result }
+    ensures none { IsErrOf result RecordFault.NotARecord → IfSome (R.remaining reader.old) (λ xs. record_at bits xs ≡ None) }
     ensures counts { CountsRead (R.count reader.old) (R.count reader.new) result }
 {
     let front = match read_front(reader)? {
@@ -131,12 +133,14 @@ pub fn read_record<R: CountedRead>(
     };
     let word = read_bytes(alloc, reader, bits.div_ceil(8))?;
     let certificate = read_bytes(alloc, reader, front.size)?;
-    let word = Bits::from_bytes(alloc, &word, bits).map_err(|_| RecordFault::NoMemory)?;
-    Ok(Some(Record {
-        at: front.at,
-        rounds: front.rounds,
-        verdict: front.verdict,
-        word,
-        certificate,
-    }))
+    match Bits::from_bytes(alloc, &word, bits) {
+        Ok(word) => Ok(Some(Record {
+            at: front.at,
+            rounds: front.rounds,
+            verdict: front.verdict,
+            word,
+            certificate,
+        })),
+        Err(_) => Err(RecordFault::NoMemory),
+    }
 }
