@@ -1,3 +1,4 @@
 pub mod RecordLemmas
 pub mod StitchLemmas
 pub mod StitcherLemmas
+pub mod RunLemmas

@@ -1,5 +1,6 @@
 -- A stitcher's second half.
-use Rattle.std.proofs.Common.{◌≡◌, ℕ, ℤ, Bool, List, Option, length, refl, sym, ap, subst, ◌∙◌}
+use Rattle.std.proofs.Common.{◌≡◌, ℕ, ℤ, Bool, List, [], ◌++◌, Option, append-nil, arith, drop, length, take, refl, sym, ap, subst, ◌∙◌}
+use Rattle.std.proofs.lemmas.List.{drop_all, take_all}
 use Rattle.s2_mode.specs.Mode.{n_of, symbols_in}
 use Rattle.s2_mode.specs.declared.symbols.Symbol.{Symbol}
 use Rattle.s2_check.specs.Views.{View}
@@ -29,3 +30,9 @@ is_still size size' old new reader reader' soft soft' inv kept same long size_is
 
 pub same_reader : (reader : FrameReader) → IsSameReader reader reader
 same_reader reader = record { mode = refl; number = refl; options = refl }
+
+-- a slice of a vector keeps its length
+pub put_back : (len : ℕ) (new items : List ℤ) → length items ≡ len → length new ≡ length items → length (take len (new ++ drop (length new) items)) ≡ length items
+put_back len new items len_is long =
+    let none : drop (length new) items ≡ [] = drop_all (length new) items (omega (arith, long)) in
+    ap (λ l. length (take len (new ++ l))) none ∙ ap (λ l. length (take len l)) (append-nil new) ∙ ap length (take_all len new (omega (arith, long, len_is))) ∙ long

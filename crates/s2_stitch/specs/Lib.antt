@@ -2,4 +2,5 @@ pub mod Records
 pub mod Reading
 pub mod Stitching
 pub mod Stitchers
+pub mod Running
 pub mod Laws

@@ -15,7 +15,7 @@ ghost use Rattle.s2_stitch.specs.Stitchers.{IsSameStitcher, terms_of};
 
 use crate::record::Record;
 use s2_message::{FrameOptions, FrameReader};
-use s2_mode::Mode;
+use s2_mode::{Mode, Symbol};
 use s2_plframe::HeaderTolerance;
 use s2_receive::{Decide, Follower, MAX_SYMBOLS, Next};
 use s2_report::{Step, Totals};
@@ -51,6 +51,19 @@ fn settle_recorded(
     follower.settle(found, decided, reader.field())
 }
 
+/// Decides what was found, if it is a frame, whose symbols these are.
+fn decide_found<D: Decide>(decider: &mut D, found: Next, frame: &[Symbol])
+    requires size { length frame.now ≡ D.size decider.old }
+    ensures decided { IsDecidedBy (D.decide decider.old) (met_of found frame.now) (D.last decider.new) }
+    ensures same { (D.decide decider.new ≡ D.decide decider.old) × (D.size decider.new ≡ D.size decider.old) }
+{
+    match found {
+        Next::Frame { .. } => decider.decide(frame),
+        Next::Cut { .. } => {}
+        Next::End { .. } => {}
+    }
+}
+
 /// Handles what was found. If it is a frame, the decider decides it.
 fn settle_decided<D: Decide>(follower: &mut Follower, decider: &mut D, found: Next) -> Step
     requires found { follower.old.found ≡ Some found }
@@ -58,11 +71,7 @@ fn settle_decided<D: Decide>(follower: &mut Follower, decider: &mut D, found: Ne
     ensures settles { (d : Decision) × IsDecidedBy (D.decide decider.old) (met_of found follower.old.frame) d × Settles follower.old follower.new found d result }
     ensures same { (D.decide decider.new ≡ D.decide decider.old) × (D.size decider.new ≡ D.size decider.old) }
 {
-    match found {
-        Next::Frame { .. } => decider.decide(follower.frame()),
-        Next::Cut { .. } => {}
-        Next::End { .. } => {}
-    }
+    decide_found(decider, found, follower.frame());
     follower.settle(found, decider.decided(), decider.field())
 }
 
