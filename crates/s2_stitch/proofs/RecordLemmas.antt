@@ -3,6 +3,10 @@ use Rattle.std.proofs.Common.{◌≡◌, ℕ, ◌+◌, ◌^◌, ◌<◌, ◌≤�
 use Rattle.std.proofs.lemmas.List.{take_at, drop_at, drop-drop, same_lists, get_or-map, get_or_default, drop_all, drop_more, take_more, take-append-drop}
 use Rattle.std.proofs.lemmas.Bool.{cases_Bool, ltb-false}
 use Rattle.std.proofs.lemmas.List.FromFn.{length-range_with_len, get_or-range_with_len}
+use Rattle.std.specs.List.{AllByRecursion, flat_map}
+use Rattle.std.specs.Option.{unwrap_or}
+use Rattle.std.proofs.lemmas.List.Concat.{flat_map-cons}
+use Rattle.std.proofs.lemmas.List.Elements.{recursion_from_All}
 use Rattle.std.specs.Io.KnownBytes.{Consumes, IsAtEnd}
 use Rattle.std.proofs.Common.{IfSome, inl, inr, lt-ltb, map, get_or}
 use Rattle.s2_bits.specs.Bits.{bit_at, bit_of_bytes}
@@ -15,7 +19,7 @@ use Rattle.s2_certfile.specs.Field.{IsField, both, bit_list, bytes_of_bits, numb
 use Rattle.s2_certfile.proofs.Fields.{bit_list_is, both_are}
 use Rattle.s2_check.specs.declared.verdict.Verdict.{Verdict}
 use Rattle.s2_check.specs.declared.verdict.Verdict.TheVariants.{Sole, MostLikely, Parity, Broken}
-use Rattle.s2_stitch.specs.Records.{IsRecord, ReadAgainLaw, Record, body_at, front, max_certificate, record_at, record_bytes, verdict_at, verdict_byte, verdict_of}
+use Rattle.s2_stitch.specs.Records.{AreAllRecords, AreRecords, IsRecord, ReadAgainLaw, Record, SameRecordsLaw, WrittenLaw, body_at, front, max_certificate, record_at, record_bytes, verdict_at, verdict_byte, verdict_of}
 
 -- ---- the front
 
@@ -193,3 +197,34 @@ put_four start one two three four a b c d e1 e2 e3 e4 =
 pub put_byte : (start old new xs : List ℕ) (k byte : ℕ) → k < length xs → old ≡ start ++ take k xs → new ≡ old ++ (byte ∷ []) → byte ≡ get_or xs k 0 → new ≡ start ++ take (k + 1) xs
 put_byte start old new xs k byte low before is byte_is =
     is ∙ ap (λ l. l ++ (byte ∷ [])) before ∙ append_assoc start (take k xs) (byte ∷ []) ∙ ap (λ l. start ++ l) (ap (λ b. take k xs ++ (b ∷ [])) byte_is ∙ sym (take_more xs k 0 low))
+
+-- ---- many records
+
+written_so : (n : ℕ) (records : List Record) → AllByRecursion (IsRecord n) records → AreAllRecords n records (flat_map record_bytes records)
+written_so n [] are = refl
+written_so n (r ∷ later) are =
+    (flat_map record_bytes later, ap (record_at n) (flat_map-cons record_bytes r later) ∙ read_again n r (flat_map record_bytes later) are.0, written_so n later are.1)
+
+pub written : WrittenLaw
+written n records are = written_so n records (recursion_from_All (IsRecord n) records are)
+
+-- nothing is read of nothing
+none_left : (n : ℕ) → record_at n [] ≡ None
+none_left n = too_short n [] (omega arith)
+
+read_left : (n : ℕ) (bytes : List ℕ) (r s : Record) (left left' : List ℕ) → record_at n bytes ≡ Some (r, left) → record_at n bytes ≡ Some (s, left') → (r ≡ s) × (left ≡ left')
+read_left n bytes r s left left' is is' =
+    let same = sym is ∙ is' in
+    (ap (λ (o : Option (Record × List ℕ)). (unwrap_or o (r, left)).0) same, ap (λ (o : Option (Record × List ℕ)). (unwrap_or o (r, left)).1) same)
+
+not_read : (n : ℕ) (r : Record) (left : List ℕ) → record_at n [] ≡ Some (r, left) → ⊥
+not_read n r left is = let none = none_left n in cc
+
+pub same_records : SameRecordsLaw
+same_records n [] [] bytes are others = refl
+same_records n [] (r ∷ more) bytes are (left, is, rest) = absurd (not_read n r left (ap (record_at n) (sym are) ∙ is))
+same_records n (r ∷ later) [] bytes (left, is, rest) others = absurd (not_read n r left (ap (record_at n) (sym others) ∙ is))
+same_records n (r ∷ later) (s ∷ more) bytes (left, is, rest) (left', is', rest') =
+    let (same, lefts) = read_left n bytes r s left left' is is' in
+    let tails = subst (λ l. AreRecords n more l []) (sym lefts) rest' in
+    ap₂ (λ a b. a ∷ b) same (same_records n later more left rest tails)

@@ -1,6 +1,6 @@
 -- A stitched run of a recording, step by step.
-use Rattle.std.proofs.Common.{◌≡◌, ◌≢◌, ℕ, ◌+◌, ◌*◌, ◌≤◌, ◌&&◌, Bool, true, false, nat_eq, List, [], ◌∷◌, ◌++◌, Contains, Option, Some, None, length, take, drop, refl, sym, ap, subst, ◌∙◌, append_assoc, append-nil, arith, inl, inr}
-use Rattle.std.proofs.lemmas.Bool.{cases_eq, eq-eqb}
+use Rattle.std.proofs.Common.{◌≡◌, ◌≢◌, ℕ, ◌+◌, ◌*◌, ◌≤◌, ◌&&◌, Bool, true, false, nat_eq, List, [], ◌∷◌, ◌++◌, Contains, Option, Some, None, IfSome, length, take, drop, refl, sym, ap, subst, ◌∙◌, append_assoc, append-nil, arith, inl, inr}
+use Rattle.std.proofs.lemmas.Bool.{cases_eq, eq-eqb, eqb-true}
 use Rattle.std.proofs.lemmas.List.{drop_at, take-append-le}
 use Rattle.s2_mode.specs.Mode.{symbols_in}
 use Rattle.s2_mode.specs.Symbols.{symbols_of}
@@ -17,8 +17,8 @@ use Rattle.s2_receive.proofs.SymbolLists.{yields}
 use Rattle.s2_receive.specs.Halves.{Follower, IsRunBy, IsShown, RunsBy, Seeks, ahead, asked_of, rules_with}
 use Rattle.s2_receive.proofs.RunsSoFar.{run_begins, run_seeks, run_settles}
 use Rattle.s2_stitch.specs.Records.{Record}
-use Rattle.s2_stitch.specs.Stitching.{IsByRecord, IsStitched, Terms, decision_by, frame_at, rules_for}
-use Rattle.s2_stitch.specs.Running.{IsBy, StitchBeginsLaw, StitchDecidedLaw, StitchEndsLaw, StitchRecordedLaw, StitchSeeksLaw, StitchedTo}
+use Rattle.s2_stitch.specs.Stitching.{IsByRecord, IsChosen, IsDecidedSo, IsStitched, Terms, decision_by, frame_at, rules_for}
+use Rattle.s2_stitch.specs.Running.{IsBy, StitchBeginsLaw, StitchEndsLaw, StitchSeeksLaw, StitchSettlesLaw, StitchedTo}
 
 front_nil : (xs ys : List ℕ) → xs ++ ys ≡ [] → (xs ≡ []) × (ys ≡ [])
 front_nil [] ys none = (refl, none)
@@ -86,34 +86,35 @@ module _ (t : Terms) (recording : List ℕ) (records : List Record) (left : List
       let dropped : drop at (symbols_of recording) ≡ w.symbols ++ coming = ap (drop at) all ∙ drop_at last.front (w.symbols ++ coming) at place in
       frame_is ∙ sym (take-append-le size w.symbols coming long) ∙ ap (take size) (sym dropped) ∙ ap (λ m. take (symbols_in m) (drop at (symbols_of recording))) mode_is
 
-pub recorded : StitchRecordedLaw
-recorded t recording records left old new decisions lines packets at skipped r step before mode_is found given at_is settles = record {
+  -- a decision by a record may be shown
+  by_record : (at : ℕ) (skipped : Gap) (r : Record) (d : Decision) → old.sought.mode ≡ t.mode → old.found ≡ Some (next.Frame at skipped) → Contains records r → r.at ≡ at → d ≡ decision_by t old.frame r → IsStitched t (symbols_of recording) records old.frame d
+  by_record at skipped r d mode_is found given at_is is =
+      inr (record { record_is = r; given = given; frame_is = there at skipped mode_is found ∙ ap (frame_at t (symbols_of recording)) (sym at_is); decision_is = is })
+
+  -- one by the rule, too
+  by_rule : (found : Next) (d : Decision) → IsDecidedBy t.decide (met_of found old.frame) d → IsShown (IsStitched t (symbols_of recording) records) found old.frame d
+  by_rule (next.Frame at skipped) d is = inl is
+  by_rule (next.Cut at skipped count) d is = tt
+  by_rule (next.End at skipped) d is = tt
+
+  -- so may the one that is chosen
+  chosen : (found : Next) (given_one : Option Record) (d : Decision) → old.sought.mode ≡ t.mode → old.found ≡ Some found → IfSome given_one (λ r. Contains records r) → IsChosen t found old.frame given_one d → IsShown (IsStitched t (symbols_of recording) records) found old.frame d
+  chosen found None d mode_is is given by = by_rule found d by
+  chosen (next.Frame at skipped) (Some r) d mode_is is given by = by_place (nat_eq at r.at) refl by
+    where
+      by_place : (same : Bool) → nat_eq at r.at ≡ same → IsDecidedSo same t (next.Frame at skipped) old.frame r d → IsStitched t (symbols_of recording) records old.frame d
+      by_place true e by = by_record at skipped r d mode_is is given (sym (eqb-true at r.at e)) by
+      by_place false e by = inl by
+  chosen (next.Cut at skipped count) (Some r) d mode_is is given by = tt
+  chosen (next.End at skipped) (Some r) d mode_is is given by = tt
+
+pub settles : StitchSettlesLaw
+settles t recording records left old new decisions lines packets found given_one d step before mode_is is given by settles_so = record {
   taken = before.taken;
   on = before.on;
   all = before.all;
   ended = before.ended;
-  run = run_settles (IsStitched t (symbols_of recording) records) t.decide before.taken before.on old new decisions lines packets (next.Frame at skipped) (decision_by t old.frame r) step before.run found
-      (inr (record {
-        record_is = r;
-        given = given;
-        frame_is = there t recording records left old decisions lines packets before at skipped mode_is found ∙ ap (frame_at t (symbols_of recording)) (sym at_is);
-        decision_is = refl;
-      })) settles;
-}
-
--- a decision by the rule may be shown
-by_rule : (t : Terms) (recording : List Symbol) (records : List Record) (found : Next) (symbols : List Symbol) (d : Decision) → IsDecidedBy t.decide (met_of found symbols) d → IsShown (IsStitched t recording records) found symbols d
-by_rule t recording records (next.Frame at skipped) symbols d is = inl is
-by_rule t recording records (next.Cut at skipped count) symbols d is = tt
-by_rule t recording records (next.End at skipped) symbols d is = tt
-
-pub decided : StitchDecidedLaw
-decided t recording records left old new decisions lines packets found d step before is by settles = record {
-  taken = before.taken;
-  on = before.on;
-  all = before.all;
-  ended = before.ended;
-  run = run_settles (IsStitched t (symbols_of recording) records) t.decide before.taken before.on old new decisions lines packets found d step before.run is (by_rule t (symbols_of recording) records found old.frame d by) settles;
+  run = run_settles (IsStitched t (symbols_of recording) records) t.decide before.taken before.on old new decisions lines packets found d step before.run is (chosen t recording records left old decisions lines packets before found given_one d mode_is is given by) settles_so;
 }
 
 -- ---- at the end

@@ -1,5 +1,6 @@
 -- The record of a frame's decision, and its bytes (own). Read from top to bottom; numbers are big endian.
-use Rattle.std.specs.Prelude.{◌≡◌, ℕ, ◌+◌, ◌/◌, ◌^◌, ◌<◌, ◌≤◌, ◌==◌, ◌||◌, nat_lt, Bool, if◌then◌else◌, List, [], ◌∷◌, ◌++◌, length, take, drop, Option, Some, None}
+use Rattle.std.specs.Prelude.{◌≡◌, ℕ, ◌+◌, ◌/◌, ◌^◌, ◌<◌, ◌≤◌, ◌==◌, ◌||◌, nat_lt, Bool, if◌then◌else◌, List, [], ◌∷◌, ◌++◌, length, take, drop, All, Option, Some, None}
+use Rattle.std.specs.List.{flat_map}
 use Rattle.std.specs.Int.{w32, w64}
 use Rattle.s2_certfile.specs.Field.{Field, both, bit_list, bytes_of_bits, number}
 use Rattle.s2_check.specs.declared.verdict.Verdict.{Verdict}
@@ -81,3 +82,15 @@ ReadAgainLaw = (n : ℕ) (r : Record) (rest : List ℕ) → IsRecord n r → rec
 abbrev pub AreRecords : (n : ℕ) → List Record → (bytes rest : List ℕ) → Type 0
 AreRecords n [] bytes rest = bytes ≡ rest
 AreRecords n (r ∷ later) bytes rest = (left : List ℕ) × (record_at n bytes ≡ Some (r, left)) × AreRecords n later left rest
+
+-- all records of some bytes, which are nothing else
+abbrev pub AreAllRecords : (n : ℕ) → List Record → (bytes : List ℕ) → Type 0
+AreAllRecords n records bytes = AreRecords n records bytes []
+
+-- records that were written one after another are read again
+abbrev pub WrittenLaw : Type 0
+WrittenLaw = (n : ℕ) (records : List Record) → All (IsRecord n) records → AreAllRecords n records (flat_map record_bytes records)
+
+-- bytes have no other records
+abbrev pub SameRecordsLaw : Type 0
+SameRecordsLaw = (n : ℕ) (records others : List Record) (bytes : List ℕ) → AreAllRecords n records bytes → AreAllRecords n others bytes → records ≡ others

@@ -1,20 +1,17 @@
 -- A stitched run of a recording, as far as it has come (own).
-use Rattle.std.specs.Prelude.{◌≡◌, ◌≢◌, ℕ, ◌≤◌, nat_eq, Bool, false, List, [], ◌∷◌, ◌++◌, Contains, length, Option, Some, None}
+use Rattle.std.specs.Prelude.{◌≡◌, ◌≢◌, ℕ, ◌≤◌, nat_eq, Bool, false, List, [], ◌∷◌, ◌++◌, Contains, length, Option, Some, None, IfSome}
 use Rattle.s2_mode.specs.Symbols.{symbols_of}
 use Rattle.s2_mode.specs.declared.symbols.Symbol.{Symbol}
 use Rattle.s2_plframe.specs.Turns.{sought_of}
 use Rattle.s2_report.specs.ReportLines.{step_line}
 use Rattle.s2_report.specs.declared.report.Step.{Step}
 use Rattle.s2_receive.specs.Limits.{max_symbols}
-use Rattle.s2_receive.specs.Receiving.{Decision, IsDecidedBy, begun}
-use Rattle.s2_receive.specs.Synchronization.{met_of}
+use Rattle.s2_receive.specs.Receiving.{Decision, begun}
 use Rattle.s2_receive.specs.Halves.{Follower, RunSoFar, Seeks, Settles, asked_of, decision_if}
-use Rattle.s2_receive.specs.declared.gap.Gap.{Gap}
 use Rattle.s2_receive.specs.declared.report.Phase.TheVariants as phases
 use Rattle.s2_receive.specs.declared.window.Next.{Next}
-use Rattle.s2_receive.specs.declared.window.Next.TheVariants as next
 use Rattle.s2_stitch.specs.Records.{Record}
-use Rattle.s2_stitch.specs.Stitching.{IsStitch, IsStitched, Terms, decision_by}
+use Rattle.s2_stitch.specs.Stitching.{IsChosen, IsStitch, IsStitched, Terms}
 
 -- a follower follows a recording by these terms
 pub record IsBy (t : Terms) (f : Follower) : Type 0 where
@@ -43,19 +40,12 @@ StitchSeeksLaw =
     → StitchedTo t recording records left old decisions lines packets → old.found ≡ None → length bytes ≤ asked_of old → left ≡ bytes ++ left_new → (length bytes ≢ asked_of old → left_new ≡ [])
     → Seeks old new bytes (nat_eq (length bytes) (asked_of old)) found → StitchedTo t recording records left_new new decisions lines packets
 
--- a frame that was found is handled by the record of its position
-abbrev pub StitchRecordedLaw : Type 0
-StitchRecordedLaw =
-    (t : Terms) (recording : List ℕ) (records : List Record) (left : List ℕ) (old new : Follower) (decisions : List Decision) (lines : List (List ℕ)) (packets : List ℕ) (at : ℕ) (skipped : Gap) (r : Record) (step : Step)
-    → StitchedTo t recording records left old decisions lines packets → old.sought.mode ≡ t.mode → old.found ≡ Some (next.Frame at skipped) → Contains records r → r.at ≡ at
-    → Settles old new (next.Frame at skipped) (decision_by t old.frame r) step
-    → StitchedTo t recording records left new (decisions ++ (decision_by t old.frame r ∷ [])) (lines ++ (step_line step new.state.standing.totals ∷ [])) (packets ++ new.packets)
-
--- what was found is handled, and a frame is decided by the rule
-abbrev pub StitchDecidedLaw : Type 0
-StitchDecidedLaw =
-    (t : Terms) (recording : List ℕ) (records : List Record) (left : List ℕ) (old new : Follower) (decisions : List Decision) (lines : List (List ℕ)) (packets : List ℕ) (found : Next) (d : Decision) (step : Step)
-    → StitchedTo t recording records left old decisions lines packets → old.found ≡ Some found → IsDecidedBy t.decide (met_of found old.frame) d → Settles old new found d step
+-- What was found is handled, a frame by the next record, if that has its position, else by the rule
+abbrev pub StitchSettlesLaw : Type 0
+StitchSettlesLaw =
+    (t : Terms) (recording : List ℕ) (records : List Record) (left : List ℕ) (old new : Follower) (decisions : List Decision) (lines : List (List ℕ)) (packets : List ℕ) (found : Next) (next_one : Option Record) (d : Decision) (step : Step)
+    → StitchedTo t recording records left old decisions lines packets → old.sought.mode ≡ t.mode → old.found ≡ Some found → IfSome next_one (λ r. Contains records r) → IsChosen t found old.frame next_one d
+    → Settles old new found d step
     → StitchedTo t recording records left new (decisions ++ decision_if found d) (lines ++ (step_line step new.state.standing.totals ∷ [])) (packets ++ new.packets)
 
 -- at the end all of the recording is stitched

@@ -1,6 +1,6 @@
 -- A receiver's run over a recording with decisions from records (own). It is the receiver's own loop; only a decision that a record
 -- has is not taken again.
-use Rattle.std.specs.Prelude.{◌≡◌, ◌⊎◌, ℕ, Bool, List, Contains, length, take, drop, Option, Some, None, Result, Ok, Err}
+use Rattle.std.specs.Prelude.{◌≡◌, ◌⊎◌, ℕ, Bool, true, false, nat_eq, List, Contains, length, take, drop, Option, Some, None, Result, Ok, Err}
 use Rattle.s2_mode.specs.Mode.{Mode, symbols_in}
 use Rattle.s2_mode.specs.declared.symbols.Symbol.{Symbol}
 use Rattle.s2_rows.specs.Rows.{Rows}
@@ -11,7 +11,10 @@ use Rattle.s2_check.specs.CertificateFiles.{view_of}
 use Rattle.s2_check.specs.Views.{View}
 use Rattle.s2_plframe.specs.Turns.{sought_of}
 use Rattle.s2_receive.specs.Limits.{max_symbols}
-use Rattle.s2_receive.specs.Receiving.{Decision, Rules}
+use Rattle.s2_receive.specs.Receiving.{Decision, IsDecidedBy, Rules}
+use Rattle.s2_receive.specs.Synchronization.{met_of}
+use Rattle.s2_receive.specs.declared.window.Next.{Next}
+use Rattle.s2_receive.specs.declared.window.Next.TheVariants as next
 use Rattle.s2_receive.specs.Windows.{found_as}
 use Rattle.s2_receive.specs.Halves.{IsRunBy}
 use Rattle.s2_message.specs.Decisions.{decision_with, soft_frame}
@@ -73,6 +76,24 @@ IsStitched t recording records symbols d = (d ≡ t.decide symbols) ⊎ IsByReco
 -- a record, or by its rule
 abbrev pub IsStitch : Terms → (recording : List Symbol) → List Record → List Decision → (lines : List (List ℕ)) → (packets : List ℕ) → Type 0
 IsStitch t recording records decisions lines packets = IsRunBy (IsStitched t recording records) (rules_for t) recording decisions lines packets
+
+-- ---- the choice
+
+-- whether a frame was found at this position
+abbrev pub is_frame_at : Next → (at : ℕ) → Bool
+is_frame_at (next.Frame place skipped) at = nat_eq place at
+is_frame_at (next.Cut place skipped count) at = false
+is_frame_at (next.End place skipped) at = false
+
+-- the decision of a record, or of the receiver's rule, on a frame that was found
+abbrev pub IsDecidedSo : (recorded : Bool) → Terms → Next → List Symbol → Record → Decision → Type 0
+IsDecidedSo true t found symbols r d = d ≡ decision_by t symbols r
+IsDecidedSo false t found symbols r d = IsDecidedBy t.decide (met_of found symbols) d
+
+-- That of the record, if it has the frame's position; else that of the rule. A cut frame and the end have no decision
+abbrev pub IsChosen : Terms → Next → List Symbol → Option Record → Decision → Type 0
+IsChosen t found symbols None d = IsDecidedBy t.decide (met_of found symbols) d
+IsChosen t found symbols (Some r) d = IsDecidedSo (is_frame_at found r.at) t found symbols r d
 
 -- ---- true records
 

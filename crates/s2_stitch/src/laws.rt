@@ -1,11 +1,13 @@
 //! Laws of stitching.
 ghost use Rattle.s2_stitch.specs.Laws.{StitchLaw};
-ghost use Rattle.s2_stitch.specs.Records.{ReadAgainLaw};
-ghost use Rattle.s2_stitch.specs.Running.{StitchBeginsLaw, StitchDecidedLaw, StitchEndsLaw, StitchRecordedLaw, StitchSeeksLaw};
+ghost use Rattle.s2_stitch.specs.Records.{ReadAgainLaw, SameRecordsLaw, WrittenLaw};
+ghost use Rattle.s2_stitch.specs.Running.{StitchBeginsLaw, StitchEndsLaw, StitchSeeksLaw, StitchSettlesLaw};
 
-/// A record that is written is read again.
+/// Records that are written are read again, and no others.
 pub fn read_again()
-    ensures { ReadAgainLaw }
+    ensures one { ReadAgainLaw }
+    ensures all { WrittenLaw }
+    ensures no_others { SameRecordsLaw }
 {}
 
 /// If each record has the decision of the receiver's rule, a stitched run is the receiver's own.
@@ -14,12 +16,11 @@ pub fn stitch()
 {}
 
 /// A stitched run in steps, each of which finds the next thing ([`crate::Stitcher::seek`]) and handles it
-/// ([`crate::Stitcher::settle_recorded`] or [`crate::Stitcher::settle`]). At the end, report and packets are those of a receiver by
+/// ([`crate::Stitcher::settle`]). At the end, report and packets are those of a receiver by
 /// these decisions.
 pub fn runs()
     ensures begins { StitchBeginsLaw }
     ensures seeks { StitchSeeksLaw }
-    ensures recorded { StitchRecordedLaw }
-    ensures decided { StitchDecidedLaw }
+    ensures settles { StitchSettlesLaw }
     ensures ends { StitchEndsLaw }
 {}

@@ -10,7 +10,7 @@ ghost use Rattle.s2_receive.specs.Synchronization.{met_of};
 ghost use Rattle.s2_receive.specs.Halves.{Seeks, Settles, asked_of};
 ghost use Rattle.s2_message.specs.Decisions.{decision_with, soft_frame};
 ghost use Rattle.s2_message.specs.Reading.{IsSameReader};
-ghost use Rattle.s2_stitch.specs.Stitching.{decision_by};
+ghost use Rattle.s2_stitch.specs.Stitching.{IsChosen, decision_by, is_frame_at};
 ghost use Rattle.s2_stitch.specs.Stitchers.{IsSameStitcher, terms_of};
 
 use crate::record::Record;
@@ -22,6 +22,16 @@ use s2_report::{Step, Totals};
 use s2_scramble::ScramblingNumber;
 use std::alloc::{AllocError, Global};
 use std::marker::Model;
+
+/// Whether a frame was found at this position.
+fn is_frame_at(found: Next, at: u64) -> bool
+    ensures { result ≡ is_frame_at found at }
+{
+    match found {
+        Next::Frame { at: place, .. } => place == at,
+        Next::Cut { .. } | Next::End { .. } => false,
+    }
+}
 
 /// Handles a frame that was found, by the record of a decision.
 fn settle_recorded(
@@ -75,10 +85,9 @@ fn settle_decided<D: Decide>(follower: &mut Follower, decider: &mut D, found: Ne
     follower.settle(found, decider.decided(), decider.field())
 }
 
-/// A receiver of a recording whose decisions come from records. A step has two halves. [`Stitcher::seek`] finds the next thing. If it
-/// is a frame with a record, [`Stitcher::settle_recorded`] handles it by the decision that the record has. It does not decode the frame:
-/// soft values, BCH decoding (EN 302 307-1, 5.3.1), header and packets (5.1) are computed again. Else [`Stitcher::settle`] handles it, and
-/// the decider decides it if it is a frame.
+/// A receiver of a recording whose decisions come from records. A step has two halves: [`Stitcher::seek`] finds the next thing, and
+/// [`Stitcher::settle`] handles it. A frame that has a record is not decoded: only soft values, BCH decoding (EN 302 307-1, 5.3.1), header
+/// and packets (5.1) are computed again. A frame without a record is decided by the decider.
 ///
 /// In contracts, it is the scrambling number of its frames, how they are read, its follower, and its decider.
 pub struct Stitcher<D: Decide> {
@@ -164,7 +173,7 @@ impl<D: Decide> Stitcher<D> {
     }
 
     /// Handles a frame that was found, by the record of a decision on it. Nothing of the record is checked here.
-    pub fn settle_recorded(&mut self, found: Next, record: &Record) -> Step
+    fn settle_recorded(&mut self, found: Next, record: &Record) -> Step
         requires found { self.old.follower.found ≡ Some found }
         requires word { length record.now.bits ≡ n_of self.old.follower.sought.mode }
         ensures settles { (rows : Rows) → Settles self.old.follower self.new.follower found (decision_by (terms_of D.decide rows self.old) self.old.follower.frame record.now) result }
@@ -182,10 +191,25 @@ impl<D: Decide> Stitcher<D> {
     /// Handles what was found. If it is a frame, the decider decides it.
     pub fn settle(&mut self, found: Next) -> Step
         requires found { self.old.follower.found ≡ Some found }
-        ensures settles { (d : Decision) × IsDecidedBy (D.decide self.old.decider) (met_of found self.old.follower.frame) d × Settles self.old.follower self.new.follower found d result }
+        ensures settles { (rows : Rows) → (d : Decision) × IsChosen (terms_of D.decide rows self.old) found self.old.follower.frame None d × Settles self.old.follower self.new.follower found d result }
         ensures same { IsSameStitcher D.decide self.old self.new }
     {
         settle_decided(&mut self.follower, &mut self.decider, found)
+    }
+
+    /// Handles what was found, with the next record at hand. If the record has the position of the frame that was found, the frame is
+    /// handled by its decision. Else the decider decides the frame. Nothing of the record is checked here.
+    pub fn settle_with(&mut self, found: Next, record: &Record) -> Step
+        requires found { self.old.follower.found ≡ Some found }
+        requires word { length record.now.bits ≡ n_of self.old.follower.sought.mode }
+        ensures settles { (rows : Rows) → (d : Decision) × IsChosen (terms_of D.decide rows self.old) found self.old.follower.frame (Some record.now) d × Settles self.old.follower self.new.follower found d result }
+        ensures same { IsSameStitcher D.decide self.old self.new }
+    {
+        if is_frame_at(found, record.at) {
+            self.settle_recorded(found, record)
+        } else {
+            self.settle(found)
+        }
     }
 
     /// The packets that end in the frame of the last step, one after another.

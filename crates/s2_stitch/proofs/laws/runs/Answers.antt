@@ -1,4 +1,4 @@
-use Rattle.s2_stitch.proofs.RunLemmas.{begins, decided, ends, recorded, seeks}
+use Rattle.s2_stitch.proofs.RunLemmas.{begins, ends, seeks, settles}
 use Rattle.s2_stitch.proofs.laws.runs.Goals as goal
 
 pub returns-clause-begins : goal.returns-clause-begins
@@ -7,11 +7,8 @@ returns-clause-begins c = begins
 pub returns-clause-seeks : goal.returns-clause-seeks
 returns-clause-seeks c = seeks
 
-pub returns-clause-recorded : goal.returns-clause-recorded
-returns-clause-recorded c = recorded
-
-pub returns-clause-decided : goal.returns-clause-decided
-returns-clause-decided c = decided
+pub returns-clause-settles : goal.returns-clause-settles
+returns-clause-settles c = settles
 
 pub returns-clause-ends : goal.returns-clause-ends
 returns-clause-ends c = ends
