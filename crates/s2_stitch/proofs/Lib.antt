@@ -2,3 +2,4 @@ pub mod RecordLemmas
 pub mod StitchLemmas
 pub mod StitcherLemmas
 pub mod RunLemmas
+pub mod WalkLemmas

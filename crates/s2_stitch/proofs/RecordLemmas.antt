@@ -209,15 +209,15 @@ pub written : WrittenLaw
 written n records are = written_so n records (recursion_from_All (IsRecord n) records are)
 
 -- nothing is read of nothing
-none_left : (n : ℕ) → record_at n [] ≡ None
+pub none_left : (n : ℕ) → record_at n [] ≡ None
 none_left n = too_short n [] (omega arith)
 
-read_left : (n : ℕ) (bytes : List ℕ) (r s : Record) (left left' : List ℕ) → record_at n bytes ≡ Some (r, left) → record_at n bytes ≡ Some (s, left') → (r ≡ s) × (left ≡ left')
+pub read_left : (n : ℕ) (bytes : List ℕ) (r s : Record) (left left' : List ℕ) → record_at n bytes ≡ Some (r, left) → record_at n bytes ≡ Some (s, left') → (r ≡ s) × (left ≡ left')
 read_left n bytes r s left left' is is' =
     let same = sym is ∙ is' in
     (ap (λ (o : Option (Record × List ℕ)). (unwrap_or o (r, left)).0) same, ap (λ (o : Option (Record × List ℕ)). (unwrap_or o (r, left)).1) same)
 
-not_read : (n : ℕ) (r : Record) (left : List ℕ) → record_at n [] ≡ Some (r, left) → ⊥
+pub not_read : (n : ℕ) (r : Record) (left : List ℕ) → record_at n [] ≡ Some (r, left) → ⊥
 not_read n r left is = let none = none_left n in cc
 
 pub same_records : SameRecordsLaw

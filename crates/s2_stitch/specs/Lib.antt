@@ -1,5 +1,6 @@
 pub mod Records
 pub mod Reading
+pub mod Walking
 pub mod Stitching
 pub mod Stitchers
 pub mod Running
