@@ -3,3 +3,4 @@ pub mod StitchLemmas
 pub mod StitcherLemmas
 pub mod RunLemmas
 pub mod WalkLemmas
+pub mod FindLemmas

@@ -1,6 +1,7 @@
 //! A receiver's run over a recording, with the decisions that several runs over its pieces recorded.
 #![tactic(auto)]
 
+mod finding;
 pub mod laws;
 mod limits;
 mod read;

@@ -1,21 +1,24 @@
 //! The receiver's loop, with decisions from records.
-ghost use Rattle.std.specs.Prelude.{◌≡◌, ◌≤◌, IfOk, None, Option, Some, length, nat_eq};
+ghost use Rattle.std.specs.Prelude.{◌≡◌, ◌*◌, ◌≤◌, IfOk, None, Option, Some, length, nat_eq};
 ghost use Rattle.s2_check.specs.Views.{View};
 ghost use Rattle.s2_mode.specs.Mode.{n_of, symbols_in};
 ghost use Rattle.s2_plframe.specs.Turns.{sought_of};
 ghost use Rattle.s2_rows.specs.Rows.{Rows};
 ghost use Rattle.s2_receive.specs.Limits.{max_symbols};
 ghost use Rattle.s2_receive.specs.Receiving.{Decision, IsDecidedBy, begun};
-ghost use Rattle.s2_receive.specs.Synchronization.{met_of};
+ghost use Rattle.s2_receive.specs.Synchronization.{met_of, room_for};
+ghost use Rattle.s2_mode.specs.Counts.{CanCount};
+ghost use Rattle.s2_stitch.specs.Finding.{GoesOn, ReadsOrStops, found_of};
 ghost use Rattle.s2_receive.specs.Halves.{Seeks, Settles, asked_of};
 ghost use Rattle.s2_message.specs.Decisions.{decision_with, soft_frame};
 ghost use Rattle.s2_message.specs.Reading.{IsSameReader};
 ghost use Rattle.s2_stitch.specs.Stitching.{IsChosen, decision_by, is_frame_at};
 ghost use Rattle.s2_stitch.specs.Stitchers.{IsSameStitcher, terms_of};
 
+use crate::finding::find_next;
 use crate::record::Record;
 use s2_message::{FrameOptions, FrameReader};
-use s2_mode::{Mode, Symbol};
+use s2_mode::{CountedRead, Mode, ReadFault, Symbol};
 use s2_plframe::HeaderTolerance;
 use s2_receive::{Decide, Follower, MAX_SYMBOLS, Next};
 use s2_report::{Step, Totals};
@@ -186,6 +189,22 @@ impl<D: Decide> Stitcher<D> {
             found,
             record,
         )
+    }
+
+    /// Reads up to the next thing: a frame, a cut frame or the end. `bytes` is a buffer for the bytes that are wanted at most.
+    /// `ReadFault` means that a read failed, or that the limit of symbols was reached.
+    pub fn find<R: CountedRead>(&mut self, bytes: &mut [u8], symbols: &mut R) -> Result<Next, ReadFault>
+        requires symbols { CanCount (R.count symbols.old) }
+        requires none { self.old.follower.found ≡ None }
+        requires bytes { length bytes.old ≡ 4 * room_for self.old.follower.resync (symbols_in self.old.follower.sought.mode) }
+        ensures goes_on { IfOk result (λ found. GoesOn self.old.follower self.new.follower (R.remaining symbols.old) (R.remaining symbols.new)) }
+        ensures found { self.new.follower.found ≡ found_of result }
+        ensures reads { ReadsOrStops self.new.follower (R.count symbols.old) (R.count symbols.new) (found_of result) }
+        ensures kept { self.new.follower.state.standing ≡ self.old.follower.state.standing }
+        ensures same { IsSameStitcher D.decide self.old self.new }
+        ensures bytes { length bytes.new ≡ length bytes.old }
+    {
+        find_next(&mut self.follower, bytes, symbols)
     }
 
     /// Handles what was found. If it is a frame, the decider decides it.
