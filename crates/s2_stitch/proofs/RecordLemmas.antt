@@ -115,7 +115,7 @@ read_again n r rest is =
     let again : (bit_list n).value word ≡ r.bits = (bit_list_is n).back r.bits is.bits in
     let parts = parts_are n head word r.certificate rest (verdict_byte r.verdict) r.verdict (front_is.long _ fits) (verdict_again r.verdict) ((bit_list_is n).long r.bits is.bits) (ap (λ x. x.1.1) back) is.certificate in
     let one : record_bytes r ++ rest ≡ head ++ (verdict_byte r.verdict ∷ (word ++ (r.certificate ++ rest))) =
-        append_assoc head (verdict_byte r.verdict ∷ (word ++ r.certificate)) rest ∙ ap (λ l. head ++ (verdict_byte r.verdict ∷ l)) (append_assoc word r.certificate rest) in
+    append_assoc head (verdict_byte r.verdict ∷ (word ++ r.certificate)) rest ∙ ap (λ l. head ++ (verdict_byte r.verdict ∷ l)) (append_assoc word r.certificate rest) in
     let two : made n head word r.certificate rest (verdict_byte r.verdict) r.verdict (front_is.long _ fits) (verdict_again r.verdict) ((bit_list_is n).long r.bits is.bits) (ap (λ x. x.1.1) back) is.certificate ≡ r = λ i. record { at = (back i).0; rounds = (back i).1.0; verdict = r.verdict; bits = again i; certificate = r.certificate } in
     ap (record_at n) one ∙ parts ∙ ap (λ x. Some (x, rest)) two
 
@@ -183,7 +183,7 @@ module _ (n : ℕ) (head : List ℕ) (byte : ℕ) (f : Front) (is : IsFront head
       let same : (front.value head).1.1 ≡ length certificate = size_is ∙ sym size_of in
       let all : xs ≡ head ++ (byte ∷ (word ++ (certificate ++ rest))) = read ∙ append_assoc head (byte ∷ []) ys ∙ ap (λ l. head ++ (byte ∷ l)) (more ∙ ap (λ l. word ++ l) last) in
       let made_is : made n head word certificate rest byte f.verdict is.long is.verdict long same few ≡ record { at = f.at; rounds = f.rounds; verdict = f.verdict; bits = bits; certificate = certificate } =
-          λ i. record { at = (is.numbers i).0; rounds = (is.numbers i).1.0; verdict = f.verdict; bits = sym bits_are i; certificate = certificate } in
+      λ i. record { at = (is.numbers i).0; rounds = (is.numbers i).1.0; verdict = f.verdict; bits = sym bits_are i; certificate = certificate } in
       ap (record_at n) all ∙ parts_are n head word certificate rest byte f.verdict is.long is.verdict long same few ∙ ap (λ x. Some (x, rest)) made_is
 
 -- ---- what is written

@@ -4,7 +4,7 @@ use Rattle.std.specs.Io.KnownBytes.{Consumes, IsAtEnd}
 use Rattle.std.proofs.lemmas.List.Elements.{Contains-append_right}
 use Rattle.s2_stitch.specs.Reading.{ReadsRecord}
 use Rattle.s2_stitch.specs.Records.{AreAllRecords, Record, record_at}
-use Rattle.s2_stitch.specs.Walking.{AreLeft, WalksOn}
+use Rattle.s2_stitch.specs.Walking.{AreLeft, IsAtHand, WalksOn}
 use Rattle.s2_stitch.proofs.RecordLemmas.{none_left, not_read, read_left}
 
 pub walks_nowhere : (n : ℕ) (held : Option Record) (old : Option (List ℕ)) → WalksOn n held held old old
@@ -36,3 +36,8 @@ walks_one n r (Some s) (Some bytes) (Some left) (read, long) = on
     on (first ∷ (second ∷ more)) (is, (rest, read_so, later)) =
         let (same, lefts) = read_left n bytes second s rest left read_so read in
         (second ∷ more, (same, subst (λ l. AreAllRecords n more l) lefts later), λ x there. Contains-append_right (first ∷ []) (second ∷ more) x there)
+
+-- a record that was read has a word of n bits
+pub at_hand : (n : ℕ) (next : Option Record) (old new : Option (List ℕ)) → ReadsRecord n old new (Ok next) → IsAtHand n next
+at_hand n None old new reads = tt
+at_hand n (Some r) old new reads = reads.1

@@ -54,13 +54,14 @@ body_at n at rounds size None bytes = None
 body_at n at rounds size (Some verdict) bytes =
     if nat_lt max_certificate size || nat_lt (length bytes) ((bit_list n).size + size) then None
     else Some (
-        record {
-          at = at;
-          rounds = rounds;
-          verdict = verdict;
-          bits = (bit_list n).value (take (bit_list n).size bytes);
-          certificate = take size (drop (bit_list n).size bytes);
-        }, drop ((bit_list n).size + size) bytes
+      record {
+        at = at;
+        rounds = rounds;
+        verdict = verdict;
+        bits = (bit_list n).value (take (bit_list n).size bytes);
+        certificate = take size (drop (bit_list n).size bytes);
+      },
+      drop ((bit_list n).size + size) bytes,
     )
 
 -- the byte of the verdict, and the body

@@ -193,7 +193,11 @@ impl<D: Decide> Stitcher<D> {
 
     /// Reads up to the next thing: a frame, a cut frame or the end. `bytes` is a buffer for the bytes that are wanted at most.
     /// `ReadFault` means that a read failed, or that the limit of symbols was reached.
-    pub fn find<R: CountedRead>(&mut self, bytes: &mut [u8], symbols: &mut R) -> Result<Next, ReadFault>
+    pub fn find<R: CountedRead>(
+        &mut self,
+        bytes: &mut [u8],
+        symbols: &mut R,
+    ) -> Result<Next, ReadFault>
         requires symbols { CanCount (R.count symbols.old) }
         requires none { self.old.follower.found ≡ None }
         requires bytes { length bytes.old ≡ 4 * room_for self.old.follower.resync (symbols_in self.old.follower.sought.mode) }

@@ -28,6 +28,8 @@ returns-in-Ok-clause-reads g c =
     let size : c.div_ceil.result ≡ (n + 7) / 8 = omega (arith, c.div_ceil.ensures) in
     let (head, byte, read, front) = subst (λ x. ReadsFront (g.R.CountedRead.remaining c.args.reader.now) (g.R.CountedRead.remaining c.read_front.new.reader) (Ok x)) c.in-Some.is c.in_ok-front.ensures.reads in
     let long : length c.in-Ok.word ≡ n = c.in-Ok.ensures.0 in
-    let bits_are = word_is n c.deref.result.now c.in-Ok.word long c.in-Ok.ensures.1 ∙ ap (bit_list n).value c.deref.ensures.value in
-    (whole n head byte c.in-Some.front front (g.R.CountedRead.remaining c.args.reader.now) (g.R.CountedRead.remaining c.read_front.new.reader) (g.R.CountedRead.remaining c.read_bytes.new.reader) (g.R.CountedRead.remaining c.read_bytes-2.new.reader)
-    c.in_ok-word.word.items c.in_ok-certificate.certificate.items c.in-Ok.word (c.in_ok-word.ensures.bytes.0 ∙ size) c.in_ok-certificate.ensures.bytes.0 bits_are read c.in_ok-word.ensures.bytes.1 c.in_ok-certificate.ensures.bytes.1, long)
+    let bits_are = word_is n c.deref.result.now c.in-Ok.word long c.in-Ok.ensures.1 ∙ ap (bit_list n).value c.deref.ensures.value in (
+      whole n head byte c.in-Some.front front (g.R.CountedRead.remaining c.args.reader.now) (g.R.CountedRead.remaining c.read_front.new.reader) (g.R.CountedRead.remaining c.read_bytes.new.reader) (g.R.CountedRead.remaining c.read_bytes-2.new.reader)
+          c.in_ok-word.word.items c.in_ok-certificate.certificate.items c.in-Ok.word (c.in_ok-word.ensures.bytes.0 ∙ size) c.in_ok-certificate.ensures.bytes.0 bits_are read c.in_ok-word.ensures.bytes.1 c.in_ok-certificate.ensures.bytes.1,
+      long,
+    )

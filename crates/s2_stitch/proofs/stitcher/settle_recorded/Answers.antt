@@ -16,8 +16,8 @@ returns-clause-settles c = λ certificate. (
     let said = says_so mid c.read-decided.new.self c.frame-2.result.now c.find_soft.new.soft inside.verdict inside.word inside.rounds c.read-decided.result c.field.result.now certificate c.read-decided.ensures.decides c.field.ensures in
     let one = c.settle.ensures.settles (decision_with mid.mode mid.number mid.options c.frame-2.result.now c.find_soft.new.soft inside.verdict inside.word certificate inside.rounds) said in
     let two : decision_with mid.mode mid.number mid.options c.frame-2.result.now c.find_soft.new.soft inside.verdict inside.word certificate inside.rounds
-        ≡ decision_with old.mode old.number old.options frame (soft_frame old.mode old.number old.options frame) inside.verdict inside.word certificate inside.rounds =
-        λ i. decision_with (same.mode i) (same.number i) (same.options i) (c.frame-2.ensures.is i) (soft_is i) inside.verdict inside.word certificate inside.rounds in
+    ≡ decision_with old.mode old.number old.options frame (soft_frame old.mode old.number old.options frame) inside.verdict inside.word certificate inside.rounds =
+    λ i. decision_with (same.mode i) (same.number i) (same.options i) (c.frame-2.ensures.is i) (soft_is i) inside.verdict inside.word certificate inside.rounds in
     let three = subst (λ d. Settles c.args.follower.now c.settle.new.self c.args.found d c.settle.result) two one in
     subst (λ (r : Record). Settles c.args.follower.now c.settle.new.self c.args.found (decision_with old.mode old.number old.options frame (soft_frame old.mode old.number old.options frame) r.verdict r.bits certificate r.rounds) c.settle.result) c.record.view_is three
     )
