@@ -1,5 +1,5 @@
 -- A record's bytes, and what is read of them.
-use Rattle.std.proofs.Common.{◌≡◌, ℕ, ◌+◌, ◌^◌, ◌<◌, ◌≤◌, ◌||◌, Bool, true, false, List, [], ◌∷◌, ◌++◌, length, take, drop, Option, Some, None, w32, w64, refl, sym, ap, ap₂, subst, ◌∙◌, arith, ltb, le-ltb, length-append, append_assoc}
+use Rattle.std.proofs.Common.{◌≡◌, ℕ, ◌+◌, ◌^◌, ◌<◌, ◌≤◌, Bool, true, false, List, [], ◌∷◌, ◌++◌, length, take, drop, Option, Some, None, w32, w64, refl, sym, ap, ap₂, subst, ◌∙◌, arith, ltb, le-ltb, length-append, append_assoc}
 use Rattle.std.proofs.lemmas.List.{take_at, drop_at, drop-drop, same_lists, get_or-map, get_or_default, drop_all, drop_more, take_more, take-append-drop}
 use Rattle.std.proofs.lemmas.Bool.{cases_Bool, ltb-false}
 use Rattle.std.proofs.lemmas.List.FromFn.{length-range_with_len, get_or-range_with_len}
@@ -19,7 +19,7 @@ use Rattle.s2_certfile.specs.Field.{IsField, both, bit_list, bytes_of_bits, numb
 use Rattle.s2_certfile.proofs.Fields.{bit_list_is, both_are}
 use Rattle.s2_check.specs.declared.verdict.Verdict.{Verdict}
 use Rattle.s2_check.specs.declared.verdict.Verdict.TheVariants.{Sole, MostLikely, Parity, Broken}
-use Rattle.s2_stitch.specs.Records.{AreAllRecords, AreRecords, IsRecord, ReadAgainLaw, Record, SameRecordsLaw, WrittenLaw, body_at, front, max_certificate, record_at, record_bytes, verdict_at, verdict_byte, verdict_of}
+use Rattle.s2_stitch.specs.Records.{AreAllRecords, AreRecords, IsRecord, ReadAgainLaw, Record, SameRecordsLaw, WrittenLaw, body_at, front, max_certificate, record_at, record_bytes, verdict_byte, verdict_of}
 
 -- ---- the front
 

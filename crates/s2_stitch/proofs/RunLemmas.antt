@@ -1,5 +1,5 @@
 -- A stitched run of a recording, step by step.
-use Rattle.std.proofs.Common.{◌≡◌, ◌≢◌, ℕ, ◌+◌, ◌*◌, ◌≤◌, ◌&&◌, Bool, true, false, nat_eq, List, [], ◌∷◌, ◌++◌, Contains, Option, Some, None, IfSome, length, take, drop, refl, sym, ap, subst, ◌∙◌, append_assoc, append-nil, arith, inl, inr}
+use Rattle.std.proofs.Common.{◌≡◌, ◌≢◌, ℕ, ◌*◌, ◌&&◌, Bool, true, false, nat_eq, List, [], ◌∷◌, ◌++◌, Contains, Option, Some, None, IfSome, length, take, drop, refl, sym, ap, subst, ◌∙◌, append_assoc, append-nil, arith, inl, inr}
 use Rattle.std.proofs.lemmas.Bool.{cases_eq, eq-eqb, eqb-true}
 use Rattle.std.proofs.lemmas.List.{drop_at, take-append-le}
 use Rattle.s2_mode.specs.Mode.{symbols_in}
@@ -14,10 +14,10 @@ use Rattle.s2_receive.specs.declared.gap.Gap.{Gap}
 use Rattle.s2_receive.specs.declared.window.Next.{Next}
 use Rattle.s2_receive.specs.declared.window.Next.TheVariants as next
 use Rattle.s2_receive.proofs.SymbolLists.{yields}
-use Rattle.s2_receive.specs.Halves.{Follower, IsRunBy, IsShown, RunsBy, Seeks, ahead, asked_of, rules_with}
+use Rattle.s2_receive.specs.Halves.{Follower, IsRunBy, IsShown, RunsBy, ahead, asked_of, rules_with}
 use Rattle.s2_receive.proofs.RunsSoFar.{run_begins, run_seeks, run_settles}
 use Rattle.s2_stitch.specs.Records.{Record}
-use Rattle.s2_stitch.specs.Stitching.{IsByRecord, IsChosen, IsDecidedSo, IsStitched, Terms, decision_by, frame_at, rules_for}
+use Rattle.s2_stitch.specs.Stitching.{IsChosen, IsDecidedSo, IsStitched, Terms, decision_by, frame_at, rules_for}
 use Rattle.s2_stitch.specs.Running.{IsBy, StitchBeginsLaw, StitchEndsLaw, StitchSeeksLaw, StitchSettlesLaw, StitchedTo}
 
 front_nil : (xs ys : List ℕ) → xs ++ ys ≡ [] → (xs ≡ []) × (ys ≡ [])

@@ -1,5 +1,5 @@
 -- A stitched run by true records.
-use Rattle.std.proofs.Common.{◌≡◌, ◌⊎◌, ℕ, List, [], ◌∷◌, Contains, refl, sym, subst, ap, ◌∙◌, inl, inr}
+use Rattle.std.proofs.Common.{◌≡◌, ℕ, List, [], ◌∷◌, Contains, sym, ap, ◌∙◌, inl, inr}
 use Rattle.s2_mode.specs.declared.symbols.Symbol.{Symbol}
 use Rattle.s2_receive.specs.Meeting.{Met, frame, cut, ended}
 use Rattle.s2_receive.specs.Receiving.{Decision, Rules, Standing, after, at_start}
@@ -7,7 +7,7 @@ use Rattle.s2_receive.specs.Halves.{RunsBy, deciding, met_behind}
 use Rattle.s2_receive.proofs.OwnRuns.{own_run}
 use Rattle.s2_stitch.specs.Laws.{StitchLaw}
 use Rattle.s2_stitch.specs.Records.{Record}
-use Rattle.s2_stitch.specs.Stitching.{IsByRecord, IsStitched, IsTrueRecord, Terms, decision_by, frame_at, rules_for}
+use Rattle.s2_stitch.specs.Stitching.{IsStitched, IsTrueRecord, Terms, decision_by, rules_for}
 
 -- a run by decisions of which more is known
 module _ (Old New : List Symbol → Decision → Type 0) (may : (symbols : List Symbol) (d : Decision) → Old symbols d → New symbols d) (rules : Rules) (recording : List Symbol) where

@@ -1,11 +1,10 @@
 -- A walk over records.
-use Rattle.std.proofs.Common.{◌≡◌, ℕ, List, [], ◌∷◌, Contains, Option, Some, None, Ok, refl, sym, ap, subst, ◌∙◌}
-use Rattle.std.specs.Io.KnownBytes.{Consumes, IsAtEnd}
+use Rattle.std.proofs.Common.{ℕ, List, [], ◌∷◌, Option, Some, None, Ok, refl, sym, ap, subst, ◌∙◌}
 use Rattle.std.proofs.lemmas.List.Elements.{Contains-append_right}
 use Rattle.s2_stitch.specs.Reading.{ReadsRecord}
 use Rattle.s2_stitch.specs.Records.{AreAllRecords, Record, record_at}
-use Rattle.s2_stitch.specs.Walking.{AreLeft, IsAtHand, WalksOn}
-use Rattle.s2_stitch.proofs.RecordLemmas.{none_left, not_read, read_left}
+use Rattle.s2_stitch.specs.Walking.{IsAtHand, WalksOn}
+use Rattle.s2_stitch.proofs.RecordLemmas.{not_read, read_left}
 
 pub walks_nowhere : (n : ℕ) (held : Option Record) (old : Option (List ℕ)) → WalksOn n held held old old
 walks_nowhere n held old = λ records are. (records, are, λ r c. c)

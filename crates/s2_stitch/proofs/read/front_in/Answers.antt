@@ -1,5 +1,4 @@
-use Rattle.std.proofs.Common.{◌≡◌, ◌<◌, rules, arith, sym, ap, subst, ◌∙◌, take, drop, length}
-use Rattle.std.specs.Int.{from_be_bytes, w32, w64}
+use Rattle.std.proofs.Common.{◌≡◌, ◌<◌, rules, subst}
 use Rattle.s2_stitch.specs.Records.{front, max_certificate}
 use Rattle.s2_stitch.proofs.RecordLemmas.{no_verdict, too_long}
 use Rattle.s2_stitch.proofs.read.front_in.Goals as goal

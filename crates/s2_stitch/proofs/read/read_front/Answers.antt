@@ -1,4 +1,4 @@
-use Rattle.std.proofs.Common.{ℕ, List, None, ◌≡◌, ◌<◌, ◌++◌, ◌∷◌, [], rules, arith, sym, ap, subst, ◌∙◌, take, get_or, length}
+use Rattle.std.proofs.Common.{ℕ, List, None, ◌≡◌, ◌++◌, ◌∷◌, rules, subst, ◌∙◌, take, get_or, length}
 use Rattle.std.specs.Io.KnownBytes.{Consumes}
 use Rattle.std.proofs.lemmas.List.{take_all}
 use Rattle.s2_stitch.specs.Reading.{IsFront}

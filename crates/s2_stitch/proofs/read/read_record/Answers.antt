@@ -1,4 +1,4 @@
-use Rattle.std.proofs.Common.{◌≡◌, ◌+◌, ◌/◌, ◌<◌, rules, arith, sym, ap, subst, ◌∙◌, length, IfSome, Ok, Some}
+use Rattle.std.proofs.Common.{◌≡◌, ◌+◌, ◌/◌, ◌<◌, rules, arith, ap, subst, ◌∙◌, length, IfSome, Ok}
 use Rattle.s2_certfile.specs.Field.{bit_list}
 use Rattle.s2_stitch.specs.Reading.{ReadsFront}
 use Rattle.s2_stitch.proofs.RecordLemmas.{cut_certificate, cut_word, whole, word_is}

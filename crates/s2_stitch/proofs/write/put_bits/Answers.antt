@@ -1,4 +1,4 @@
-use Rattle.std.proofs.Common.{◌≡◌, ◌++◌, ◌*◌, ◌+◌, ◌/◌, ◌<◌, ◌≤◌, rules, sym, ap, ◌∙◌, length, arith}
+use Rattle.std.proofs.Common.{◌++◌, ◌*◌, ◌+◌, ◌/◌, ◌<◌, ◌≤◌, rules, sym, ap, ◌∙◌, length, arith}
 use Rattle.std.proofs.lemmas.List.{take_all}
 use Rattle.s2_bits.specs.Bits.{byte_at}
 use Rattle.s2_certfile.specs.Field.{bytes_of_bits}
