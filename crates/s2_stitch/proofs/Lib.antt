@@ -4,3 +4,4 @@ pub mod StitcherLemmas
 pub mod RunLemmas
 pub mod WalkLemmas
 pub mod FindLemmas
+pub mod UncertifiedLemmas

@@ -100,3 +100,7 @@ IsChosen t found symbols (Some r) d = IsDecidedSo (is_frame_at found r.at) t fou
 -- a record has the decision of the receiver's rule on the frame at its position
 abbrev pub IsTrueRecord : Terms → (recording : List Symbol) → Record → Type 0
 IsTrueRecord t recording r = decision_by t (frame_at t recording r.at) r ≡ t.decide (frame_at t recording r.at)
+
+-- a rule without the certificates of its decisions, for records without certificates
+abbrev pub uncertified : (List Symbol → Decision) → List Symbol → Decision
+uncertified decide symbols = record (decide symbols) { certificate = None }

@@ -1,5 +1,5 @@
 //! Laws of stitching.
-ghost use Rattle.s2_stitch.specs.Laws.{StitchLaw};
+ghost use Rattle.s2_stitch.specs.Laws.{StitchLaw, UncertifiedLaw};
 ghost use Rattle.s2_stitch.specs.Records.{ReadAgainLaw, SameRecordsLaw, WrittenLaw};
 ghost use Rattle.s2_stitch.specs.Running.{StitchBeginsLaw, StitchEndsLaw, StitchSeeksLaw, StitchSettlesLaw};
 
@@ -10,9 +10,11 @@ pub fn read_again()
     ensures no_others { SameRecordsLaw }
 {}
 
-/// If each record has the decision of the receiver's rule, a stitched run is the receiver's own.
+/// If each record has the decision of the receiver's rule, a stitched run is the receiver's own. Certificates
+/// do not change lines and packets.
 pub fn stitch()
-    ensures { StitchLaw }
+    ensures own { StitchLaw }
+    ensures uncertified { UncertifiedLaw }
 {}
 
 /// A stitched run in steps, each of which finds the next thing ([`crate::Stitcher::seek`]) and handles it
