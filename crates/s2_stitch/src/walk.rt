@@ -21,7 +21,7 @@ pub fn walk_to<R: CountedRead>(
     requires count { CanCount (R.count reader.old) }
     requires bits { bits < 2 ^ 32 }
     requires held { IsAtHand bits held }
-    ensures walks { IfOk result (λ next. WalksOn bits held next (R.remaining reader.old) (R.remaining reader.new)) }
+    ensures walks { IfOk result (λ next. WalksOn bits at held next (R.remaining reader.old) (R.remaining reader.new)) }
     ensures from { IfOk result (λ next. IsFrom at next) }
     ensures held { IfOk result (λ next. IsAtHand bits next) }
     ensures counts { CountsRead (R.count reader.old) (R.count reader.new) result }
