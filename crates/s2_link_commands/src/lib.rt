@@ -14,7 +14,5 @@ mod about;
 mod link_request;
 mod opening;
 mod records;
-mod setup;
 
 pub use link_request::{LinkRequest, with_link};
-pub use setup::setup_of;

@@ -2,7 +2,6 @@
 #![tactic(auto)]
 
 mod about;
-mod opening;
 mod options;
 mod serve;
 

@@ -1,39 +1,27 @@
 //! Runs the request of the command line. This is plain code: each command has its own contract.
-ghost use Rattle.std.specs.Prelude.{◌≡◌, ◌≢◌, OnErr};
+ghost use Rattle.std.specs.Prelude.{◌≡◌, OnErr};
 ghost use Rattle.s2_mode.specs.Counts.{CanCount};
 ghost use Rattle.s2_io.specs.Screens.{CanNote};
-ghost use Rattle.s2_judging.specs.Files.{CanJudge};
 
-use crate::about::compare_record;
-use crate::opening::open_judge;
-use crate::options::{
-    channel_of, demod_options, demodulation_of, form_of, judging_of, run_options, shape_by,
-    shape_of,
-};
+use crate::options::{channel_of, demod_options, run_options};
 use s2_about::FileSums;
-use s2_audit::{Demodulation, audit_command};
 use s2_commands::{noise_command, rows_command};
-use s2_compare::compare_command;
-use s2_evidence::{check_command, check_each_command};
-use s2_io::{Console, Disk, Exit, Fault, Output, Pace, Terminal};
-use s2_judging::{JudgeFiles, judge_command, judge_each_command, self_command};
-use s2_link::LinkSetup;
-use s2_link_commands::{LinkRequest, setup_of, with_link};
-use s2_mode::{CountedRead, CountedWrite, FaultText, Mode, Shape};
+use s2_io::{Console, Disk, Exit, Fault, Pace, Terminal};
+use s2_judging::self_command;
+use s2_link_commands::{LinkRequest, with_link};
+use s2_mode::{CountedWrite, FaultText, Mode};
 use s2_names::modes_command;
-use s2_notes::{has_control, note_audit, note_cause, note_marks, shown};
+use s2_notes::{has_control, note_cause, note_marks, shown};
 use s2_opening::{
-    AuditFiles, FileOpener, Finishes, Opens, Unserved, open_audit, open_compare, open_inputs,
-    open_join, open_noise, open_scan, screen_beside, show_on, standard_input,
+    FileOpener, Finishes, Opens, Unserved, open_noise, screen_beside, show_on, standard_input,
 };
-use s2_records::join_command;
-use s2_scan::scan_command;
-use s2_table::table_command;
-use s2_tuning::Tuning;
+use s2_options::shape_of;
+use s2_serve::{
+    serve_audit, serve_check, serve_compare, serve_join, serve_judge, serve_scan, serve_table,
+};
 use s2_words::{
-    AuditArguments, CheckArguments, CodeArguments, CompareArguments, DemodArguments, JoinArguments,
-    JudgeArguments, ModesArguments, NoiseArguments, Request, RowsArguments, RunArguments,
-    ScanArguments, TableArguments, Unread, not_text, parse_arguments,
+    DemodArguments, ModesArguments, NoiseArguments, Request, RowsArguments, RunArguments, Unread,
+    not_text, parse_arguments,
 };
 use std::alloc::{AllocError, Global};
 use std::env::FillError;
@@ -290,17 +278,6 @@ fn serve_own<R: Disk + AllocGlobal, O: CountedWrite, E: CountedWrite>(
     Ok(self_command(alloc, &mut input, console))
 }
 
-/// Why there is no such code.
-fn no_code<'a>(code: CodeArguments) -> Unserved<'a> {
-    match code {
-        CodeArguments::Shape(_) => Unserved::NoShape,
-        CodeArguments::Mode {
-            modcod: _,
-            short: _,
-        } => Unserved::NoMode,
-    }
-}
-
 /// `demod`.
 fn serve_demod<'a, P: Opens<'a>, R: Disk + Clock + AllocGlobal, O: CountedWrite, E: CountedWrite>(
     opener: &mut P,
@@ -369,121 +346,6 @@ fn serve_rows<O: CountedWrite, E: CountedWrite>(
     Ok(rows_command(alloc, shape, weight, words.seed, console))
 }
 
-/// `table`.
-fn serve_table<'a, P: Opens<'a>, O: CountedWrite, E: CountedWrite>(
-    opener: &mut P,
-    alloc: Global,
-    words: &TableArguments<'a>,
-    console: &mut Console<O, E>,
-) -> Result<Exit, Unserved<'a>>
-    requires opener { P.opened opener.old ≡ 0 }
-    requires console { CanNote console.old }
-    ensures { OnErr result (CanCount console.new.errors_failed) }
-{
-    let mode = Mode::of(words.modcod, words.short, false).ok_or(Unserved::NoMode)?;
-    let mut rows = opener.read(words.rows)?;
-    Ok(table_command(alloc, &mode, words.quiet, &mut rows, console))
-}
-
-/// Runs `judge` on its files.
-fn judge_files<R: CountedRead, C: Output, O: CountedWrite, E: CountedWrite>(
-    alloc: Global,
-    shape: Shape,
-    tuning: Tuning,
-    words: &JudgeArguments<'_>,
-    files: &mut JudgeFiles<R, C>,
-    console: &mut Console<O, E>,
-) -> Exit
-    requires files { CanJudge files.old }
-    requires console { CanNote console.old }
-{
-    let (hard, quiet) = (words.hard, words.quiet);
-    if words.each {
-        judge_each_command(alloc, shape, hard, quiet, tuning, files, console)
-    } else {
-        judge_command(alloc, shape, hard, quiet, tuning, files, console)
-    }
-}
-
-/// `judge`. The certificate's file is opened before the others.
-fn serve_judge<'a, P: Opens<'a>, O: CountedWrite, E: CountedWrite>(
-    opener: &mut P,
-    alloc: Global,
-    words: &JudgeArguments<'a>,
-    console: &mut Console<O, E>,
-) -> Result<Exit, Unserved<'a>>
-    requires opener { P.opened opener.old ≡ 0 }
-    requires console { CanNote console.old }
-    ensures { OnErr result (CanCount console.new.errors_failed) }
-{
-    let shape = shape_by(words.code).ok_or(no_code(words.code))?;
-    let tuning = judging_of(words).ok_or(Unserved::OutOfRange)?;
-    let mut files = open_judge(opener, words)?;
-    Ok(judge_files(alloc, shape, tuning, words, &mut files, console))
-}
-
-/// Runs `check` on its files.
-fn check_files<R: CountedRead, O: CountedWrite, E: CountedWrite>(
-    alloc: Global,
-    each: bool,
-    rows: &mut R,
-    certificate: &mut R,
-    console: &mut Console<O, E>,
-) -> Exit
-    requires rows { CanCount (R.count rows.old) }
-    requires certificate { CanCount (R.count certificate.old) }
-    requires console { CanNote console.old }
-{
-    if each {
-        check_each_command(alloc, rows, certificate, console)
-    } else {
-        check_command(alloc, rows, certificate, console)
-    }
-}
-
-/// `check`.
-fn serve_check<'a, P: Opens<'a>, O: CountedWrite, E: CountedWrite>(
-    opener: &mut P,
-    alloc: Global,
-    words: &CheckArguments<'a>,
-    console: &mut Console<O, E>,
-) -> Result<Exit, Unserved<'a>>
-    requires opener { P.opened opener.old ≡ 0 }
-    requires console { CanNote console.old }
-    ensures { OnErr result (CanCount console.new.errors_failed) }
-{
-    let (mut rows, mut certificate) = open_inputs(opener, words.rows, words.certificate)?;
-    Ok(check_files(alloc, words.each, &mut rows, &mut certificate, console))
-}
-
-/// `compare`.
-fn serve_compare<'a, P: Opens<'a>, O: CountedWrite, E: CountedWrite>(
-    opener: &mut P,
-    alloc: Global,
-    words: &CompareArguments<'a>,
-    console: &mut Console<O, E>,
-) -> Result<Exit, Unserved<'a>>
-    requires opener { P.opened opener.old ≡ 0 }
-    requires console { CanNote console.old }
-    ensures { OnErr result (CanCount console.new.errors_failed) }
-{
-    let form = form_of(words).ok_or(no_code(words.code))?;
-    let (mut rows, mut certificates, mut device) = open_compare(
-        opener,
-        words.rows,
-        words.certificates,
-        words.words,
-    )?;
-    Ok(compare_command(
-        alloc,
-        form,
-        &mut rows,
-        &mut certificates,
-        &mut device,
-        console,
-    ))
-}
-
 /// `noise`. The rest of the buffer is written before the command has ended well; after a failed write nothing
 /// more is.
 fn serve_noise<'a, P: Opens<'a>, R: Disk + Clock + AllocGlobal, O: CountedWrite, E: CountedWrite>(
@@ -503,112 +365,6 @@ fn serve_noise<'a, P: Opens<'a>, R: Disk + Clock + AllocGlobal, O: CountedWrite,
     show.finish();
     match to.into_inner().into_inner().finish() {
         Err(_) if exit == Exit::Fine => Err(Unserved::Write),
-        _ => Ok(exit),
-    }
-}
-
-/// `scan`.
-fn serve_scan<'a, P: Opens<'a>, R: Disk + Clock + AllocGlobal, O: CountedWrite, E: CountedWrite>(
-    opener: &mut P,
-    terminal: &Terminal<'_, R>,
-    words: &ScanArguments<'a>,
-    console: &mut Console<O, E>,
-) -> Result<Exit, Unserved<'a>>
-    requires opener { P.opened opener.old ≡ 0 }
-    requires console { CanNote console.old }
-    ensures { OnErr result (CanCount console.new.errors_failed) }
-{
-    let show = show_on(terminal, Pace::Scanning, words.progress);
-    let mut symbols = open_scan(opener, &show, words)?;
-    let exit = scan_command(
-        terminal.host().alloc(),
-        words.symbols,
-        &mut symbols,
-        console,
-    );
-    show.finish();
-    Ok(exit)
-}
-
-/// `join`.
-fn serve_join<'a, P: Opens<'a>, O: CountedWrite, E: CountedWrite>(
-    opener: &mut P,
-    alloc: Global,
-    words: &JoinArguments<'a>,
-    console: &mut Console<O, E>,
-) -> Result<Exit, Unserved<'a>>
-    requires opener { P.opened opener.old ≡ 0 }
-    requires console { CanNote console.old }
-    ensures { OnErr result (CanCount console.new.errors_failed) }
-{
-    let mode = Mode::of(words.modcod, words.short, false).ok_or(Unserved::NoMode)?;
-    let (mut bbframes, mut packets) = open_join(opener, words)?;
-    Ok(join_command(alloc, mode, &mut bbframes, &mut packets, console))
-}
-
-/// Runs `audit` on its files.
-fn audit_files<R: CountedRead, O: CountedWrite, E: CountedWrite>(
-    alloc: Global,
-    setup: LinkSetup,
-    how: Demodulation,
-    files: &mut AuditFiles<'_, R>,
-    console: &mut Console<O, E>,
-) -> Exit
-    requires rows { (R.count files.old.rows.inner ≡ 0) × (R.count files.old.symbols.inner ≡ 0) }
-    requires report { (R.count files.old.report.inner ≡ 0) × (R.count files.old.certificates.inner ≡ 0) }
-    requires console { CanNote console.old }
-    ensures { result ≢ Exit.Fault → CanNote console.new }
-{
-    audit_command(
-        alloc,
-        setup,
-        how,
-        &mut files.rows,
-        &mut files.symbols,
-        &mut files.report,
-        &mut files.certificates,
-        console,
-    )
-}
-
-/// Compares the record of `--about` with an audit that ended with this exit.
-fn compare_about<R: CountedRead, O: CountedWrite, E: CountedWrite>(
-    alloc: Global,
-    words: &AuditArguments<'_>,
-    how: &Demodulation,
-    files: &mut AuditFiles<'_, R>,
-    sums: &FileSums,
-    exit: Exit,
-    console: &mut Console<O, E>,
-) -> Exit
-    requires { CanNote console.old }
-{
-    let ended = compare_record(alloc, words, how, files, sums, exit, &mut console.output);
-    console.finish(ended)
-}
-
-/// `audit`. If it is refused, a note names the likely causes. Then the record of `--about` is compared, if one is given.
-fn serve_audit<'a, P: Opens<'a>, R: Disk + AllocGlobal, O: CountedWrite, E: CountedWrite>(
-    opener: &mut P,
-    terminal: &Terminal<'_, R>,
-    words: &AuditArguments<'a>,
-    sums: Option<&FileSums>,
-    console: &mut Console<O, E>,
-) -> Result<Exit, Unserved<'a>>
-    requires opener { P.opened opener.old ≡ 0 }
-    requires console { CanNote console.old }
-    ensures { OnErr result (CanCount console.new.errors_failed) }
-{
-    let setup = setup_of(words.link).ok_or(Unserved::NoMode)?;
-    let how = demodulation_of(&setup.mode, words).ok_or(Unserved::OutOfRange)?;
-    let mut files = open_audit(opener, words, sums)?;
-    let alloc = terminal.host().alloc();
-    let exit = audit_files(alloc, setup, how, &mut files, console);
-    note_audit(terminal, exit);
-    match sums {
-        Some(sums) if exit != Exit::Fault => {
-            Ok(compare_about(alloc, words, &how, &mut files, sums, exit, console))
-        }
         _ => Ok(exit),
     }
 }

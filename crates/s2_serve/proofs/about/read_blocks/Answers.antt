@@ -1,5 +1,5 @@
 use Rattle.std.proofs.Common.{rules}
-use Rattle.s2_tool.proofs.about.read_blocks.Goals as goal
+use Rattle.s2_serve.proofs.about.read_blocks.Goals as goal
 
 pub blocks-2-init : goal.blocks-2-init
 blocks-2-init g c = record { reads = search rules }

@@ -1,5 +1,5 @@
 use Rattle.std.proofs.Common.{◌≡◌}
-use Rattle.s2_tool.proofs.about.read_blocks.Given as goal
+use Rattle.s2_serve.proofs.about.read_blocks.Given as goal
 
 -- no read failed
 abbrev pub invariant-blocks-2 : goal.invariant-blocks-2

@@ -1,0 +1,42 @@
+//! The options of these commands in their types.
+use s2_audit::Demodulation;
+use s2_compare::Form;
+use s2_mode::{Mode, Shape};
+use s2_options::{number_of, shape_of};
+use s2_tuning::{Tuning, divisor_by, judging_by};
+use s2_words::{AuditArguments, CodeArguments, CompareArguments, JudgeArguments, WordsArguments};
+
+/// How a report on a mode was made.
+pub(crate) fn demodulation_of(mode: &Mode, words: &AuditArguments<'_>) -> Option<Demodulation> {
+    Some(Demodulation {
+        divisor: divisor_by(mode, words.tuned, number_of(words.divisor))?,
+        turns: words.turns || words.tuned,
+        equalize: words.equalize,
+        resync: words.resync || words.tuned,
+    })
+}
+
+/// The tuning of `judge`.
+pub(crate) fn judging_of(words: &JudgeArguments<'_>) -> Option<Tuning> {
+    judging_by(words.passes, words.factor, words.uncertified)
+}
+
+/// The shape of the code of `judge` and of `compare`.
+pub(crate) fn shape_by(code: CodeArguments) -> Option<Shape> {
+    match code {
+        CodeArguments::Shape(words) => shape_of(words),
+        CodeArguments::Mode { modcod, short } => Some(Mode::of(modcod, short, false)?.shape()),
+    }
+}
+
+/// The form of the words of `compare`, with their code. BBFRAMEs have a mode.
+pub(crate) fn form_of(words: &CompareArguments<'_>) -> Option<Form> {
+    match (words.form, words.code) {
+        (WordsArguments::Bytes, code) => Some(Form::Bytes(shape_by(code)?)),
+        (WordsArguments::Digits, code) => Some(Form::Digits(shape_by(code)?)),
+        (WordsArguments::Bbframes, CodeArguments::Mode { modcod, short }) => {
+            Some(Form::Bbframes(Mode::of(modcod, short, false)?))
+        }
+        (WordsArguments::Bbframes, CodeArguments::Shape(_)) => None,
+    }
+}
