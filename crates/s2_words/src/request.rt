@@ -285,16 +285,21 @@ pub struct JoinArguments<'a> {
     pub packets: &'a str,
 }
 
-/// `audit`: a link, the divisor of the soft values, whether the report was made with the best settings, whether frames were
-/// rotated back and equalized, and the files.
+/// `audit`: a link, the divisor of the soft values, the limit of wrong header bits, and whether the report was made with the
+/// best settings. Also whether frames were rotated back and equalized, whether lost frames were searched again, whether the
+/// report has figures, and the files.
 #[derive(Clone, Copy)]
 pub struct AuditArguments<'a> {
     pub link: LinkArguments,
     pub divisor: NumberArguments,
+    pub max_header_errors: NumberArguments,
     pub tuned: bool,
     pub turns: bool,
     pub equalize: bool,
     pub resync: bool,
+    pub figures: bool,
+    pub codewords: Option<&'a str>,
+    pub packets: Option<&'a str>,
     pub about: Option<&'a str>,
     pub rows: &'a str,
     pub symbols: &'a str,
