@@ -1,4 +1,5 @@
 //! The options of a command as lines of a record. The keys are the names of the options.
+use s2_plframe::HeaderTolerance;
 use s2_soft::Divisor;
 use s2_tuning::Tuning;
 use s2_words::{ExitBy, LinkArguments, NoteArguments};
@@ -70,9 +71,8 @@ pub fn demodulation_fields(
     ]
 }
 
-/// The other options of a receiver.
-pub fn decoding_fields(tuning: &Tuning) -> [Field; 6] {
-    let lock = tuning.max_header_errors();
+/// How a receiver decides.
+pub fn decoding_fields(tuning: &Tuning) -> [Field; 4] {
     [
         Field {
             key: "factor",
@@ -90,13 +90,20 @@ pub fn decoding_fields(tuning: &Tuning) -> [Field; 6] {
             key: "uncertified",
             value: Value::Flag(tuning.is_uncertified()),
         },
+    ]
+}
+
+/// The limit of wrong header bits right after a frame, and whether there are figures of each frame. An audit needs to know
+/// these too.
+pub fn frame_fields(max_header_errors: HeaderTolerance, figures: bool) -> [Field; 2] {
+    [
         Field {
             key: "lock",
-            value: Value::Number(u64::from(lock.get())),
+            value: Value::Number(u64::from(max_header_errors.get())),
         },
         Field {
             key: "figures",
-            value: Value::Flag(tuning.has_figures()),
+            value: Value::Flag(figures),
         },
     ]
 }

@@ -22,7 +22,9 @@ mod hashed;
 mod text;
 
 pub use difference::{Difference, first_difference};
-pub use fields::{Field, Value, decoding_fields, demodulation_fields, link_fields, report_fields};
+pub use fields::{
+    Field, Value, decoding_fields, demodulation_fields, frame_fields, link_fields, report_fields,
+};
 pub use file_sum::FileSum;
 pub use hashed::{FileSums, Hashed, SharedSum};
 pub use text::{begin_record, end_record, push_fields, push_sum};

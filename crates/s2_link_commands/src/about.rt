@@ -5,7 +5,7 @@ ghost use Rattle.s2_receive.specs.Sinks.{wanted_count};
 use crate::link_request::LinkRequest;
 use s2_about::{
     Field, FileSums, Value, begin_record, decoding_fields, demodulation_fields, end_record,
-    link_fields, push_fields, push_sum, report_fields,
+    frame_fields, link_fields, push_fields, push_sum, report_fields,
 };
 use s2_io::{Exit, Output, Truncating};
 use s2_mode::{WriteFault, write_full};
@@ -41,7 +41,9 @@ fn push_receiver(
     let found = demodulation_fields(tuning.divisor(), turns, resync, tuning.has_equalizer());
     push_fields(text, link_fields(link).as_slice())?;
     push_fields(text, found.as_slice())?;
-    push_fields(text, decoding_fields(tuning).as_slice())
+    push_fields(text, decoding_fields(tuning).as_slice())?;
+    let frames = frame_fields(tuning.max_header_errors(), tuning.has_figures());
+    push_fields(text, frames.as_slice())
 }
 
 /// The options of a transmitter: the roll-off, the frames between dummy frames, and whether wrong sync bytes are passed over.

@@ -1,8 +1,8 @@
 //! Opens the files of a command in the order of the command line.
-ghost use Rattle.std.specs.Prelude.{◌≡◌, ◌<◌, false, IfOk};
+ghost use Rattle.std.specs.Prelude.{◌≡◌, ◌+◌, ◌<◌, ◌≤◌, false, IfOk, IfSome, OnOk};
 
 use crate::opens::{Opens, Unserved};
-use s2_about::{FileSums, Hashed};
+use s2_about::{FileSums, Hashed, SharedSum};
 use s2_io::{Destination, Meter, Watched};
 use s2_scan::Beginning;
 use s2_words::{AuditArguments, JoinArguments, NoiseArguments, ScanArguments};
@@ -37,13 +37,16 @@ pub fn open_compare<'a, P: Opens<'a>>(
     Ok((rows, certificates, words))
 }
 
-/// The opened files of `audit`: its rows, symbols, report and certificates, and its record, if one is given.
+/// The opened files of `audit`: its rows, symbols, report and certificates. Then its codewords, its packets and its record,
+/// each if it is given.
 pub struct AuditFiles<'h, I> {
     pub rows: Hashed<'h, I>,
     pub symbols: Hashed<'h, I>,
     pub report: Hashed<'h, I>,
     pub certificates: Hashed<'h, I>,
-    pub about: Option<I>,
+    pub codewords: Option<Hashed<'h, I>>,
+    pub packets: Option<Hashed<'h, I>>,
+    pub about: Option<Hashed<'h, I>>,
 }
 
 impl<I: Drop> Drop for AuditFiles<'_, I> {
@@ -53,25 +56,31 @@ impl<I: Drop> Drop for AuditFiles<'_, I> {
             symbols: _,
             report: _,
             certificates: _,
+            codewords: _,
+            packets: _,
             about: _,
         } = self;
     }
 }
 
-/// Opens a file that is read, if a name is given.
-fn read_named<'a, P: Opens<'a>>(
+/// Opens a file that is read, with a buffer, if a name is given. It is hashed if there is a sum.
+fn read_named<'a, 'h, P: Opens<'a>>(
     opener: &mut P,
     name: Option<&'a str>,
-) -> Result<Option<P::Input>, Unserved<'a>>
-    requires { P.opened opener.old < 8 }
+    sum: Option<&'h SharedSum>,
+) -> Result<Option<Hashed<'h, P::Input>>, Unserved<'a>>
+    requires room { P.opened opener.old < 8 }
+    ensures count { OnOk result (P.opened opener.new ≤ P.opened opener.old + 1) }
+    ensures fresh { IfOk result (λ made. IfSome made (λ file. P.Input.count file.inner ≡ 0)) }
 {
     match name {
-        Some(name) => Ok(Some(opener.read(name)?)),
+        Some(name) => Ok(Some(Hashed::new(opener.read_buffered(name)?, sum))),
         None => Ok(None),
     }
 }
 
-/// Opens the files of `audit`. Report and certificates have a buffer. If there are sums, the others are hashed.
+/// Opens the files of `audit`. All but rows and symbols have a buffer. If there are sums, rows, symbols, report and packets are
+/// hashed.
 pub fn open_audit<'a, 'h, P: Opens<'a>>(
     opener: &mut P,
     words: &AuditArguments<'a>,
@@ -80,17 +89,23 @@ pub fn open_audit<'a, 'h, P: Opens<'a>>(
     requires { P.opened opener.old ≡ 0 }
     ensures rows { IfOk result (λ files. (P.Input.count files.rows.inner ≡ 0) × (P.Input.count files.symbols.inner ≡ 0)) }
     ensures report { IfOk result (λ files. (P.Input.count files.report.inner ≡ 0) × (P.Input.count files.certificates.inner ≡ 0)) }
+    ensures codewords { IfOk result (λ files. IfSome files.codewords (λ file. P.Input.count file.inner ≡ 0)) }
+    ensures packets { IfOk result (λ files. IfSome files.packets (λ file. P.Input.count file.inner ≡ 0)) }
 {
     let rows = opener.read(words.rows)?;
     let symbols = opener.read(words.symbols)?;
     let report = opener.read_buffered(words.report)?;
     let certificates = opener.read_buffered(words.certificates)?;
-    let about = read_named(opener, words.about)?;
+    let codewords = read_named(opener, words.codewords, None)?;
+    let packets = read_named(opener, words.packets, FileSums::to_of(sums))?;
+    let about = read_named(opener, words.about, None)?;
     Ok(AuditFiles {
         rows: Hashed::new(rows, FileSums::rows_of(sums)),
         symbols: Hashed::new(symbols, FileSums::from_of(sums)),
         report: Hashed::new(report, FileSums::report_of(sums)),
         certificates: Hashed::new(certificates, None),
+        codewords,
+        packets,
         about,
     })
 }

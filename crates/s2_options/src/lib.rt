@@ -16,4 +16,4 @@ mod setup;
 mod tuning;
 
 pub use setup::{setup_of, shape_of};
-pub use tuning::{number_of, tuning_of};
+pub use tuning::{audited_tuning, tuning_of};

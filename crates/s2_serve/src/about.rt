@@ -3,9 +3,10 @@ ghost use Rattle.std.specs.Prelude.{◌≡◌, false};
 ghost use Rattle.s2_mode.specs.Counts.{CanCount};
 
 use s2_about::{
-    Difference, FileSums, demodulation_fields, first_difference, link_fields, push_fields, push_sum,
+    Difference, FileSums, demodulation_fields, first_difference, frame_fields, link_fields,
+    push_fields, push_sum,
 };
-use s2_audit::Demodulation;
+use s2_audit::How;
 use s2_io::{Exit, Fault, print};
 use s2_mode::{CountedRead, CountedWrite, FileFault, ReadFault, read_all, read_full};
 use s2_opening::AuditFiles;
@@ -67,19 +68,26 @@ fn read_named_record<R: CountedRead>(
     }
 }
 
-/// The lines that an audit expects of a record: the mode, the options that it shares with a receiver, and the files.
+/// The lines that an audit expects of a record: the mode, the options that it shares with a receiver, and the files that the record
+/// has too.
 fn audit_lines(
     alloc: Global,
     words: &AuditArguments<'_>,
-    how: &Demodulation,
+    how: &How,
     sums: &FileSums,
 ) -> Result<String, AllocError> {
     let mut text = String::new(alloc);
-    let found = demodulation_fields(how.divisor, how.turns, how.resync, how.equalize);
+    let options = how.options;
+    let found = demodulation_fields(options.divisor, options.turns, how.resync, options.equalize);
     push_fields(&mut text, link_fields(words.link).as_slice())?;
     push_fields(&mut text, found.as_slice())?;
+    let frames = frame_fields(how.max_header_errors, options.figures);
+    push_fields(&mut text, frames.as_slice())?;
     push_sum(alloc, &mut text, "rows", sums.rows.take())?;
     push_sum(alloc, &mut text, "symbols", sums.from.take())?;
+    if words.packets.is_some() {
+        push_sum(alloc, &mut text, "packets", sums.to.take())?;
+    }
     push_sum(alloc, &mut text, "report", sums.report.take())?;
     Ok(text)
 }
@@ -98,7 +106,7 @@ fn difference_line(alloc: Global, difference: Difference<'_>) -> Result<String, 
 fn differing_line(
     alloc: Global,
     words: &AuditArguments<'_>,
-    how: &Demodulation,
+    how: &How,
     sums: &FileSums,
     record: &[u8],
 ) -> Result<String, AllocError> {
@@ -114,7 +122,7 @@ fn differing_line(
 fn print_difference<O: CountedWrite>(
     alloc: Global,
     words: &AuditArguments<'_>,
-    how: &Demodulation,
+    how: &How,
     sums: &FileSums,
     record: &[u8],
     exit: Exit,
@@ -131,10 +139,19 @@ fn print_difference<O: CountedWrite>(
     print(out, Exit::No, line.as_str().as_bytes())
 }
 
-/// Reads the rest of the recording and of the report.
+/// Reads the rest of a file, if it is given.
+fn read_named_rest<R: CountedRead>(reader: &mut Option<R>) -> Result<(), ReadFault> {
+    match reader {
+        Some(reader) => read_rest(reader),
+        None => Ok(()),
+    }
+}
+
+/// Reads the rest of the recording, the report and the packets.
 fn read_rests<R: CountedRead>(files: &mut AuditFiles<'_, R>) -> Result<(), ReadFault> {
     read_rest(&mut files.symbols)?;
-    read_rest(&mut files.report)
+    read_rest(&mut files.report)?;
+    read_named_rest(&mut files.packets)
 }
 
 /// Reads the rest of the files of an audit that ended with this exit, and its record. Prints the first line of the record
@@ -142,7 +159,7 @@ fn read_rests<R: CountedRead>(files: &mut AuditFiles<'_, R>) -> Result<(), ReadF
 pub(crate) fn compare_record<R: CountedRead, O: CountedWrite>(
     alloc: Global,
     words: &AuditArguments<'_>,
-    how: &Demodulation,
+    how: &How,
     files: &mut AuditFiles<'_, R>,
     sums: &FileSums,
     exit: Exit,

@@ -1,12 +1,12 @@
 //! `audit` on its files.
-ghost use Rattle.std.specs.Prelude.{◌≡◌, ◌≢◌, OnErr};
+ghost use Rattle.std.specs.Prelude.{◌≡◌, ◌≢◌, IfSome, OnErr};
 ghost use Rattle.s2_mode.specs.Counts.{CanCount};
 ghost use Rattle.s2_io.specs.Screens.{CanNote};
 
 use crate::about::compare_record;
-use crate::options::demodulation_of;
+use crate::options::how_of;
 use s2_about::FileSums;
-use s2_audit::{Demodulation, audit_command};
+use s2_audit::{How, audit_command};
 use s2_io::{Console, Disk, Exit, Terminal};
 use s2_link::LinkSetup;
 use s2_mode::{CountedRead, CountedWrite};
@@ -20,12 +20,14 @@ use std::alloc::Global;
 fn audit_files<R: CountedRead, O: CountedWrite, E: CountedWrite>(
     alloc: Global,
     setup: LinkSetup,
-    how: Demodulation,
+    how: How,
     files: &mut AuditFiles<'_, R>,
     console: &mut Console<O, E>,
 ) -> Exit
     requires rows { (R.count files.old.rows.inner ≡ 0) × (R.count files.old.symbols.inner ≡ 0) }
     requires report { (R.count files.old.report.inner ≡ 0) × (R.count files.old.certificates.inner ≡ 0) }
+    requires codewords { IfSome files.old.codewords (λ file. R.count file.inner ≡ 0) }
+    requires packets { IfSome files.old.packets (λ file. R.count file.inner ≡ 0) }
     requires console { CanNote console.old }
     ensures { result ≢ Exit.Fault → CanNote console.new }
 {
@@ -37,6 +39,8 @@ fn audit_files<R: CountedRead, O: CountedWrite, E: CountedWrite>(
         &mut files.symbols,
         &mut files.report,
         &mut files.certificates,
+        &mut files.codewords,
+        &mut files.packets,
         console,
     )
 }
@@ -45,7 +49,7 @@ fn audit_files<R: CountedRead, O: CountedWrite, E: CountedWrite>(
 fn compare_about<R: CountedRead, O: CountedWrite, E: CountedWrite>(
     alloc: Global,
     words: &AuditArguments<'_>,
-    how: &Demodulation,
+    how: &How,
     files: &mut AuditFiles<'_, R>,
     sums: &FileSums,
     exit: Exit,
@@ -70,7 +74,7 @@ pub fn serve_audit<'a, P: Opens<'a>, R: Disk + AllocGlobal, O: CountedWrite, E: 
     ensures { OnErr result (CanCount console.new.errors_failed) }
 {
     let setup = setup_of(words.link).ok_or(Unserved::NoMode)?;
-    let how = demodulation_of(&setup.mode, words).ok_or(Unserved::OutOfRange)?;
+    let how = how_of(&setup.mode, words).ok_or(Unserved::OutOfRange)?;
     let mut files = open_audit(opener, words, sums)?;
     let alloc = terminal.host().alloc();
     let exit = audit_files(alloc, setup, how, &mut files, console);

@@ -1,18 +1,25 @@
 //! The options of these commands in their types.
-use s2_audit::Demodulation;
+use s2_audit::How;
 use s2_compare::Form;
+use s2_message::FrameOptions;
 use s2_mode::{Mode, Shape};
-use s2_options::{number_of, shape_of};
-use s2_tuning::{Tuning, divisor_by, judging_by};
+use s2_options::{audited_tuning, shape_of};
+use s2_tuning::{Tuning, judging_by};
 use s2_words::{AuditArguments, CodeArguments, CompareArguments, JudgeArguments, WordsArguments};
 
 /// How a report on a mode was made.
-pub(crate) fn demodulation_of(mode: &Mode, words: &AuditArguments<'_>) -> Option<Demodulation> {
-    Some(Demodulation {
-        divisor: divisor_by(mode, words.tuned, number_of(words.divisor))?,
-        turns: words.turns || words.tuned,
-        equalize: words.equalize,
-        resync: words.resync || words.tuned,
+pub(crate) fn how_of(mode: &Mode, words: &AuditArguments<'_>) -> Option<How> {
+    let tuning = audited_tuning(mode, words)?;
+    let options = FrameOptions {
+        divisor: tuning.divisor(),
+        turns: tuning.has_turns(),
+        equalize: tuning.has_equalizer(),
+        figures: tuning.has_figures(),
+    };
+    Some(How {
+        options,
+        max_header_errors: tuning.max_header_errors(),
+        resync: tuning.has_resync(),
     })
 }
 
