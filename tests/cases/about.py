@@ -117,9 +117,9 @@ def audit_cases(two, made):
     options = MODE | FOUND | DECODING | REPORTING
     own = about("demod", options, {"rows": made, "symbols": two, "packets": 2 * PACKET, "report": TWO.encode()})
 
-    def case(record, code=0, line="", words="", symbols=two, **more):
-        reads = {"symbols": symbols, "report": TWO.encode(), "certificates": certificates, "record": record}
-        return Case(f"audit {LINK} {words} --about record made symbols report certificates", code, fine + line, reads=reads, **more)
+    def case(record, code=0, line="", words="", symbols=two, more=(), errors=""):
+        reads = {"symbols": symbols, "report": TWO.encode(), "certificates": certificates, "record": record} | dict(more)
+        return Case(f"audit {LINK} {words} --about record made symbols report certificates", code, fine + line, errors, reads=reads)
 
     def differs(key, record, **more):
         place = 2 + [*own].index(key)
@@ -128,7 +128,8 @@ def audit_cases(two, made):
     yield case(text(own))
     # options that an audit does not have may be any
     yield case(text(own | {"rounds": 7, "version": "0.2", "packets_bytes": 1}))
-    for key, value in ({"modcod": 2, "short": False, "pilots": True, "number": 1, "divisor": 8192, "turns": True, "resync": True, "equalize": True}).items():
+    others = {"modcod": 2, "short": False, "pilots": True, "number": 1, "divisor": 8192, "turns": True, "resync": True, "equalize": True, "lock": 13, "figures": True}
+    for key, value in others.items():
         yield differs(key, own | {key: value})
     for name in ("rows", "symbols", "report"):
         for key, value in sums({name: b"other"}).items():
@@ -141,6 +142,14 @@ def audit_cases(two, made):
     yield case(text(own | sums({"symbols": two + bytes(4)})), symbols=two + bytes(4))
     # the record of another audit's options
     yield case(text(own | {"turns": True}), words="--turns")
+    yield case(text(own | {"lock": 40}), words="--lock 40")
+    # packets that are compared with the record too; the bits of frames are not in it
+    both = {"packets": 2 * PACKET, "bits": records.records(two)["--codewords"]}
+    words = "--codewords bits --packets packets"
+    yield case(text(own), words=words, more=both)
+    for key, value in sums({"packets": b"other"}).items():
+        yield differs(key, own | {key: value}, words=words, more=both)
+        yield case(text({it: value for it, value in own.items() if it != key}), NO, f"about has no {key}\n", words, more=both)
     # other texts
     for record in (b"", b"{}\n", b"\xff\n", b"[" * 65536):
         yield case(record, NO, "about has no modcod\n")

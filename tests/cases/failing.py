@@ -97,6 +97,7 @@ def failing(two):
     shown = audit.shown(TWO, audit.apart(written["--certificates"]))
     audited, checked = in_steps(shown), in_steps([" ".join(line.split()[4:]) + "\n" for line in shown])
     check, auditing = "check --each made certificates", f"audit {LINK} made two report certificates"
+    whole = auditing.replace(LINK, f"{LINK} --codewords codewords --packets packets")
     cases = [
         ("scan two", "two", READ, NOTHING),
         ("scan two", "printed", WRITE, NOTHING),
@@ -113,6 +114,9 @@ def failing(two):
         (auditing, "report", READ, audited[::2]),
         (auditing, "certificates", READ, audited),
         (auditing, "printed", WRITE, audited),
+        # the bits of both frames, and their packets, are in their buffers by the first read
+        (whole, "codewords", READ, audited[::2]),
+        (whole, "packets", READ, audited[::2]),
     ]
     sizes = {option: len(text) for option, text in records.records(two[: 4 * records.FRAME]).items()}
     words = f"demod {LINK} {{}} out made two received"

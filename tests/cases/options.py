@@ -5,7 +5,7 @@ from dataclasses import dataclass, field
 
 from cases import about, audit, comparing, equalized, figured, links, listing, progress, records, rotations, slips
 from cases.common import (
-    ANY, FINE, LINK, NO, PACKET, PAIR, SLIPPED, STORED, STORED_CERTIFICATE, STORED_MOVED, TOY, TWO, UNDECODED, WANTED, Case, Rule, digest, ending, noted,
+    ANY, FINE, LINK, NO, ONE, PACKET, PAIR, SLIPPED, STORED, STORED_CERTIFICATE, STORED_MOVED, TOY, TWO, UNDECODED, WANTED, Case, Rule, digest, ending, noted,
 )  # fmt: skip
 from cases.drawn import gaussian, made_rows, spoilt
 from cases.judging import HARD_NOTE, LEFT
@@ -168,13 +168,15 @@ def audit_effects(two, made):
     """Two frames and their certificates."""
     costs = [sum(value for value in soft if value < 0) for soft, _ in records.decided(two)]
     lines = "".join(f"frame {at + 1} at {8190 * at} sole cost {cost}\n" for at, cost in enumerate(costs))
-    fine, other = ended(f"{lines}audit frames 2 sole 2 most-likely 0\n"), ended("frame 1 at 0 other values\n", NO, noted(audit.HINT))
+    fine, other = ended(f"{lines}audit frames 2 sole 2 most-likely 0 unchecked 0\n"), ended("frame 1 at 0 other values\n", NO, noted(audit.HINT))
+    none, first = "report line 1: expected end frames 0 delivered 0 packets 0 bad 0\n", lines[: lines.index("\n") + 1]
+    unfound, alone = (ended(text, NO, noted(audit.HINT)) for text in (none, f"{first}report line 2: expected end frames 1 delivered 1 packets 1 bad 0\n"))
     few, large = ({"code": 1, "out": "", "errors": ending(f"s2: {text}\n"), "writes": {}} for text in (TOO_FEW, OTHER_SHORT[0]))
     reads = {"reads": {"in": two, "report": TWO.encode(), "certificates": records.records(two)["--certificates"]}}
     files = "made in report certificates"
     yield Effect("--modcod", f"audit {{}} --short {files}", each("--modcod", (1, "qpsk1/4", 2), (fine, fine, large)), reads)
     yield Effect("--short", f"audit --modcod 1 {{}} {files}", {"": few, "--short": fine}, reads)
-    yield Effect("--pilots", f"audit {LINK} {{}} {files}", {"": fine, "--pilots": other}, reads)
+    yield Effect("--pilots", f"audit {LINK} {{}} {files}", {"": fine, "--pilots": unfound}, reads)
     yield Effect("--number", f"audit {LINK} {{}} {files}", by_default("--number", 0, 7, fine, other), reads)
     # a receiver accepts any roll-off
     yield Effect("--ro", f"audit {LINK} {{}} {files}", dict.fromkeys(("", "--ro 0", "--ro 1", "--ro 2"), fine), reads)
@@ -183,15 +185,39 @@ def audit_effects(two, made):
     other_divisor = reads["reads"] | {"record": about.demod({"divisor": 8192}, made, two)}
     differs = ended(f"{fine['out']}about line 9 differs: divisor\n", NO)
     yield Effect("--about", f"audit {LINK} {{}} {files}", {"": fine, "--about record": differs}, {"reads": other_divisor})
-    # the same frames and their certificates, with the symbols of both frames ahead by quarters
+    # the same frames with the second one ahead by a quarter
     half = len(two) // 2
-    ahead = {"reads": reads["reads"] | {"in": rotations.ahead(two[:half], 3) + rotations.ahead(two[half:], 1)}}
-    yield Effect("--turns", f"audit {LINK} {{}} {files}", {"": other, "--turns": fine, "--tuned --divisor 4096": fine}, ahead)
-    # the report says that the second frame begins inside the first one; its certificate is not for the symbols there
-    inside = {"reads": reads["reads"] | {"report": TWO.replace("8190", "8189").encode()}}
-    first = lines[: lines.index("\n") + 1]
-    begun, elsewhere = (ended(f"{first}frame 2 at 8189 {reason}\n", NO, noted(audit.HINT)) for reason in ("no symbols", "other values"))
-    yield Effect("--resync", f"audit {LINK} {{}} {files}", {"": begun, "--resync": elsewhere, "--tuned --divisor 4096": elsewhere}, inside)
+    turned = {"reads": reads["reads"] | {"in": two[:half] + rotations.ahead(two[half:], 1), "report": TWO.replace("8190 sole fixed 0", "8190 sole fixed 0 turn 1").encode()}}
+    yield Effect("--turns", f"audit {LINK} {{}} {files}", {"": alone, "--turns": fine, "--tuned --divisor 4096": fine}, turned)
+    for wrong in (20, 30, 40):
+        by_lock = {f"--lock {lock}": fine if wrong <= lock else alone for lock in sorted({12, wrong - 1, wrong, 40})}
+        by_lock |= {"--tuned --divisor 4096": fine if wrong <= 30 else alone, f"--tuned --divisor 4096 --lock {wrong}": fine}
+        yield Effect("--lock", f"audit {LINK} {{}} {files}", {"": alone} | by_lock, {"reads": reads["reads"] | {"in": rotations.scattered(two, wrong)}})
+    # a symbol less in the first of three frames, whose bits are not known; without the option the second one is not found
+    slipped = slips.without(two[:half] + two, slips.MIDDLE)
+    places = slips.FRAME - 1, 2 * slips.FRAME - 1
+    report = "frame 1 at 0 broken lost\n" + "".join(f"frame {at + 2} at {place} sole fixed 0\n" for at, place in enumerate(places))
+    shown = "".join(f"frame {at + 2} at {place} sole cost {cost}\n" for at, (place, cost) in enumerate(zip(places, costs)))
+    near = ended(f"{shown}audit frames 3 sole 2 most-likely 0 unchecked 1\n")
+    far = ended(f"frame 2 at {places[1]} other values\n", NO, noted(audit.HINT))
+    lost = {"reads": reads["reads"] | {"in": slipped, "report": f"{report}end frames 3 delivered 2 packets 2 bad 0\n".encode()}}
+    yield Effect("--resync", f"audit {LINK} {{}} {files}", {"": far, "--resync": near, "--tuned --divisor 4096": near}, lost)
+    # figures are computed, and are in no other report
+    figures = {"reads": reads["reads"] | {"report": figured.clean(TWO).encode()}}
+    plain = ended(f"report line 1: expected {ONE}", NO, noted(audit.HINT))
+    yield Effect("--figures", f"audit {LINK} {{}} {files}", {"": plain, "--figures": fine}, figures)
+    # a frame without a certificate: its bits are given or not, and one of them is another one
+    given = records.records(two)
+    bare = reads["reads"] | {"certificates": given["--certificates"][: len(given["--certificates"]) // 2], "report": TWO.replace("8190 sole", "8190 parity").encode()}
+    believed, known = (ended(f"{first}audit frames 2 sole 1 most-likely 0 unchecked {count}\n") for count in (1, 0))
+    broken = ended(f"{first}report line 2: expected frame 2 at 8190 broken fixed 1\n", NO, noted(audit.HINT))
+    words = {"right": given["--codewords"], "wrong": audit.flipped(given["--codewords"], audit.BITS)}
+    ends = {"": believed, "--codewords right": known, "--codewords wrong": broken}
+    yield Effect("--codewords", f"audit {LINK} {{}} {files}", ends, {"reads": bare | words})
+    packets = {"right": given["--codewords"], "packets": 2 * PACKET, "others": PACKET + PACKET[:-1] + b"\1"}
+    shown = ended(f"{lines}packet 2: expected {PACKET.hex()}\n", NO, noted(audit.HINT))
+    ends = {"": fine, "--packets packets": fine, "--packets others": shown}
+    yield Effect("--packets", f"audit {LINK} --codewords right {{}} {files}", ends, {"reads": reads["reads"] | packets})
     # the same frames with three times their amplitude, whose equalized symbols are those that were sent
     faint = {"reads": reads["reads"] | {"in": equalized.through(two, 3)}}
     yield Effect("--equalize", f"audit {LINK} {{}} {files}", {"": other, "--equalize": fine, "--equalize --turns": fine}, faint)

@@ -1,5 +1,6 @@
 """Outputs that stay unchanged, files that are used twice, and standard streams."""
-from cases.common import LINK, NO, PACKET, PAIR, STORED, STORED_MOVED, TOY, TWO, WANTED, Case, Rule, fault, size
+from cases.audit import HINT
+from cases.common import LINK, NO, PACKET, PAIR, STORED, STORED_MOVED, TOY, TWO, WANTED, Case, Rule, fault, noted, size
 from cases.drawn import spoilt
 from cases.links import NONE, SAMPLES, SPOILT
 
@@ -90,12 +91,15 @@ TWICE = [
             ("check --each - -", "-"),
             (f"audit {LINK} - made - old", "-"),
             (f"audit {LINK} made - old /dev/stdin", "/dev/stdin"),
+            (f"audit {LINK} --codewords - made - old stored", "-"),
+            (f"audit {LINK} --codewords old --packets /dev/stdin made stored - packets", "/dev/stdin"),
         ]
     ),
     twice(f"mod {LINK} made - in", "in", reads={"in": PACKET}, given="in"),
     twice(f"{NOISE} in -", "-", reads={"in": SAMPLES}, to="in"),
     twice(f"{NOISE} - /dev/stdout", "/dev/stdout", reads={"in": SAMPLES}, given="in", to="in"),
-    Case(f"audit {LINK} made in in in", out="audit frames 0 sole 0 most-likely 0\n", reads={"in": b""}),
+    Case(f"audit {LINK} made in in in", NO, "report line 1: expected end frames 0 delivered 0 packets 0 bad 0\n", noted(HINT), reads={"in": b""}),
+    Case(f"audit {LINK} --codewords in --packets in made in in in", NO, "report line 1: expected end frames 0 delivered 0 packets 0 bad 0\n", noted(HINT), reads={"in": b""}),
     # devices hold nothing
     Case(f"{NOISE} /dev/null /dev/null"),
 ]

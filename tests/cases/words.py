@@ -1,6 +1,7 @@
 """The arguments of the command line, and the files that they name."""
 import itertools
 
+from cases.audit import HINT
 from cases.common import ANY, DIVISORS, FAULT, LINK, NO, PACKET, PAIR, STORED, TOY, TWO, WANTED, Case, fault, first_line, misuse, noted, option, size
 from cases.drawn import made_rows
 from cases.strength import nothing_found
@@ -277,6 +278,8 @@ MISUSES = [
     ("audit --modcod 1 --number 262142 made in report certificates", beyond(262142, "number", 0, 262141)),
     ("audit --modcod 1 --tuned=1 made in report certificates", "--tuned takes no value"),
     ("audit --modcod 1 --rounds 50 made in report certificates", "--rounds is not an option of audit"),
+    ("audit --modcod 1 --packets packets made in report certificates", "missing: --codewords <FILE>"),
+    ("audit --modcod 1 --lock 41 made in report certificates", beyond(41, "lock", 12, 40)),
     (f"rows {PAIR} --weight 0 --seed 1", beyond(0, "weight", 1, 24)),
     (f"rows {PAIR} --weight 25 --seed 1", beyond(25, "weight", 1, 24)),
     (f"rows {PAIR} --weight 1 --seed -1", "--seed: -1 is not an unsigned 64-bit number"),
@@ -443,7 +446,7 @@ ENDED = {
     "noise": {"writes": {"out": 2 * PACKET}},
     "demod": {"out": "end frames 0 delivered 0 packets 0 bad 0\n", "reads": {"empty": b""}, "writes": {"out": b""}},
     "run": {"out": TWO, "writes": {"out": 2 * PACKET}},
-    "audit": {"out": "audit frames 0 sole 0 most-likely 0\n", "reads": {"empty": b""}},
+    "audit": {"code": NO, "out": "report line 1: expected end frames 0 delivered 0 packets 0 bad 0\n", "errors": noted(HINT), "reads": {"empty": b""}},
     "join": {"out": "end frames 0 delivered 0 packets 0 bad 0\n", "reads": {"empty": b""}, "writes": {"out": b""}},
     "scan": {"code": NO, "out": nothing_found(2 * PACKET)},
 }
