@@ -1,7 +1,7 @@
 """`audit`, on what `demod` made of symbols: `tests/exits` receives each stream, and the cases here audit what it wrote.
 
 The expected lines are computed from the report and from the bytes of the certificates: the cost of a certificate's bits is the sum of its
-soft values at the bits that are 1. The first line or packet that was altered is expected as it was."""
+soft values at the bits that are 1. Of an altered line or packet the one before the alteration is expected."""
 from dataclasses import dataclass, replace
 
 from cases.common import ANY, FAULT, LINK, NO, Case, Rule, fault, noted
@@ -51,7 +51,7 @@ class Made:
         return [self.codewords[at : at + step] for at in range(0, len(self.codewords), step)]
 
     def shown(self, count=None):
-        """What is printed of the first frames, by default of all: a line for each that is certified."""
+        """The lines of the first frames that are certified, by default of all."""
         frames = self.frames() if count is None else self.frames()[:count]
         return "".join(shown("\n".join(frames), self.each()))
 
@@ -118,7 +118,7 @@ def last(report, known=False):
 
 
 def failed(line, reason):
-    """The line of a frame, of which the first words of its line are given, that is not shown."""
+    """The line of a frame that is not shown. It begins as the line of the report."""
     return f"{' '.join(line.split()[:4])} {reason}\n"
 
 
@@ -244,7 +244,7 @@ def report_cases(made):
             yield from both(made.with_line(at, " ".join([*words[:place], str(other), *words[place + 1 :]])), NO, before + expected(at + 1, line))
         for other in (" ".join([*words[:5], "lost"]), f"{line} ", f"{line} turn 1", " ".join(words[:5])):
             yield from both(made.with_line(at, other), NO, before + expected(at + 1, line))
-        # another line where a frame is found
+        # the line of a cut frame or of the end in place of that of a frame
         for other in ("end", "cut at 5 symbols 90", text[-1]):
             yield from both(made.with_line(at, other), NO, before + expected(at + 1, " ".join(words[:4])))
         # a line that cannot be read
@@ -351,7 +351,7 @@ def cut_cases(made):
 
 
 def parity_cases(made):
-    """Of frames that are all sole, of which the last one is reported as `parity` or `broken`, without its certificate or with it."""
+    """Of frames that are all sole. The last one is reported as `parity` or `broken`, without its certificate or with it."""
     at, line = len(made.frames()) - 1, made.frames()[-1]
     ahead, end = made.shown(at), made.end().split()
     yield from uncertified_cases(made.with_line(at, line.replace("sole", "parity")).without_certificate(at))
@@ -425,14 +425,14 @@ def tuned_cases(made):
 
 
 def locked_cases(made):
-    """Of a reception with --lock 30 of two frames, of which the second one has 30 wrong bits in its header."""
+    """Of a reception with --lock 30 of two frames. The header of the second one has 30 wrong bits."""
     fine, missed = made.shown() + last(made.report), made.shown(1) + expected(2, "end frames 1 delivered 1 packets 1 bad 0")
     for options, is_fine in (("--lock 30", True), ("--lock 40", True), ("--tuned --divisor 4096", True), ("", False), ("--lock 29", False), ("--tuned --divisor 4096 --lock 29", False)):
         yield from both(made, 0 if is_fine else NO, fine if is_fine else missed, options)
 
 
 def turned_cases(made):
-    """Of a reception with --turns of two frames, of which the second one is a quarter ahead."""
+    """Of a reception with --turns of two frames. The second one is a quarter ahead."""
     fine, missed = made.shown() + last(made.report), made.shown(1) + expected(2, "end frames 1 delivered 1 packets 1 bad 0")
     for options, is_fine in (("--turns", True), ("--tuned --divisor 4096", True), ("", False), ("--resync", False)):
         yield from both(made, 0 if is_fine else NO, fine if is_fine else missed, options)
@@ -472,7 +472,7 @@ def slipped_cases(made):
     yield audit(made, 0, made.shown() + last(made.report), "--resync")
     yield audit(made, 0, made.shown() + last(made.report, known=True), f"--resync {CODEWORDS} {PACKETS}")
     yield from both(made, NO, other)
-    # a frame that is not known to be lost: if it were not, the frame after it would be found behind it
+    # a frame that is reported as delivered is not searched again
     claimed = made.with_line(1, frames[1].replace("broken lost", "broken fixed 3"))
     yield audit(claimed, NO, other, "--resync")
     yield audit(claimed, NO, made.shown(1) + expected(2, frames[1]), f"--resync {CODEWORDS}")
