@@ -303,7 +303,6 @@ def recording_cases(made):
         others = {other: given[other] for other in given if other != name}
         for stream in ("-", "/dev/stdin"):
             words = WORDS.replace(LINK, f"{LINK} {CODEWORDS} {PACKETS}").replace(f" {name}", f" {stream}")
-            words = words.replace(f"--{name}", f"--{name} {stream}") if f"--{name}" in words else words
             yield Case(words, out=fine, reads=others, given=data)
 
 
@@ -376,10 +375,10 @@ def parity_cases(made):
 
 
 def uncertified_cases(made):
-    """A report whose last frame is `parity`, by the bits of each frame."""
-    at, line = len(made.frames()) - 1, made.frames()[-1]
-    words, ahead, record = line.split(), made.shown(at), made.words()[-1]
-    assert words[4:6] == ["parity", "fixed"]
+    """A report with a frame that is `parity`, by the bits of each frame."""
+    at = next(i for i, line in enumerate(made.frames()) if " parity fixed " in line)
+    line, record = made.frames()[at], made.words()[at]
+    words, ahead = line.split(), made.shown(at)
     options, fixed = f"{CODEWORDS} {PACKETS}", int(words[6])
     yield audit(made, 0, made.shown() + last(made.report, known=True), options)
     yield audit(made, 0, made.shown() + last(made.report))
@@ -490,12 +489,8 @@ def figured_cases(made):
         if words[place - 1] != "rounds":
             yield from both(other, NO, made.shown(1) + expected(2, line), "--figures")
             continue
-        # the rounds of min-sum are those of the report, and their sum is computed
-        end = made.end().split()
-        at = end.index("rounds") + 1
-        summed = " ".join([*end[:at], str(int(end[at]) + 1), *end[at + 1 :]])
-        yield from both(other, NO, made.shown() + expected(3, summed), "--figures")
-        yield from both(other.with_line(2, summed), 0, fine, "--figures")
+        # the rounds of min-sum are those of the report
+        yield from both(other, 0, fine, "--figures")
     end = made.end().split()
     for place in range(end.index("bad") + 3, len(end), 2):
         other = made.with_line(2, " ".join([*end[:place], str(int(end[place]) + 1), *end[place + 1 :]]))
