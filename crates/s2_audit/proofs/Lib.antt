@@ -4,3 +4,4 @@ pub mod AuditorLemmas
 pub mod OutcomeLemmas
 pub mod AuditLemmas
 pub mod CommandLemmas
+pub mod LineLemmas

@@ -7,3 +7,7 @@ pub mod Lines
 pub mod Outcomes
 pub mod Auditing
 pub mod Commands
+pub mod Turns
+pub mod Evidences
+pub mod ReportLines
+pub mod FrameAnswers

@@ -18,11 +18,15 @@ mod auditor;
 mod command;
 mod counts;
 mod demodulation;
+mod evidence;
+mod frame;
+mod how;
 mod judging;
 pub mod laws;
 mod limits;
 mod lines;
 mod outcome;
+mod report_lines;
 
 pub use command::audit_command;
 pub use demodulation::Demodulation;
