@@ -7,6 +7,7 @@ use Rattle.s2_certfile.specs.File.{File}
 use Rattle.s2_certfile.specs.Format.{file_of_bytes}
 use Rattle.s2_certfile.specs.declared.fault.CertFault.{CertFault}
 use Rattle.s2_check.specs.CertificateFiles.{view_of}
+use Rattle.s2_check.specs.Cost.{cost}
 use Rattle.s2_check.specs.Views.{View}
 use Rattle.s2_check.specs.declared.verdict.Verdict.{Verdict}
 use Rattle.s2_bch.specs.Decoding.{nearest}
@@ -16,7 +17,7 @@ use Rattle.s2_receive.specs.Receiving.{Decision}
 use Rattle.s2_receive.specs.declared.window.Next.{Next}
 use Rattle.s2_message.specs.Decisions.{received_word, soft_frame, word_decision}
 use Rattle.s2_replay.specs.Certificates.{Certifies, IsParityVerdict, Shows, ShowsParsed}
-use Rattle.s2_replay.specs.Frames.{AuditsFrame, ComparesLine, SettlesBy}
+use Rattle.s2_replay.specs.Frames.{AuditsFrame, ComparesLine, SettlesBy, cost_of}
 use Rattle.s2_replay.specs.Replay.{IsBorneOut, IsBorneOutBy, Terms, are_known, decision_on, is_known}
 use Rattle.s2_replay.specs.declared.certificates.Shown.TheVariants.{Word}
 use Rattle.s2_replay.specs.declared.frames.Audited.{Audited}
@@ -58,6 +59,9 @@ module _ (t : Terms) (symbols : List Symbol) (verdict : Verdict) (bits : List Bo
     pub verdict_is : made.verdict ≡ verdict
     verdict_is = parts.0
 
+    pub bits_is : made.bits ≡ bits
+    bits_is = parts.1
+
     pub known_is : length bits ≡ n_of t.mode → is_known made ≡ true
     known_is long = ap are_known parts.1 ∙ known_bits t.mode bits long
 
@@ -84,18 +88,18 @@ module _ (t : Terms) (symbols : List Symbol) (verdict : Verdict) (bits : List Bo
 
 -- the bytes of a certificate that shows a verdict on bits
 pub shown_block : (rows : Rows) (soft : List ℤ) (bits : List Bool) (block : List ℕ) (verdict : Verdict) (paid : ℤ) → Shows rows soft bits block (Word verdict paid)
-    → (file : File) × (file_of_bytes block ≡ Ok file) × Certifies rows soft verdict bits (view_of rows file)
+    → (file : File) × (file_of_bytes block ≡ Ok file) × (Certifies rows soft verdict bits (view_of rows file) × (paid ≡ cost (view_of rows file).soft (view_of rows file).bits))
 shown_block rows soft bits block verdict paid shows = parsed (file_of_bytes block) refl shows
   where
-    parsed : (r : Result File CertFault) → file_of_bytes block ≡ r → ShowsParsed rows soft bits r (Word verdict paid) → (file : File) × (file_of_bytes block ≡ Ok file) × Certifies rows soft verdict bits (view_of rows file)
-    parsed (Ok file) is (inl (suits, (certifies, cost_is))) = (file, is, certifies)
+    parsed : (r : Result File CertFault) → file_of_bytes block ≡ r → ShowsParsed rows soft bits r (Word verdict paid) → (file : File) × (file_of_bytes block ≡ Ok file) × (Certifies rows soft verdict bits (view_of rows file) × (paid ≡ cost (view_of rows file).soft (view_of rows file).bits))
+    parsed (Ok file) is (inl (suits, (certifies, cost_is))) = (file, is, (certifies, cost_is))
     parsed (Ok file) is (inr (other, none)) = absurd (cc)
     parsed (Err fault) is none = absurd (cc)
 
 -- the line of a frame that was settled by such a decision
-pub audits_so : (t : Terms) (old new : Follower) (found : Next) (block : Option (List ℕ)) (soft : List ℤ) (line : List ℕ) (d : Decision) (step : Step) (verdict : Verdict) (paid : Option ℤ) (audited : Audited)
-    → SettlesBy t old new found block d step → d.verdict ≡ verdict → ComparesLine new step line verdict paid audited → AuditsFrame t old new found block soft line audited
-audits_so t old new found block soft line d step verdict paid (Told v c) settles is (own, v_is, c_is) = (d, step, settles, is ∙ sym v_is, own)
-audits_so t old new found block soft line d step verdict paid (Differs s) settles is (s_is, other) = subst (λ x. AuditsFrame t old new found block soft line (Differs x)) (sym s_is) (d, settles, other)
-audits_so t old new found (Some b) soft line d step verdict paid (Refused r) settles is none = absurd none
-audits_so t old new found None soft line d step verdict paid (Refused r) settles is none = absurd none
+pub audits_so : (t : Terms) (old new : Follower) (found : Next) (block : Option (List ℕ)) (soft : List ℤ) (word : List Bool) (line : List ℕ) (d : Decision) (step : Step) (verdict : Verdict) (paid : Option ℤ) (audited : Audited)
+    → SettlesBy t old new found block d step → d.verdict ≡ verdict → d.bits ≡ word → paid ≡ cost_of d.certificate → ComparesLine new step line verdict paid audited → AuditsFrame t old new found block soft word line audited
+audits_so t old new found block soft word line d step verdict paid (Told v c) settles is bits cost_is (own, v_is, c_is) = (d, step, settles, (is ∙ sym v_is, bits, c_is ∙ cost_is), own)
+audits_so t old new found block soft word line d step verdict paid (Differs s) settles is bits cost_is (s_is, other) = subst (λ x. AuditsFrame t old new found block soft word line (Differs x)) (sym s_is) (d, settles, bits, other)
+audits_so t old new found (Some b) soft word line d step verdict paid (Refused r) settles is bits cost_is none = absurd none
+audits_so t old new found None soft word line d step verdict paid (Refused r) settles is bits cost_is none = absurd none

@@ -13,11 +13,13 @@ use Rattle.s2_receive.specs.Receiving.{Decision, begun, left_by, wanted_by}
 use Rattle.s2_receive.specs.Synchronization.{Follows, reached, room_for, wanted}
 use Rattle.s2_receive.specs.declared.report.Phase.{Phase}
 use Rattle.s2_receive.specs.declared.report.Phase.TheVariants as phases
+use Rattle.s2_receive.specs.declared.gap.Gap.{Gap}
 use Rattle.s2_receive.specs.declared.window.Next.{Next}
+use Rattle.s2_receive.specs.declared.window.Next.TheVariants as next
 use Rattle.s2_receive.proofs.SymbolLists.{count_symbols, yields}
 use Rattle.s2_receive.specs.Halves.{Follower, IsRunBy, IsShown, RunsBy, Seeks, SeeksBy, Settles, ahead, asked_of, decision_if, rules_with}
 use Rattle.s2_replay.specs.Replay.{IsBorneOut, Terms, rules_for}
-use Rattle.s2_replay.specs.Running.{GoesOn, IsBy, IsNearer, RanIn, RanOut, RanTo}
+use Rattle.s2_replay.specs.Running.{EndsAfterCut, GoesOn, IsBy, IsNearer, RanIn, RanOut, RanTo}
 use Rattle.s2_receive.proofs.RunsSoFar.{run_begins, run_seeks, run_settles}
 
 front_nil : (xs ys : List ℕ) → xs ++ ys ≡ [] → (xs ≡ []) × (ys ≡ [])
@@ -160,3 +162,16 @@ module _ (old new : Follower) (bytes : List ℕ) (some : 0 < asked_of old) where
 pub empty_seek : (old new : Follower) (bytes : List ℕ) → length bytes ≤ asked_of old → asked_of old ≡ 0 → (found : Option Next) → Seeks old new bytes (nat_eq (length bytes) (asked_of old)) found → Seeks old new [] true found
 empty_seek old new [] few none found seeks = subst (λ n. Seeks old new [] (nat_eq 0 n) found) none seeks
 empty_seek old new (b ∷ bytes) few none found seeks = absurd (omega (arith, few, none))
+
+-- after a cut frame the end is found
+pub ends_after_cut : (old new : Follower) (bytes : List ℕ) (whole : Bool) (found : Option Next) → Seeks old new bytes whole found → EndsAfterCut old.state.phase found
+ends_after_cut old new bytes whole found seeks = by_phase old.state.phase seeks.seeks
+  where
+    is_end : (found' : Option Next) (at : ℕ) (skipped : Gap) → found' ≡ Some (next.End at skipped) → EndsAfterCut phases.Closing found'
+    is_end found' at skipped is = subst (EndsAfterCut phases.Closing) (sym is) tt
+
+    by_phase : (phase : Phase) → SeeksBy phase old new bytes whole found → EndsAfterCut phase found
+    by_phase phases.Searching s = tt
+    by_phase phases.Closing s = is_end found _ _ s.0
+    by_phase phases.Ended s = tt
+    by_phase phases.Failed s = tt

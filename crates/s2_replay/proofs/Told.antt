@@ -52,10 +52,10 @@ claimed_out : (t : Terms) (symbols : List Symbol) (verdict : Verdict) (lost : Bo
 claimed_out t symbols verdict lost uncertified = inr (uncertified, ap (claimed_decision verdict) (sym (lost_is verdict lost)))
 
 pub tells_frame : TellsFrameLaw
-tells_frame t whole left left_new old mid new known decisions lines packets found block soft line verdict paid before goes is frame (d, step, settles, verdict_is, own) =
+tells_frame t whole left left_new old mid new known decisions lines packets found block d step line before goes is frame settles own =
     let told : IsFrameLine (is_known d) d (step_line step new.state.standing.totals) line = subst (λ b. IsFrameLine b d (step_line step new.state.standing.totals) line) (sym settles.known) own in
     let all = audited_frame t whole left_new mid new known decisions lines packets (audited_on t whole left left_new old mid known decisions lines packets before goes) found d step line is frame settles.borne settles.settles told in
-    (d, subst (λ b. AuditedSoFar t whole left_new new b (decisions ++ d ∷ []) (lines ++ line ∷ []) (packets ++ new.packets)) (and_known known (is_known d) settles.known) all)
+    subst (λ b. AuditedSoFar t whole left_new new b (decisions ++ d ∷ []) (lines ++ line ∷ []) (packets ++ new.packets)) (and_known known (is_known d) settles.known) all
 
 pub tells_claim : TellsClaimLaw
 tells_claim t whole left left_new old mid new known decisions lines packets found place line verdict claim before goes is frame uncertified audits told =
@@ -69,7 +69,7 @@ tells_claim t whole left left_new old mid new known decisions lines packets foun
     (subst (λ a. BeginsWith (claimed_words (mid.state.standing.totals.frames + 1) a verdict claim.lost) (step_line (steps.Frame (report_for d mid.state.standing.totals place)) totals)) claims.1 (own_claim mid.state.standing.totals place verdict claim.lost))) in
     let line_is : IsFrameLine false d (step_line claim.step totals) line = lost_so verdict claim.lost (step_line claim.step totals) line audits.number audits.at own (audits.told.0 told) in
     let all = audited_frame t whole left_new mid new known decisions lines packets (audited_on t whole left left_new old mid known decisions lines packets before goes) found d claim.step line is (frame_at found place frame) (claimed_out t mid.frame verdict claim.lost uncertified) audits.settles line_is in
-    (d, subst (λ b. AuditedSoFar t whole left_new new b (decisions ++ d ∷ []) (lines ++ line ∷ []) (packets ++ new.packets)) (and_claimed known) all)
+    subst (λ b. AuditedSoFar t whole left_new new b (decisions ++ d ∷ []) (lines ++ line ∷ []) (packets ++ new.packets)) (and_claimed known) all
 
 -- ---- after the last frame
 

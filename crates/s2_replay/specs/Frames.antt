@@ -4,6 +4,8 @@ use Rattle.s2_rows.specs.Rows.{Rows}
 use Rattle.s2_certfile.specs.File.{File}
 use Rattle.s2_certfile.specs.Format.{file_of_bytes}
 use Rattle.s2_check.specs.CertificateFiles.{view_of}
+use Rattle.s2_check.specs.Cost.{cost}
+use Rattle.s2_check.specs.Views.{View}
 use Rattle.s2_check.specs.declared.verdict.Verdict.{Verdict}
 use Rattle.s2_check.specs.declared.verdict.Verdict.TheVariants.{Broken}
 use Rattle.s2_report.specs.ReportLines.{step_line}
@@ -45,6 +47,11 @@ abbrev pub IsShownBy : Rows → Decision → (block : Option (List ℕ)) → Typ
 IsShownBy rows d (Some block) = (file : File) × (file_of_bytes block ≡ Ok file) × (d.certificate ≡ Some (view_of rows file))
 IsShownBy rows d None = d.certificate ≡ None
 
+-- the cost of the bits of a certificate, if there is one
+abbrev pub cost_of : Option View → Option ℤ
+cost_of None = None
+cost_of (Some view) = Some (cost view.soft view.bits)
+
 -- a frame was settled by a decision that is borne out for it by these bytes, or by no certificate; its bits are known
 pub record SettlesBy (t : Terms) (old new : Follower) (found : Next) (block : Option (List ℕ)) (d : Decision) (step : Step) : Type 0 where
   pub known : is_known d ≡ true
@@ -62,14 +69,14 @@ ComparesLine new step line verdict paid (Told v c) = IsOwnLine new step line × 
 ComparesLine new step line verdict paid (Differs s) = (s ≡ step) × ¬ IsOwnLine new step line
 ComparesLine new step line verdict paid (Refused refusal) = ⊥
 
--- The audit of a frame. The report has the receiver's own line; or another one than that of this step. Or the certificate shows
--- nothing, and the frame is not settled
-abbrev pub AuditsFrame : Terms → (old new : Follower) → Next → (block : Option (List ℕ)) → (soft : List ℤ) → (line : List ℕ) → Audited → Type 0
-AuditsFrame t old new found block soft line (Told verdict paid) =
-    (d : Decision) × (step : Step) × SettlesBy t old new found block d step × (d.verdict ≡ verdict) × IsOwnLine new step line
-AuditsFrame t old new found block soft line (Differs step) = (d : Decision) × SettlesBy t old new found block d step × ¬ IsOwnLine new step line
-AuditsFrame t old new found (Some block) soft line (Refused refusal) = Shows t.rows soft [] block (shown.Refused refusal) × (new ≡ old)
-AuditsFrame t old new found None soft line (Refused refusal) = ⊥
+-- The audit of a frame, whose decided bits are this word. The report has the receiver's own line; or another one than that of this
+-- step. Or the certificate shows nothing, and the frame is not settled
+abbrev pub AuditsFrame : Terms → (old new : Follower) → Next → (block : Option (List ℕ)) → (soft : List ℤ) → (word : List Bool) → (line : List ℕ) → Audited → Type 0
+AuditsFrame t old new found block soft word line (Told verdict paid) =
+    (d : Decision) × (step : Step) × SettlesBy t old new found block d step × ((d.verdict ≡ verdict) × (d.bits ≡ word) × (paid ≡ cost_of d.certificate)) × IsOwnLine new step line
+AuditsFrame t old new found block soft word line (Differs step) = (d : Decision) × SettlesBy t old new found block d step × (d.bits ≡ word) × ¬ IsOwnLine new step line
+AuditsFrame t old new found (Some block) soft word line (Refused refusal) = Shows t.rows soft [] block (shown.Refused refusal) × (new ≡ old)
+AuditsFrame t old new found None soft word line (Refused refusal) = ⊥
 
 -- ---- a cut frame, and the end
 

@@ -3,17 +3,17 @@ use Rattle.std.specs.Prelude.{◌≡◌, ℕ, ℤ, Bool, true, false, IsTrue, Li
 use Rattle.s2_mode.specs.declared.symbols.Symbol.{Symbol}
 use Rattle.s2_check.specs.Verdicts.{is_certified}
 use Rattle.s2_check.specs.declared.verdict.Verdict.{Verdict}
+use Rattle.s2_report.specs.declared.report.Step.{Step}
 use Rattle.s2_receive.specs.Receiving.{Decision, begun}
 use Rattle.s2_receive.specs.Halves.{Follower, IsOwn}
 use Rattle.s2_receive.specs.declared.gap.Gap.{Gap}
 use Rattle.s2_receive.specs.declared.window.Next.{Next}
 use Rattle.s2_receive.specs.declared.window.Next.TheVariants as next
 use Rattle.s2_replay.specs.Auditing.{AuditedFrames, AuditedSoFar, ReplaysIn}
-use Rattle.s2_replay.specs.Frames.{AuditsClaim, AuditsFrame, AuditsLast}
-use Rattle.s2_replay.specs.Replay.{AreLines, IsBorneOut, IsReplay, Terms, rules_for}
+use Rattle.s2_replay.specs.Frames.{AuditsClaim, AuditsLast, IsOwnLine, SettlesBy}
+use Rattle.s2_replay.specs.Replay.{AreLines, IsBorneOut, IsReplay, Terms, claimed_decision, rules_for}
 use Rattle.s2_replay.specs.Replayers.{IsFrame, IsFrameAt}
 use Rattle.s2_replay.specs.Running.{GoesOn, IsBy}
-use Rattle.s2_replay.specs.declared.frames.Audited.TheVariants.{Told}
 use Rattle.s2_replay.specs.declared.frames.AuditedClaim.{AuditedClaim}
 use Rattle.s2_replay.specs.declared.frames.AuditedLast.{AuditedLast}
 
@@ -40,10 +40,10 @@ AuditOverLaw =
 abbrev pub TellsFrameLaw : Type 0
 TellsFrameLaw =
     (t : Terms) (whole left left_new : Option (List ℕ)) (old mid new : Follower) (known : Bool) (decisions : List Decision) (lines : List (List ℕ)) (packets : List ℕ)
-    (found : Next) (block : Option (List ℕ)) (soft : List ℤ) (line : List ℕ) (verdict : Verdict) (paid : Option ℤ)
+    (found : Next) (block : Option (List ℕ)) (d : Decision) (step : Step) (line : List ℕ)
     → AuditedSoFar t whole left old known decisions lines packets → GoesOn old mid left left_new → mid.found ≡ Some found → IsFrame found
-    → AuditsFrame t mid new found block soft line (Told verdict paid)
-    → (d : Decision) × AuditedSoFar t whole left_new new known (decisions ++ d ∷ []) (lines ++ line ∷ []) (packets ++ new.packets)
+    → SettlesBy t mid new found block d step → IsOwnLine new step line
+    → AuditedSoFar t whole left_new new known (decisions ++ d ∷ []) (lines ++ line ∷ []) (packets ++ new.packets)
 
 -- so is a frame on the report's word
 abbrev pub TellsClaimLaw : Type 0
@@ -52,7 +52,7 @@ TellsClaimLaw =
     (found : Next) (place : ℕ) (line : List ℕ) (verdict : Verdict) (claim : AuditedClaim)
     → AuditedSoFar t whole left old known decisions lines packets → GoesOn old mid left left_new → mid.found ≡ Some found → IsFrameAt found place
     → is_certified verdict ≡ false → AuditsClaim mid new found verdict line claim → IsTrue claim.told
-    → (d : Decision) × AuditedSoFar t whole left_new new false (decisions ++ d ∷ []) (lines ++ line ∷ []) (packets ++ new.packets)
+    → AuditedSoFar t whole left_new new false (decisions ++ claimed_decision verdict claim.lost ∷ []) (lines ++ line ∷ []) (packets ++ new.packets)
 
 -- so is a cut frame after the last frame
 abbrev pub TellsCutLaw : Type 0

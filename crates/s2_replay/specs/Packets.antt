@@ -14,7 +14,7 @@ packet_at packets k = take packet_bytes (drop (packet_bytes * k) packets)
 
 -- a reader gave the packets before this one, and then not this one
 pub record Differs (packets : List ℕ) (old new : Option (List ℕ)) (k : ℕ) : Type 0 where
-  pub within : packet_bytes * k + packet_bytes ≤ length packets
+  pub within : packet_bytes * k < length packets
   pub mid : Option (List ℕ)
   pub front : Consumes old mid (take (packet_bytes * k) packets)
   pub other : Gives (packet_at packets k) mid new false

@@ -6,7 +6,10 @@ use Rattle.s2_plframe.specs.Turns.{sought_of}
 use Rattle.s2_receive.specs.Limits.{max_symbols}
 use Rattle.s2_receive.specs.Receiving.{Decision}
 use Rattle.s2_receive.specs.Synchronization.{reached}
+use Rattle.s2_receive.specs.declared.report.Phase.{Phase}
+use Rattle.s2_receive.specs.declared.report.Phase.TheVariants as phases
 use Rattle.s2_receive.specs.declared.window.Next.{Next}
+use Rattle.s2_receive.specs.declared.window.Next.TheVariants as next
 use Rattle.s2_receive.specs.Halves.{Follower, IsRunBy, RunSoFar, Seeks, asked_of}
 use Rattle.s2_replay.specs.Replay.{IsBorneOut, Terms, rules_for}
 
@@ -52,6 +55,16 @@ IsNearer old new (Some found) = ⊤
 -- a follower requested no bytes, and found nothing without any: its limit is reached
 abbrev pub IsStuck : Follower → Type 0
 IsStuck f = (old : Follower) × (asked_of old ≡ 0) × Seeks old f [] true None
+
+-- it is the end
+abbrev pub IsEnd : Next → Type 0
+IsEnd (next.End at skipped) = ⊤
+IsEnd found = ⊥
+
+-- after a cut frame only the end is found
+abbrev pub EndsAfterCut : Phase → Option Next → Type 0
+EndsAfterCut phases.Closing (Some found) = IsEnd found
+EndsAfterCut phase found = ⊤
 
 -- no read failed if something was found; else a read failed, or the limit of symbols was reached
 abbrev pub ReadsOrStops : Follower → (reads reads_new : ℕ) → Option Next → Type 0

@@ -83,7 +83,7 @@ impl Replayer {
         requires soft { HoldsSoft self.old }
         requires rows { code_bits matrix.now.shape ≡ n_of self.old.follower.sought.mode }
         requires word { length word.old ≡ n_of self.old.follower.sought.mode }
-        ensures audits { IfOk result (AuditsFrame (terms_of matrix.now self.old) self.old.follower self.new.follower found (Some block.now) self.old.soft line.now) }
+        ensures audits { IfOk result (AuditsFrame (terms_of matrix.now self.old) self.old.follower self.new.follower found (Some block.now) self.old.soft word.new line.now) }
         ensures same { IsSameReplayer self.old self.new }
         ensures long { length word.new ≡ length word.old }
     {
@@ -111,7 +111,7 @@ impl Replayer {
         requires soft { HoldsSoft self.old }
         requires rows { (code_of matrix.now).bits ≡ n_of self.old.follower.sought.mode }
         requires word { length word.now ≡ n_of self.old.follower.sought.mode }
-        ensures audits { AuditsFrame (terms_of matrix.now self.old) self.old.follower self.new.follower found None self.old.soft line.now result }
+        ensures audits { AuditsFrame (terms_of matrix.now self.old) self.old.follower self.new.follower found None self.old.soft word.now line.now result }
         ensures same { IsSameReplayer self.old self.new }
     {
         let verdict = parity_verdict(matrix, word);

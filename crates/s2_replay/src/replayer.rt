@@ -13,7 +13,7 @@ ghost use Rattle.s2_message.specs.Reading.{IsSameReader};
 ghost use Rattle.s2_receive.specs.Halves.{IsSameFollower, Says, Seeks, Settles, asked_of};
 ghost use Rattle.s2_replay.specs.Replay.{claimed_decision};
 ghost use Rattle.s2_replay.specs.Replayers.{HasSoft, IfFrame, IsFrame, IsSameReplayer, decision_for};
-ghost use Rattle.s2_replay.specs.Running.{GoesOn, IsNearer, ReadsOrStops, found_in, found_of};
+ghost use Rattle.s2_replay.specs.Running.{EndsAfterCut, GoesOn, IsNearer, ReadsOrStops, found_in, found_of};
 
 use s2_bbframe::{Header, NO_SYNCD};
 use s2_bits::Bits;
@@ -130,6 +130,8 @@ fn read_on<R: CountedRead>(
     ensures soft { IfFrame (found_in result) (HasSoft reader.new follower.new.frame soft.new) }
     ensures stuck { IfOk result (λ found. length room.old ≡ 0 → Seeks follower.old follower.new [] true found) }
     ensures nearer { IfOk result (λ found. 0 < length room.old → IsNearer follower.old follower.new found) }
+    ensures closing { IfOk result (EndsAfterCut follower.old.state.phase) }
+    ensures phase { follower.new.state.phase ≡ follower.old.state.phase }
     ensures same { IsSameFollower follower.old follower.new }
     ensures kept { follower.new.state.standing ≡ follower.old.state.standing }
     ensures reader { IsSameReader reader.old reader.new }
@@ -158,6 +160,7 @@ fn find_next<R: CountedRead>(
     ensures found { follower.new.found ≡ found_of result }
     ensures soft { IfFrame (found_of result) (HasSoft reader.new follower.new.frame soft.new) }
     ensures reads { ReadsOrStops follower.new (R.count symbols.old) (R.count symbols.new) (found_of result) }
+    ensures closing { IfOk result (λ found. EndsAfterCut follower.old.state.phase (Some found)) }
     ensures same { IsSameFollower follower.old follower.new }
     ensures kept { follower.new.state.standing ≡ follower.old.state.standing }
     ensures reader { IsSameReader reader.old reader.new }
@@ -243,6 +246,7 @@ impl Replayer {
         ensures found { self.new.follower.found ≡ found_of result }
         ensures soft { IfFrame (found_of result) (self.new.soft ≡ soft_frame self.old.follower.sought.mode self.old.number self.old.options self.new.follower.frame) }
         ensures reads { ReadsOrStops self.new.follower (R.count symbols.old) (R.count symbols.new) (found_of result) }
+        ensures closing { IfOk result (λ found. EndsAfterCut self.old.follower.state.phase (Some found)) }
         ensures kept { self.new.follower.state.standing ≡ self.old.follower.state.standing }
         ensures same { IsSameReplayer self.old self.new }
     {

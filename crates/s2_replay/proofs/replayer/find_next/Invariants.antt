@@ -12,6 +12,7 @@ invariant-reading g l = record {
   none : l.follower.found ≡ None;
   same : IsSameFollower l.fn.follower l.follower;
   kept : l.follower.state.standing ≡ l.fn.follower.state.standing;
+  phase : l.follower.state.phase ≡ l.fn.follower.state.phase;
   reader : IsSameReader l.fn.reader l.reader;
   long : length l.soft ≡ length l.fn.soft;
   room : length l.bytes ≡ length l.fn.bytes;

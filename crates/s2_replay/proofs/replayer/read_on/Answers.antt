@@ -1,5 +1,5 @@
 use Rattle.std.proofs.Common.{◌<◌, rules, subst, sym, ◌∙◌}
-use Rattle.s2_replay.proofs.RunLemmas.{comes_nearer, empty_seek, ran_on}
+use Rattle.s2_replay.proofs.RunLemmas.{comes_nearer, empty_seek, ends_after_cut, ran_on}
 use Rattle.s2_replay.proofs.replayer.read_on.Goals as goal
 
 pub returns-clause-goes_on : goal.returns-clause-goes_on
@@ -11,3 +11,6 @@ returns-clause-nearer g c = λ some. comes_nearer _ _ _ (subst (λ n. 0 < n) c.r
 pub returns-clause-stuck : goal.returns-clause-stuck
 returns-clause-stuck g c = λ none.
     empty_seek _ _ _ (search rules) (sym c.requires.room ∙ none) _ c.seek.ensures.seeks
+
+pub returns-clause-closing : goal.returns-clause-closing
+returns-clause-closing g c = ends_after_cut _ _ _ _ _ c.seek.ensures.seeks
