@@ -16,7 +16,7 @@ use Rattle.s2_audit.specs.declared.frame.Recorded.TheVariants as records
 
 -- it gave these bytes next, if it is given
 abbrev pub ReadsIf : (old new : Option (Option (List ℕ))) → (bytes : List ℕ) → Type 0
-ReadsIf None new bytes = (new ≡ None) × (bytes ≡ [])
+ReadsIf None new bytes = new ≡ None
 ReadsIf (Some old) None bytes = ⊥
 ReadsIf (Some old) (Some new) bytes = Consumes old new bytes
 

@@ -23,6 +23,10 @@ use Rattle.s2_audit.specs.Limits.{certificate_bytes}
 use Rattle.s2_audit.specs.declared.how.How.{How}
 use Rattle.s2_audit.specs.declared.evidence.ByCertificate.{ByCertificate}
 use Rattle.s2_audit.specs.declared.evidence.ByCertificate.TheVariants.{Missing, Judged}
+use Rattle.s2_audit.specs.declared.frame.Recorded.{Recorded}
+use Rattle.s2_audit.specs.declared.frame.Recorded.TheVariants as records
+use Rattle.s2_replay.specs.declared.frames.Audited.{Audited}
+use Rattle.s2_replay.specs.declared.frames.Audited.TheVariants as audits
 use Rattle.s2_audit.specs.declared.frame.FrameAnswer.{FrameAnswer}
 use Rattle.s2_audit.specs.declared.frame.FrameAnswer.TheVariants as answers
 
@@ -88,6 +92,18 @@ pub record HasOtherWord (t : Terms) (old new : Evidence) (symbols : List Symbol)
   pub shown : IsShownBy t.rows d (Some block)
   pub takes : Takes (n_of t.mode) old new (Some block) (Some packed)
   pub other : d.bits ≢ bits_of_bytes packed
+
+-- it was settled
+abbrev pub IsSettled : Audited → Type 0
+IsSettled (audits.Told verdict paid) = ⊤
+IsSettled (audits.Differs step) = ⊤
+IsSettled (audits.Refused refusal) = ⊥
+
+-- the audit by a certificate is the answer, unless the record of the codeword was taken and has other bits
+abbrev pub AnswersWith : (word bits : List Bool) → Recorded → Audited → FrameAnswer → Type 0
+AnswersWith word bits recorded audited answers.OtherWord = IsSettled audited × (recorded ≡ records.Taken) × (word ≢ bits)
+AnswersWith word bits recorded audited (answers.Judged a) = (a ≡ audited) × (IsSettled audited → recorded ≡ records.Taken → word ≡ bits)
+AnswersWith word bits recorded audited answer = ⊥
 
 -- The audit of a frame whose line says this verdict. The certificate of one that is sole or most likely is missing, or its record of
 -- the codeword is; or both are there, with different bits. Or the frame is audited by what is taken, or on the report's word

@@ -1,9 +1,9 @@
 pub mod Limits
-pub mod ReportLines
 pub mod Lines
 pub mod Evidences
 pub mod FrameAnswers
 pub mod Turns
 pub mod Differences
+pub mod Steps
 pub mod Audits
 pub mod Commands

@@ -1,5 +1,5 @@
 -- The lines that an audit prints (own).
-use Rattle.std.specs.Prelude.{ℕ, ℤ, List, ◌++◌, codes, decimal}
+use Rattle.std.specs.Prelude.{ℕ, ℤ, List, [], ◌++◌, codes, decimal, Option, Some, None}
 use Rattle.std.specs.Fmt.{signed_decimal}
 use Rattle.hex.specs.Hex.{encode_lower}
 use Rattle.s2_check.specs.Verdicts.{verdict_word}
@@ -19,6 +19,11 @@ frame_words number at = codes "frame " ++ decimal number ++ codes " at " ++ deci
 -- frame I at SYMBOL VERDICT cost C
 unfoldable pub shown_line : Frame → ℤ → List ℕ
 shown_line frame cost = frame_words frame.number frame.at ++ codes " " ++ verdict_word frame.verdict ++ codes " cost " ++ signed_decimal cost ++ codes "\n"
+
+-- the same if the bits have a certificate
+abbrev pub cost_text : Frame → Option ℤ → List ℕ
+cost_text frame None = []
+cost_text frame (Some cost) = shown_line frame cost
 
 -- ---- what ends an audit with exit 2
 
@@ -42,17 +47,34 @@ packet_words number = codes "packet " ++ decimal number ++ codes ": expected "
 abbrev pub hex_of : (packet : List ℕ) → List ℕ
 hex_of packet = encode_lower packet
 
--- The line of a difference. One in a packet shows the packet, which is among those of the receiver's step
+-- what a difference is in, or the words before what is expected
+abbrev pub front_words : Difference → List ℕ
+front_words (differences.Frame number at reason) = frame_words number at
+front_words (differences.Line line step totals) = line_words line
+front_words (differences.NoFrame line number at) = line_words line
+front_words (differences.Count line frames) = line_words line
+front_words (differences.MoreLines line) = line_words line
+front_words (differences.Packet number place) = packet_words number
+front_words (differences.MorePackets number) = packet_words number
+front_words differences.MoreCertificates = codes "certificates"
+front_words differences.MoreCodewords = codes "codewords"
+
+-- the words after these; a difference in a packet shows the packet
+abbrev pub back_words : Difference → List ℕ
+back_words (differences.Frame number at reason) = codes " " ++ reason_text reason ++ codes "\n"
+back_words (differences.Line line step totals) = step_line step totals
+back_words (differences.NoFrame line number at) = frame_words number at ++ codes "\n"
+back_words (differences.Count line frames) = codes "end frames " ++ decimal frames ++ codes "\n"
+back_words (differences.MoreLines line) = codes "no more\n"
+back_words (differences.Packet number place) = []
+back_words (differences.MorePackets number) = codes "no more\n"
+back_words differences.MoreCertificates = codes " left over\n"
+back_words differences.MoreCodewords = codes " left over\n"
+
+-- The line of a difference. The packet of one is among these packets
 abbrev pub difference_line : (packets : List ℕ) → Difference → List ℕ
-difference_line packets (differences.Frame number at reason) = frame_words number at ++ codes " " ++ reason_text reason ++ codes "\n"
-difference_line packets (differences.Line line step totals) = line_words line ++ step_line step totals
-difference_line packets (differences.NoFrame line number at) = line_words line ++ frame_words number at ++ codes "\n"
-difference_line packets (differences.Count line frames) = line_words line ++ codes "end frames " ++ decimal frames ++ codes "\n"
-difference_line packets (differences.MoreLines line) = line_words line ++ codes "no more\n"
 difference_line packets (differences.Packet number place) = packet_words number ++ hex_of (packet_at packets place) ++ codes "\n"
-difference_line packets (differences.MorePackets number) = packet_words number ++ codes "no more\n"
-difference_line packets differences.MoreCertificates = codes "certificates left over\n"
-difference_line packets differences.MoreCodewords = codes "codewords left over\n"
+difference_line packets difference = front_words difference ++ back_words difference
 
 -- ---- the last line
 

@@ -46,19 +46,41 @@ impl Reason {
 #[derive(Clone, Copy)]
 pub(crate) enum Difference {
     /// The evidence of a frame is refused.
-    Frame { number: u64, at: u64, reason: Reason },
+    Frame {
+        number: u64,
+        at: u64,
+        reason: Reason,
+    },
     /// The report does not have the line of this step.
-    Line { line: u64, step: Step, totals: Totals },
+    Line {
+        line: u64,
+        step: Step,
+        totals: Totals,
+    },
     /// The report does not have a line of this frame.
-    NoFrame { line: u64, number: u64, at: u64 },
+    NoFrame {
+        line: u64,
+        number: u64,
+        at: u64,
+    },
     /// The report does not have an end line of so many frames.
-    Count { line: u64, frames: u64 },
+    Count {
+        line: u64,
+        frames: u64,
+    },
     /// The report goes on after its end line.
-    MoreLines { line: u64 },
+    MoreLines {
+        line: u64,
+    },
     /// The packet file does not have the packet at this place among those of the step.
-    Packet { number: u64, place: usize },
+    Packet {
+        number: u64,
+        place: usize,
+    },
     /// The packet file goes on after the last packet.
-    MorePackets { number: u64 },
+    MorePackets {
+        number: u64,
+    },
     MoreCertificates,
     MoreCodewords,
 }
