@@ -1,9 +1,9 @@
 pub mod Limits
-pub mod Entries
-pub mod Reading
-pub mod Auditors
-pub mod Showing
 pub mod Lines
-pub mod Outcomes
-pub mod Auditing
+pub mod Evidences
+pub mod FrameAnswers
+pub mod Turns
+pub mod Differences
+pub mod Steps
+pub mod Audits
 pub mod Commands

@@ -1,15 +1,11 @@
 -- The limit of an audit, and the size of a certificate in its file (own).
 use Rattle.std.specs.Prelude.{◌≡◌, ℕ, ◌+◌, ◌*◌, ◌/◌, ◌^◌}
-use Rattle.s2_mode.specs.Mode.{Mode, n_of, q_of, symbols_in}
+use Rattle.s2_mode.specs.Mode.{Mode, n_of, q_of}
 use Rattle.s2_audit.specs.declared.limits.TheConstants.{MAX_LINES}
 
 -- the maximum number of lines of a report
 abbrev pub max_lines : ℕ
 max_lines = 2 ^ 40
-
--- the bytes of a frame's symbols, four each
-abbrev pub frame_bytes : Mode → ℕ
-frame_bytes m = 4 * symbols_in m
 
 -- the bytes of a certificate of version 2 of a mode: the header of 13, two for each soft value, the bits, and six for
 -- each check's move

@@ -1,27 +1,82 @@
 -- The lines that an audit prints (own).
-use Rattle.std.specs.Prelude.{ℕ, ℤ, List, ◌++◌, codes, decimal}
+use Rattle.std.specs.Prelude.{ℕ, ℤ, List, [], ◌++◌, codes, decimal, Option, Some, None}
 use Rattle.std.specs.Fmt.{signed_decimal}
+use Rattle.hex.specs.Hex.{encode_lower}
 use Rattle.s2_check.specs.Verdicts.{verdict_word}
-use Rattle.s2_audit.specs.declared.counts.Counts.{Counts}
+use Rattle.s2_report.specs.ReportLines.{step_line}
 use Rattle.s2_report.specs.declared.entry.Frame.{Frame}
-use Rattle.s2_audit.specs.declared.judging.Reason.{Reason}
-use Rattle.s2_audit.specs.Showing.{reason_text}
+use Rattle.s2_replay.specs.Packets.{packet_at}
+use Rattle.s2_audit.specs.declared.counts.Counts.{Counts}
+use Rattle.s2_audit.specs.declared.difference.Difference.{Difference}
+use Rattle.s2_audit.specs.declared.difference.Difference.TheVariants as differences
+use Rattle.s2_audit.specs.declared.difference.Reason.{Reason}
+use Rattle.s2_audit.specs.declared.difference.Reason.TheVariants as reasons
 
 -- frame I at SYMBOL
-unfoldable pub frame_words : Frame → List ℕ
-frame_words frame = codes "frame " ++ decimal frame.number ++ codes " at " ++ decimal frame.at
+unfoldable pub frame_words : (number at : ℕ) → List ℕ
+frame_words number at = codes "frame " ++ decimal number ++ codes " at " ++ decimal at
 
 -- frame I at SYMBOL VERDICT cost C
 unfoldable pub shown_line : Frame → ℤ → List ℕ
-shown_line frame cost = frame_words frame ++ codes " " ++ verdict_word frame.verdict ++ codes " cost " ++ signed_decimal cost ++ codes "\n"
+shown_line frame cost = frame_words frame.number frame.at ++ codes " " ++ verdict_word frame.verdict ++ codes " cost " ++ signed_decimal cost ++ codes "\n"
 
--- frame I at SYMBOL REASON
-unfoldable pub failed_line : Frame → Reason → List ℕ
-failed_line frame reason = frame_words frame ++ codes " " ++ reason_text reason ++ codes "\n"
+-- the same if the bits have a certificate
+abbrev pub cost_text : Frame → Option ℤ → List ℕ
+cost_text frame None = []
+cost_text frame (Some cost) = shown_line frame cost
 
--- certificates are left over
-abbrev pub left_over_line : List ℕ
-left_over_line = codes "certificates left over\n"
+-- ---- what ends an audit with exit 2
+
+-- the text of each reason
+abbrev pub reason_text : Reason → List ℕ
+reason_text reasons.NoCertificate = codes "no certificate"
+reason_text reasons.NoCodeword = codes "no codeword"
+reason_text reasons.OtherWord = codes "other word"
+reason_text reasons.OtherValues = codes "other values"
+reason_text reasons.NotAccepted = codes "not accepted"
+
+-- report line L: expected
+unfoldable pub line_words : (line : ℕ) → List ℕ
+line_words line = codes "report line " ++ decimal line ++ codes ": expected "
+
+-- packet P: expected
+unfoldable pub packet_words : (number : ℕ) → List ℕ
+packet_words number = codes "packet " ++ decimal number ++ codes ": expected "
+
+-- a packet in small hexadecimal digits, two for each byte
+abbrev pub hex_of : (packet : List ℕ) → List ℕ
+hex_of packet = encode_lower packet
+
+-- what a difference is in, or the words before what is expected
+abbrev pub front_words : Difference → List ℕ
+front_words (differences.Frame number at reason) = frame_words number at
+front_words (differences.Line line step totals) = line_words line
+front_words (differences.NoFrame line number at) = line_words line
+front_words (differences.Count line frames) = line_words line
+front_words (differences.MoreLines line) = line_words line
+front_words (differences.Packet number place) = packet_words number
+front_words (differences.MorePackets number) = packet_words number
+front_words differences.MoreCertificates = codes "certificates"
+front_words differences.MoreCodewords = codes "codewords"
+
+-- the words after these; a difference in a packet shows the packet
+abbrev pub back_words : Difference → List ℕ
+back_words (differences.Frame number at reason) = codes " " ++ reason_text reason ++ codes "\n"
+back_words (differences.Line line step totals) = step_line step totals
+back_words (differences.NoFrame line number at) = frame_words number at ++ codes "\n"
+back_words (differences.Count line frames) = codes "end frames " ++ decimal frames ++ codes "\n"
+back_words (differences.MoreLines line) = codes "no more\n"
+back_words (differences.Packet number place) = []
+back_words (differences.MorePackets number) = codes "no more\n"
+back_words differences.MoreCertificates = codes " left over\n"
+back_words differences.MoreCodewords = codes " left over\n"
+
+-- The line of a difference. The packet of one is among these packets
+abbrev pub difference_line : (packets : List ℕ) → Difference → List ℕ
+difference_line packets (differences.Packet number place) = packet_words number ++ hex_of (packet_at packets place) ++ codes "\n"
+difference_line packets difference = front_words difference ++ back_words difference
+
+-- ---- the last line
 
 -- audit frames F
 unfoldable pub frames_words : Counts → List ℕ
@@ -35,6 +90,10 @@ sole_words counts = codes " sole " ++ decimal counts.sole
 unfoldable pub likely_words : Counts → List ℕ
 likely_words counts = codes " most-likely " ++ decimal counts.most_likely
 
--- audit frames F sole A most-likely B
+-- unchecked U
+unfoldable pub unchecked_words : Counts → List ℕ
+unchecked_words counts = codes " unchecked " ++ decimal counts.unchecked
+
+-- audit frames F sole A most-likely B unchecked U
 unfoldable pub end_line : Counts → List ℕ
-end_line counts = frames_words counts ++ sole_words counts ++ likely_words counts ++ codes "\n"
+end_line counts = frames_words counts ++ sole_words counts ++ likely_words counts ++ unchecked_words counts ++ codes "\n"

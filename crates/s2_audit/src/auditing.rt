@@ -1,141 +1,177 @@
-//! The loop over the lines of a report.
-ghost use Rattle.std.specs.Prelude.{◌≡◌, ◌≢◌, ◌⊎◌, ◌+◌, ◌^◌, ◌<◌, Err};
+//! The loop over the things of a recording.
+ghost use Rattle.std.specs.Prelude.{◌≡◌, ◌≢◌, ◌⊎◌, ◌+◌, ◌^◌, ◌<◌, Err, IfOk, None};
 ghost use Rattle.s2_mode.specs.Counts.{CanCount};
-ghost use Rattle.s2_audit.specs.Auditors.{no_reach};
-ghost use Rattle.s2_audit.specs.Outcomes.{HasOutcome, evidence_by, standing};
-ghost use Rattle.s2_audit.specs.Auditing.{AuditsToEnd, LineIs, PrintsOutcome, ReachesLimit};
+ghost use Rattle.s2_receive.specs.Receiving.{begun};
+ghost use Rattle.s2_replay.specs.Replayers.{IsSameReplayer};
+ghost use Rattle.s2_replay.specs.Running.{IsBy, IsStuck};
+ghost use Rattle.s2_audit.specs.Audits.{AuditsAll, ReachesLimit};
+ghost use Rattle.s2_audit.specs.Evidences.{count_if};
+ghost use Rattle.s2_audit.specs.FrameAnswers.{terms_by};
+ghost use Rattle.s2_audit.specs.Steps.{IsPlaced, OutcomeIs, StepIs};
+ghost use Rattle.s2_audit.specs.Turns.{FailedOnce, SameFailures, ends_by, failures_by};
 
-use crate::auditor::Auditor;
 use crate::counts::Counts;
+use crate::frame::FrameAuditor;
 use crate::limits::MAX_LINES;
-use crate::outcome::{Outcome, count_entry, end_outcome, entry_outcome};
+use crate::place::{Place, Standing};
+use crate::printing::print_turn;
+use crate::rest::find_rest;
+use crate::turn::{Turn, audit_next};
 use s2_io::{Exit, Fault};
-use s2_mode::{CountedRead, CountedWrite, write_full};
-use s2_report::next_entry;
+use s2_mode::{CountedRead, CountedWrite};
 use std::alloc::Global;
 
-/// Audits the line with this number: reads it, and for a certified frame its certificate and its symbols.
-fn outcome<R: CountedRead>(
+/// Audits the next thing; with the end also what is left of the files.
+fn audit_turn<R: CountedRead>(
     alloc: Global,
-    auditor: &mut Auditor<'_>,
-    number: u64,
-    counts: &mut Counts,
-    report: &mut R,
+    auditor: &mut FrameAuditor<'_>,
+    place: Place,
     symbols: &mut R,
-    certificates: &mut R,
-) -> Result<Outcome, Fault<'static>>
-    requires report { CanCount (R.count report.old) }
-    requires symbols { CanCount (R.count symbols.old) }
-    requires certificates { CanCount (R.count certificates.old) }
-    requires few { (counts.old.frames < 2 ^ 62) × (counts.old.sole < 2 ^ 62) × (counts.old.most_likely < 2 ^ 62) }
-    ensures outcomes { let ends = evidence_by R.remaining in HasOutcome auditor.old.terms number (standing auditor.old.reach counts.old) (standing auditor.new.reach counts.new)
-        (R.remaining report.old) (R.remaining report.new) (ends symbols.old certificates.old) (ends symbols.new certificates.new) result }
-    ensures terms { auditor.new.terms ≡ auditor.old.terms }
-    ensures read { result ≡ Err Fault.Read → R.count report.new + R.count symbols.new + R.count certificates.new ≡ R.count report.old + R.count symbols.old + R.count certificates.old + 1 }
-    ensures no_read { result ≢ Err Fault.Read → (R.count report.new ≡ R.count report.old) × (R.count symbols.new ≡ R.count symbols.old) × (R.count certificates.new ≡ R.count certificates.old) }
-{
-    match next_entry(report, number) {
-        Err(fault) => Err(fault),
-        Ok(None) => end_outcome(*counts, certificates),
-        Ok(Some(entry)) => {
-            *counts = count_entry(*counts, entry);
-            entry_outcome(alloc, auditor, entry, symbols, certificates)
-        }
-    }
-}
-
-/// Prints the outcome of a report line, and returns the exit if the audit ends with it.
-fn print_outcome<O: CountedWrite>(
-    outcome: Outcome,
-    out: &mut O,
-) -> Result<Option<Exit>, Fault<'static>>
-    requires { CanCount (O.count out.old) }
-    ensures prints { PrintsOutcome outcome (O.contents out.old) (O.contents out.new) result }
-    ensures write { result ≡ Err Fault.Write → O.count out.new ≡ O.count out.old + 1 }
-    ensures no_write { result ≢ Err Fault.Write → O.count out.new ≡ O.count out.old }
-{
-    match outcome {
-        Outcome::Silent => Ok(None),
-        Outcome::Shown(line) => match write_full(out, line.as_bytes()) {
-            Ok(()) => Ok(None),
-            Err(_) => Err(Fault::Write),
-        },
-        Outcome::Ended(printed) => match printed.print(out) {
-            Ok(exit) => Ok(Some(exit)),
-            Err(fault) => Err(fault),
-        },
-    }
-}
-
-/// Audits a report line, and prints the outcome.
-fn audit_line<R: CountedRead, O: CountedWrite>(
-    alloc: Global,
-    auditor: &mut Auditor<'_>,
-    number: u64,
-    counts: &mut Counts,
     report: &mut R,
-    symbols: &mut R,
     certificates: &mut R,
-    out: &mut O,
-) -> Result<Option<Exit>, Fault<'static>>
-    requires report { CanCount (R.count report.old) }
+    codewords: &mut Option<R>,
+    packets: &mut Option<R>,
+) -> Result<Turn, Fault<'static>>
     requires symbols { CanCount (R.count symbols.old) }
+    requires report { CanCount (R.count report.old) }
     requires certificates { CanCount (R.count certificates.old) }
-    requires out { CanCount (O.count out.old) }
-    requires few { (counts.old.frames < 2 ^ 62) × (counts.old.sole < 2 ^ 62) × (counts.old.most_likely < 2 ^ 62) }
-    ensures line { let ends = evidence_by R.remaining in LineIs auditor.old.terms number (standing auditor.old.reach counts.old) (standing auditor.new.reach counts.new)
-        (R.remaining report.old) (R.remaining report.new) (ends symbols.old certificates.old) (ends symbols.new certificates.new) (O.contents out.old) (O.contents out.new) result }
-    ensures terms { auditor.new.terms ≡ auditor.old.terms }
-    ensures read { result ≡ Err Fault.Read → R.count report.new + R.count symbols.new + R.count certificates.new ≡ R.count report.old + R.count symbols.old + R.count certificates.old + 1 }
-    ensures no_read { result ≢ Err Fault.Read → (R.count report.new ≡ R.count report.old) × (R.count symbols.new ≡ R.count symbols.old) × (R.count certificates.new ≡ R.count certificates.old) }
-    ensures write { result ≡ Err Fault.Write → O.count out.new ≡ O.count out.old + 1 }
-    ensures no_write { result ≢ Err Fault.Write → O.count out.new ≡ O.count out.old }
+    requires codewords { CanCount (count_if R.count codewords.old) }
+    requires packets { CanCount (count_if R.count packets.old) }
+    requires none { auditor.old.replayer.follower.found ≡ None }
+    requires by { IsBy (terms_by auditor.old) auditor.old.replayer.follower }
+    requires line { place.line < 2 ^ 63 }
+    ensures turns { let ends = ends_by R.remaining in OutcomeIs (terms_by auditor.old) (ends symbols.old report.old certificates.old codewords.old packets.old)
+        (ends symbols.new report.new certificates.new codewords.new packets.new) auditor.old.replayer.follower auditor.new.replayer.follower place result }
+    ensures placed { IfOk result (IsPlaced auditor.new.replayer.follower.packets) }
+    ensures rows { auditor.new.rows ≡ auditor.old.rows }
+    ensures same { IsSameReplayer auditor.old.replayer auditor.new.replayer }
+    ensures read { let failures = failures_by R.count in result ≡ Err Fault.Read → FailedOnce (failures symbols.old report.old certificates.old codewords.old packets.old)
+        (failures symbols.new report.new certificates.new codewords.new packets.new) (IsStuck auditor.new.replayer.follower) }
+    ensures no_read { let failures = failures_by R.count in result ≢ Err Fault.Read → SameFailures (failures symbols.old report.old certificates.old codewords.old packets.old)
+        (failures symbols.new report.new certificates.new codewords.new packets.new) }
 {
-    match outcome(
+    match audit_next(
         alloc,
         auditor,
-        number,
-        counts,
-        report,
+        place,
         symbols,
+        report,
         certificates,
-    ) {
-        Err(fault) => Err(fault),
-        Ok(outcome) => print_outcome(outcome, out),
+        codewords,
+        packets,
+    )? {
+        Turn::End => {
+            let behind = Place {
+                line: place.line + 1,
+                ..place
+            };
+            match find_rest(behind, report, certificates, codewords, packets)? {
+                Some(difference) => Ok(Turn::Differs(difference)),
+                None => Ok(Turn::End),
+            }
+        }
+        turn => Ok(turn),
     }
 }
 
-/// Audits all lines of a report, and returns the exit. `Read`: a read failed, or [`MAX_LINES`] lines came.
-pub(crate) fn audit_lines<R: CountedRead, O: CountedWrite>(
+/// Audits the next thing after so many lines, and prints what it says. The exit, if the audit ends with it.
+fn audit_step<R: CountedRead, O: CountedWrite>(
     alloc: Global,
-    auditor: &mut Auditor<'_>,
-    report: &mut R,
+    auditor: &mut FrameAuditor<'_>,
+    lines: u64,
+    standing: &mut Standing,
     symbols: &mut R,
+    report: &mut R,
     certificates: &mut R,
+    codewords: &mut Option<R>,
+    packets: &mut Option<R>,
     out: &mut O,
-) -> Result<Exit, Fault<'static>>
-    requires report { CanCount (R.count report.old) }
+) -> Result<Option<Exit>, Fault<'static>>
     requires symbols { CanCount (R.count symbols.old) }
+    requires report { CanCount (R.count report.old) }
     requires certificates { CanCount (R.count certificates.old) }
+    requires codewords { CanCount (count_if R.count codewords.old) }
+    requires packets { CanCount (count_if R.count packets.old) }
     requires out { CanCount (O.count out.old) }
-    requires reach { auditor.old.reach ≡ no_reach }
-    ensures audits { let ends = evidence_by R.remaining in AuditsToEnd auditor.old.terms (R.remaining report.old) (R.remaining report.new)
-        (ends symbols.old certificates.old) (ends symbols.new certificates.new) (O.contents out.old) (O.contents out.new) result }
-    ensures read { result ≡ Err Fault.Read → (R.count report.new + R.count symbols.new + R.count certificates.new ≡ R.count report.old + R.count symbols.old + R.count certificates.old + 1) ⊎ ReachesLimit (R.remaining report.old) (R.remaining report.new) }
-    ensures no_read { result ≢ Err Fault.Read → (R.count report.new ≡ R.count report.old) × (R.count symbols.new ≡ R.count symbols.old) × (R.count certificates.new ≡ R.count certificates.old) }
+    requires none { auditor.old.replayer.follower.found ≡ None }
+    requires by { IsBy (terms_by auditor.old) auditor.old.replayer.follower }
+    requires lines { lines < 2 ^ 62 }
+    requires few { (standing.old.counts.frames < 2 ^ 62) × (standing.old.counts.sole < 2 ^ 62) × (standing.old.counts.most_likely < 2 ^ 62) × (standing.old.counts.unchecked < 2 ^ 62) }
+    ensures step { let ends = ends_by R.remaining in StepIs (terms_by auditor.old) (ends symbols.old report.old certificates.old codewords.old packets.old)
+        (ends symbols.new report.new certificates.new codewords.new packets.new) auditor.old.replayer.follower auditor.new.replayer.follower lines standing.old standing.new (O.contents out.old) (O.contents out.new) result }
+    ensures rows { auditor.new.rows ≡ auditor.old.rows }
+    ensures same { IsSameReplayer auditor.old.replayer auditor.new.replayer }
+    ensures read { let failures = failures_by R.count in result ≡ Err Fault.Read → FailedOnce (failures symbols.old report.old certificates.old codewords.old packets.old)
+        (failures symbols.new report.new certificates.new codewords.new packets.new) (IsStuck auditor.new.replayer.follower) }
+    ensures no_read { let failures = failures_by R.count in result ≢ Err Fault.Read → SameFailures (failures symbols.old report.old certificates.old codewords.old packets.old)
+        (failures symbols.new report.new certificates.new codewords.new packets.new) }
     ensures write { result ≡ Err Fault.Write → O.count out.new ≡ O.count out.old + 1 }
     ensures no_write { result ≢ Err Fault.Write → O.count out.new ≡ O.count out.old }
 {
-    let mut counts = Counts::none();
+    let place = standing.place(lines);
+    match audit_turn(
+        alloc,
+        auditor,
+        place,
+        symbols,
+        report,
+        certificates,
+        codewords,
+        packets,
+    ) {
+        Ok(turn) => {
+            let counts = standing.counts;
+            *standing = standing.after(auditor.packets(), turn);
+            print_turn(out, turn, counts, auditor.packets())
+        }
+        Err(fault) => Err(fault),
+    }
+}
+
+/// Audits a whole report, and returns the exit. `Read`: a read failed, [`MAX_LINES`] lines came, or the limit of symbols was reached.
+pub(crate) fn audit_report<R: CountedRead, O: CountedWrite>(
+    alloc: Global,
+    auditor: &mut FrameAuditor<'_>,
+    symbols: &mut R,
+    report: &mut R,
+    certificates: &mut R,
+    codewords: &mut Option<R>,
+    packets: &mut Option<R>,
+    out: &mut O,
+) -> Result<Exit, Fault<'static>>
+    requires symbols { CanCount (R.count symbols.old) }
+    requires report { CanCount (R.count report.old) }
+    requires certificates { CanCount (R.count certificates.old) }
+    requires codewords { CanCount (count_if R.count codewords.old) }
+    requires packets { CanCount (count_if R.count packets.old) }
+    requires out { CanCount (O.count out.old) }
+    requires begun { auditor.old.replayer.follower.state ≡ begun }
+    requires none { auditor.old.replayer.follower.found ≡ None }
+    requires by { IsBy (terms_by auditor.old) auditor.old.replayer.follower }
+    ensures audits { let ends = ends_by R.remaining in AuditsAll (terms_by auditor.old) (ends symbols.old report.old certificates.old codewords.old packets.old)
+        (ends symbols.new report.new certificates.new codewords.new packets.new) (O.contents out.old) (O.contents out.new) result }
+    ensures read { let ends = ends_by R.remaining in let failures = failures_by R.count in result ≡ Err Fault.Read → FailedOnce (failures symbols.old report.old certificates.old codewords.old packets.old)
+        (failures symbols.new report.new certificates.new codewords.new packets.new) (ReachesLimit (ends symbols.old report.old certificates.old codewords.old packets.old) (ends symbols.new report.new certificates.new codewords.new packets.new)) }
+    ensures no_read { let failures = failures_by R.count in result ≢ Err Fault.Read → SameFailures (failures symbols.old report.old certificates.old codewords.old packets.old)
+        (failures symbols.new report.new certificates.new codewords.new packets.new) }
+    ensures write { result ≡ Err Fault.Write → O.count out.new ≡ O.count out.old + 1 }
+    ensures no_write { result ≢ Err Fault.Write → O.count out.new ≡ O.count out.old }
+{
+    let mut standing = Standing {
+        counts: Counts::none(),
+        bytes: 0,
+    };
     'lines: for line in 0..MAX_LINES {
-        match audit_line(
+        match audit_step(
             alloc,
             auditor,
-            line + 1,
-            &mut counts,
-            report,
+            line,
+            &mut standing,
             symbols,
+            report,
             certificates,
+            codewords,
+            packets,
             out,
         ) {
             Ok(None) => {}

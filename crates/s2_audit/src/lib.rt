@@ -1,29 +1,37 @@
-//! `audit`: checks the certificates of a receiver's report, without a decoder.
+//! `audit`: makes a receiver's report again, without a decoder, and compares it.
 //!
-//! A receiver prints a line for each frame, with its verdict, and can write a certificate for each frame that it calls
-//! sole or most likely. [`audit_command`] reads the report line by line, and for each such frame the next certificate.
-//! It finds the frame's symbols in the recording, and from them the soft values as the receiver does. The certificate
-//! must have exactly these, and the checker of `s2_check` must accept it, strictly if the frame is called sole. Then the
-//! bits of the certificate are as likely as the report says, whatever decoder found them.
+//! A receiver prints a line for each frame, with its verdict, and can write a certificate for each frame that it calls sole or
+//! most-likely, the decided word of each frame, and packets. [`audit_command`] runs the receiver's own loop over the recording
+//! (`s2_replay`), with the decided bits of these files in place of a decoder. So it makes each line and each packet itself, and compares
+//! them with the report and the packets. The checker of `s2_check` must accept the certificate of a frame, over exactly the soft values
+//! (LLRs) of the frame that is found.
 //!
-//! One line, one frame and one certificate are in memory at a time.
+//! `specs/Turns.antt` says what an accepted audit means (`IsFine`), over the receiver's definition (`IsReplay` of `s2_replay`).
+//! `specs/Differences.antt` says what else is found, and `specs/Lines.antt` what is printed. [`How`] has the options of the reception.
+//!
+//! One line, one frame, one certificate and one codeword are in memory at a time.
 //!
 //! ```text
-//! let exit = audit_command(alloc, setup, how, &mut rows, &mut symbols, &mut report, &mut certificates, &mut console);
+//! let how = How { options, max_header_errors, resync };
+//! let exit = audit_command(alloc, setup, how, &mut rows, &mut symbols, &mut report, &mut certificates, &mut codewords, &mut packets, &mut console);
 //! ```
 #![tactic(auto)]
 
 mod auditing;
-mod auditor;
 mod command;
 mod counts;
-mod demodulation;
-mod judging;
+mod difference;
+mod evidence;
+mod frame;
+mod how;
 pub mod laws;
 mod limits;
 mod lines;
-mod outcome;
+mod place;
+mod printing;
+mod rest;
+mod turn;
 
 pub use command::audit_command;
-pub use demodulation::Demodulation;
+pub use how::How;
 pub use limits::MAX_LINES;

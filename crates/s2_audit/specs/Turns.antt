@@ -1,0 +1,219 @@
+-- What was audited so far: frames, what shows their decisions, and the lines of the report (own).
+use Rattle.std.specs.Prelude.{◌≡◌, ◌⊎◌, ℕ, ◌+◌, ◌&&◌, nat_eq, Bool, true, false, if◌then◌else◌, List, [], ◌∷◌, ◌++◌, All, length, map, count_by, Option, Some, None, Result, Ok, Err, option_map, is_some, ⊤}
+use Rattle.std.specs.List.{flat_map}
+use Rattle.std.specs.Io.KnownBytes.{Consumes, IsAtEnd}
+use Rattle.s2_mode.specs.Mode.{n_of}
+use Rattle.s2_check.specs.Cost.{cost}
+use Rattle.s2_check.specs.Views.{View}
+use Rattle.s2_check.specs.declared.verdict.Verdict.{Verdict}
+use Rattle.s2_check.specs.declared.verdict.Verdict.TheVariants as verdicts
+use Rattle.s2_report.specs.Entries.{entry_in, text_of}
+use Rattle.s2_report.specs.declared.entry.Entry.{Entry}
+use Rattle.s2_report.specs.declared.entry.Entry.TheVariants as entries
+use Rattle.s2_receive.specs.Halves.{Follower}
+use Rattle.s2_receive.specs.Receiving.{Decision}
+use Rattle.s2_receive.specs.declared.report.Phase.TheVariants as phases
+use Rattle.s2_replay.specs.Auditing.{AuditedFrames, AuditedSoFar, ReplaysIn}
+use Rattle.s2_replay.specs.Frames.{IsShownBy, cost_of}
+use Rattle.s2_replay.specs.Replay.{Terms, is_known}
+use Rattle.s2_audit.specs.Evidences.{Evidence, IsGiven, IsOverIf, IsWordOf, ReadsIf, Takes, bytes_of, count_if, evidence_by}
+use Rattle.s2_audit.specs.Lines.{shown_line}
+use Rattle.s2_audit.specs.declared.counts.Counts.{Counts}
+use Rattle.s2_audit.specs.declared.turn.Told.{Told}
+
+-- ---- the files
+
+-- the unread bytes of the files of an audit, if they are known; codewords and packets may not be given
+pub record Ends : Type 0 where
+  pub symbols : Option (List ℕ)
+  pub report : Option (List ℕ)
+  pub evidence : Evidence
+  pub packets : Option (Option (List ℕ))
+
+-- those of five readers
+abbrev pub ends_by : {R : Type 0} → (R → Option (List ℕ)) → (symbols report certificates : R) → (codewords packets : Option R) → Ends
+ends_by remaining symbols report certificates codewords packets =
+    record { symbols = remaining symbols; report = remaining report; evidence = evidence_by remaining certificates codewords; packets = option_map remaining packets }
+
+-- how many calls of each of them have failed
+pub record Failures : Type 0 where
+  pub symbols : ℕ
+  pub report : ℕ
+  pub certificates : ℕ
+  pub codewords : ℕ
+  pub packets : ℕ
+
+-- those of five readers
+abbrev pub failures_by : {R : Type 0} → (R → ℕ) → (symbols report certificates : R) → (codewords packets : Option R) → Failures
+failures_by count symbols report certificates codewords packets =
+    record { symbols = count symbols; report = count report; certificates = count certificates; codewords = count_if count codewords; packets = count_if count packets }
+
+-- all of them
+abbrev pub total : Failures → ℕ
+total f = f.symbols + f.report + f.certificates + f.codewords + f.packets
+
+-- no call failed
+abbrev pub SameFailures : (old new : Failures) → Type 0
+SameFailures old new =
+    (new.symbols ≡ old.symbols) × (new.report ≡ old.report) × (new.certificates ≡ old.certificates) × (new.codewords ≡ old.codewords) × (new.packets ≡ old.packets)
+
+-- one call failed, or none did and this holds
+abbrev pub FailedOnce : (old new : Failures) → Type 0 → Type 0
+FailedOnce old new other = (total new ≡ total old + 1) ⊎ (SameFailures old new × other)
+
+-- ---- frames
+
+-- a frame of the receiver's loop: the decision on it, its line in the report, the bytes of its certificate, and those of its record
+-- of the codeword, if it has them
+pub record Shown : Type 0 where
+  pub decision : Decision
+  pub line : List ℕ
+  pub block : Option (List ℕ)
+  pub packed : Option (List ℕ)
+
+-- the decision has the certificate in these bytes, or none; and if codewords are given, the bits of the record
+pub record IsShown (t : Terms) (given : Bool) (s : Shown) : Type 0 where
+  pub certificate : IsShownBy t.rows s.decision s.block
+  pub codeword : IsGiven (n_of t.mode) given s.packed
+  pub word : IsWordOf s.packed s.decision.bits
+
+-- what is printed of a frame: its line with the cost of its bits, if it has a certificate
+abbrev pub told_by : Option View → Option Entry → List ℕ
+told_by (Some view) (Some (entries.Frame frame)) = shown_line frame (cost view.soft view.bits)
+told_by certificate entry = []
+
+abbrev pub told_line : Shown → List ℕ
+told_line s = told_by s.decision.certificate (entry_in s.line)
+
+-- of all of them
+abbrev pub told_lines : List Shown → List ℕ
+told_lines frames = flat_map told_line frames
+
+-- their decisions, and their lines in the report
+abbrev pub decisions_of : List Shown → List Decision
+decisions_of frames = map (λ s. s.decision) frames
+
+abbrev pub lines_of : List Shown → List (List ℕ)
+lines_of frames = map (λ s. s.line) frames
+
+-- ---- counts
+
+-- a verdict is sole
+abbrev pub is_sole : Verdict → Bool
+is_sole verdicts.Sole = true
+is_sole verdict = false
+
+-- a verdict is most-likely
+abbrev pub is_most_likely : Verdict → Bool
+is_most_likely verdicts.MostLikely = true
+is_most_likely verdict = false
+
+-- the bits are not known: the frame is taken on the report's word
+abbrev pub is_unchecked : Bool → Bool
+is_unchecked known = if known then false else true
+
+-- the frames, those of them that are sole or most likely, and those that are unchecked
+abbrev pub counts_of : List Shown → Counts
+counts_of frames = record {
+  frames = count_by (λ s. true) frames;
+  sole = count_by (λ s. is_sole s.decision.verdict) frames;
+  most_likely = count_by (λ s. is_most_likely s.decision.verdict) frames;
+  unchecked = count_by (λ s. is_unchecked (is_known s.decision)) frames;
+}
+
+-- the counts with those of one more frame
+abbrev pub counted : Counts → Verdict → (known : Bool) → Counts
+counted counts verdict known = record {
+  frames = counts.frames + 1;
+  sole = counts.sole + (if is_sole verdict then 1 else 0);
+  most_likely = counts.most_likely + (if is_most_likely verdict then 1 else 0);
+  unchecked = counts.unchecked + (if is_unchecked known then 1 else 0);
+}
+
+-- no frame is unchecked
+abbrev pub all_known : Counts → Bool
+all_known counts = nat_eq counts.unchecked 0
+
+-- ---- what was read
+
+-- these lines of the report were read, what shows each frame, and these packets
+pub record Reads (t : Terms) (old new : Ends) (frames : List Shown) (lines : List (List ℕ)) (packets : List ℕ) : Type 0 where
+  pub report : Consumes old.report new.report (text_of lines)
+  pub each : All (IsShown t (is_some old.evidence.codewords)) frames
+  pub certificates : Consumes old.evidence.certificates new.evidence.certificates (flat_map (λ s. bytes_of s.block) frames)
+  pub codewords : ReadsIf old.evidence.codewords new.evidence.codewords (flat_map (λ s. bytes_of s.packed) frames)
+  pub packets_are : ReadsIf old.packets new.packets packets
+
+-- the first lines of the report are those of the frames
+abbrev pub BeginWith : (lines : List (List ℕ)) → List Shown → Type 0
+BeginWith lines frames = (rest : List (List ℕ)) × (lines ≡ lines_of frames ++ rest)
+
+-- ---- so far
+
+-- more frames may come; or a cut frame came
+abbrev pub RanSoFar : Terms → (whole left : Option (List ℕ)) → Follower → List Shown → (lines : List (List ℕ)) → (packets : List ℕ) → Type 0
+RanSoFar t whole left f frames lines packets =
+    ((lines ≡ lines_of frames) × AuditedSoFar t whole left f (all_known (counts_of frames)) (decisions_of frames) lines packets)
+    ⊎ ((f.state.phase ≡ phases.Closing) × AuditedFrames t whole left f (all_known (counts_of frames)) (decisions_of frames) lines packets)
+
+-- What was audited so far. The receiver's loop has come to this follower by the decisions on these frames. These lines of the report
+-- are its own, and the files have what shows the decisions, and the packets
+pub record Audited (t : Terms) (old new : Ends) (f : Follower) (frames : List Shown) (lines : List (List ℕ)) (packets : List ℕ) : Type 0 where
+  pub ran : RanSoFar t old.symbols new.symbols f frames lines packets
+  pub begin : BeginWith lines frames
+  pub reads : Reads t old new frames lines packets
+
+-- all was audited: report and packets are those of the receiver on the recording, by these decisions
+pub record Replayed (t : Terms) (old new : Ends) (frames : List Shown) (lines : List (List ℕ)) (packets : List ℕ) : Type 0 where
+  pub replays : ReplaysIn t old.symbols (decisions_of frames) lines packets
+  pub begin : BeginWith lines frames
+  pub reads : Reads t old new frames lines packets
+
+-- and nothing is left over
+pub record IsFine (t : Terms) (old new : Ends) (frames : List Shown) (lines : List (List ℕ)) (packets : List ℕ) : Type 0 where
+  pub replayed : Replayed t old new frames lines packets
+  pub report : IsAtEnd new.report
+  pub certificates : IsAtEnd new.evidence.certificates
+  pub codewords : IsOverIf new.evidence.codewords
+  pub packets_end : IsOverIf new.packets
+
+-- ---- one thing more
+
+-- a frame was audited, but for its packets: its line is the receiver's own, and it is shown
+pub record TellsLine (t : Terms) (old new : Ends) (f f' : Follower) (s : Shown) : Type 0 where
+  pub goes : (whole : Option (List ℕ)) (known : Bool) (decisions : List Decision) (lines : List (List ℕ)) (packets : List ℕ)
+      → AuditedSoFar t whole old.symbols f known decisions lines packets
+      → AuditedSoFar t whole new.symbols f' (known && is_known s.decision) (decisions ++ s.decision ∷ []) (lines ++ s.line ∷ []) (packets ++ f'.packets)
+  pub open_ : f.state.phase ≡ phases.Closing → ⊥
+  pub none : f'.found ≡ None
+  pub report : Consumes old.report new.report (s.line ++ 10 ∷ [])
+  pub takes : Takes (n_of t.mode) old.evidence new.evidence s.block s.packed
+  pub certificate : IsShownBy t.rows s.decision s.block
+  pub word : IsWordOf s.packed s.decision.bits
+
+-- a told frame is this one
+pub record IsTold (s : Shown) (told : Told) : Type 0 where
+  pub verdict : s.decision.verdict ≡ told.verdict
+  pub known : is_known s.decision ≡ told.known
+  pub paid : told.cost ≡ cost_of s.decision.certificate
+  pub entry : entry_in s.line ≡ Some (entries.Frame told.frame)
+
+-- of the files only these two were read
+pub record OnlyLine (old new : Ends) (line : List ℕ) : Type 0 where
+  pub report : Consumes old.report new.report (line ++ 10 ∷ [])
+  pub evidence : new.evidence ≡ old.evidence
+  pub packets : new.packets ≡ old.packets
+
+-- a cut frame was audited
+pub record TellsCut (t : Terms) (old new : Ends) (f f' : Follower) (known : Bool) (line : List ℕ) : Type 0 where
+  pub goes : (whole : Option (List ℕ)) (decisions : List Decision) (lines : List (List ℕ)) (packets : List ℕ)
+      → AuditedFrames t whole old.symbols f known decisions lines packets → AuditedFrames t whole new.symbols f' known decisions (lines ++ line ∷ []) packets
+  pub closes : f'.state.phase ≡ phases.Closing
+  pub none : f'.found ≡ None
+  pub only : OnlyLine old new line
+
+-- the end was audited
+pub record TellsEnd (t : Terms) (old new : Ends) (f : Follower) (known : Bool) (line : List ℕ) : Type 0 where
+  pub goes : (whole : Option (List ℕ)) (decisions : List Decision) (lines : List (List ℕ)) (packets : List ℕ)
+      → AuditedFrames t whole old.symbols f known decisions lines packets → ReplaysIn t whole decisions (lines ++ line ∷ []) packets
+  pub only : OnlyLine old new line

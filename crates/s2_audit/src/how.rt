@@ -1,0 +1,13 @@
+//! How a report was made.
+
+use s2_message::FrameOptions;
+use s2_plframe::HeaderTolerance;
+
+/// How a report was made: how its frames were read, the limit of wrong header bits right after a frame, and whether the symbols of
+/// lost frames were searched again, so that a frame may begin inside an earlier one.
+#[derive(Clone, Copy)]
+pub struct How {
+    pub options: FrameOptions,
+    pub max_header_errors: HeaderTolerance,
+    pub resync: bool,
+}

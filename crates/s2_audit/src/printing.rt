@@ -1,0 +1,171 @@
+//! What an audit prints.
+ghost use Rattle.std.specs.Prelude.{◌≡◌, ◌≢◌, ◌+◌, ◌*◌, ◌≤◌, ◌<◌, ◌++◌, Err, codes, length};
+ghost use Rattle.s2_bbframe.specs.Limits.{packet_bytes};
+ghost use Rattle.s2_mode.specs.Counts.{CanCount};
+ghost use Rattle.s2_replay.specs.Packets.{packet_at};
+ghost use Rattle.s2_audit.specs.Lines.{back_words, difference_line, front_words, hex_of, packet_words};
+ghost use Rattle.s2_audit.specs.Steps.{IsPlaced, PrintsText, PrintsTurn, told_text};
+ghost use Rattle.s2_audit.specs.declared.turn.Turn.TheVariants as turns;
+
+use crate::counts::Counts;
+use crate::difference::Difference;
+use crate::lines::{
+    count_end, end_line, frame_end, frame_words, line_words, packet_words, reason_end, shown_line,
+    text_line,
+};
+use crate::turn::{Told, Turn};
+use s2_bbframe::PACKET_BYTES;
+use s2_io::{Exit, Fault, Line};
+use s2_mode::{CountedWrite, write_full};
+use s2_report::line_of;
+
+/// Prints a text.
+fn print_text<O: CountedWrite>(out: &mut O, text: &[u8]) -> Result<(), Fault<'static>>
+    requires { CanCount (O.count out.old) }
+    ensures prints { PrintsText text.now (O.contents out.old) (O.contents out.new) result }
+    ensures write { result ≡ Err Fault.Write → O.count out.new ≡ O.count out.old + 1 }
+    ensures no_write { result ≢ Err Fault.Write → O.count out.new ≡ O.count out.old }
+{
+    match write_full(out, text) {
+        Ok(()) => Ok(()),
+        Err(_) => Err(Fault::Write),
+    }
+}
+
+/// Prints a text in two parts.
+fn print_both<O: CountedWrite>(out: &mut O, front: &[u8], back: &[u8]) -> Result<(), Fault<'static>>
+    requires { CanCount (O.count out.old) }
+    ensures prints { PrintsText (front.now ++ back.now) (O.contents out.old) (O.contents out.new) result }
+    ensures write { result ≡ Err Fault.Write → O.count out.new ≡ O.count out.old + 1 }
+    ensures no_write { result ≢ Err Fault.Write → O.count out.new ≡ O.count out.old }
+{
+    print_text(out, front)?;
+    print_text(out, back)
+}
+
+/// Prints the packet that is expected, of at most 188 bytes, after these words.
+fn print_packet<O: CountedWrite>(
+    out: &mut O,
+    words: &[u8],
+    packet: &[u8],
+) -> Result<(), Fault<'static>>
+    requires out { CanCount (O.count out.old) }
+    requires packet { length packet.now ≤ packet_bytes }
+    ensures prints { PrintsText (words.now ++ hex_of packet.now ++ codes "\n") (O.contents out.old) (O.contents out.new) result }
+    ensures write { result ≡ Err Fault.Write → O.count out.new ≡ O.count out.old + 1 }
+    ensures no_write { result ≢ Err Fault.Write → O.count out.new ≡ O.count out.old }
+{
+    let mut room = [0u8; 2 * PACKET_BYTES];
+    let (digits, _) = room.split_at_mut(2 * packet.len());
+    hex::encode_to_slice(packet, digits).unwrap();
+    print_text(out, words)?;
+    print_both(out, digits, b"\n")
+}
+
+/// What a difference is in, or the words before what is expected.
+fn front_line(difference: Difference) -> Line
+    ensures { result ≡ front_words difference }
+{
+    match difference {
+        Difference::Frame { number, at, .. } => frame_words(number, at),
+        Difference::Line { line, .. }
+        | Difference::NoFrame { line, .. }
+        | Difference::Count { line, .. }
+        | Difference::MoreLines { line } => line_words(line),
+        Difference::Packet { number, .. } | Difference::MorePackets { number } => {
+            packet_words(number)
+        }
+        Difference::MoreCertificates => text_line("certificates"),
+        Difference::MoreCodewords => text_line("codewords"),
+    }
+}
+
+/// The words after these.
+fn back_line(difference: Difference) -> Line
+    ensures { result ≡ back_words difference }
+{
+    match difference {
+        Difference::Frame { reason, .. } => reason_end(reason),
+        Difference::Line { step, totals, .. } => line_of(step, totals),
+        Difference::NoFrame { number, at, .. } => frame_end(number, at),
+        Difference::Count { frames, .. } => count_end(frames),
+        Difference::MoreLines { .. } | Difference::MorePackets { .. } => text_line("no more\n"),
+        Difference::Packet { .. } => Line::new(),
+        Difference::MoreCertificates | Difference::MoreCodewords => text_line(" left over\n"),
+    }
+}
+
+/// The packet at this place among packets.
+fn packet_at(packets: &[u8], place: usize) -> &[u8]
+    requires { packet_bytes * place < length packets.now }
+    ensures is { result.now ≡ packet_at packets.now place }
+    ensures few { length result.now ≤ packet_bytes }
+{
+    let at = PACKET_BYTES * place;
+    &packets[at..packets.len().min(at + PACKET_BYTES)]
+}
+
+/// Prints the line of a difference. The packet of one is among these packets.
+fn print_difference<O: CountedWrite>(
+    out: &mut O,
+    difference: Difference,
+    packets: &[u8],
+) -> Result<(), Fault<'static>>
+    requires out { CanCount (O.count out.old) }
+    requires placed { IsPlaced packets.now (turns.Differs difference) }
+    ensures prints { PrintsText (difference_line packets.now difference) (O.contents out.old) (O.contents out.new) result }
+    ensures write { result ≡ Err Fault.Write → O.count out.new ≡ O.count out.old + 1 }
+    ensures no_write { result ≢ Err Fault.Write → O.count out.new ≡ O.count out.old }
+{
+    let front = front_line(difference);
+    match difference {
+        Difference::Packet { place, .. } => {
+            print_packet(out, front.as_bytes(), packet_at(packets, place))
+        }
+        _ => print_both(out, front.as_bytes(), back_line(difference).as_bytes()),
+    }
+}
+
+/// Prints the line of a told frame, if its bits have a certificate.
+fn print_told<O: CountedWrite>(out: &mut O, told: Told) -> Result<(), Fault<'static>>
+    requires { CanCount (O.count out.old) }
+    ensures prints { PrintsText (told_text told) (O.contents out.old) (O.contents out.new) result }
+    ensures write { result ≡ Err Fault.Write → O.count out.new ≡ O.count out.old + 1 }
+    ensures no_write { result ≢ Err Fault.Write → O.count out.new ≡ O.count out.old }
+{
+    match told.cost {
+        Some(cost) => print_text(out, shown_line(told.frame, cost).as_bytes()),
+        None => Ok(()),
+    }
+}
+
+/// Prints what a turn says, and returns the exit if the audit ends with it. These are the counts before it, and the packets of the last
+/// step.
+pub(crate) fn print_turn<O: CountedWrite>(
+    out: &mut O,
+    turn: Turn,
+    counts: Counts,
+    packets: &[u8],
+) -> Result<Option<Exit>, Fault<'static>>
+    requires out { CanCount (O.count out.old) }
+    requires placed { IsPlaced packets.now turn }
+    ensures prints { PrintsTurn counts packets.now turn (O.contents out.old) (O.contents out.new) result }
+    ensures write { result ≡ Err Fault.Write → O.count out.new ≡ O.count out.old + 1 }
+    ensures no_write { result ≢ Err Fault.Write → O.count out.new ≡ O.count out.old }
+{
+    match turn {
+        Turn::Frame(told) => {
+            print_told(out, told)?;
+            Ok(None)
+        }
+        Turn::Cut => Ok(None),
+        Turn::End => {
+            print_text(out, end_line(counts).as_bytes())?;
+            Ok(Some(Exit::Fine))
+        }
+        Turn::Differs(difference) => {
+            print_difference(out, difference, packets)?;
+            Ok(Some(Exit::No))
+        }
+    }
+}

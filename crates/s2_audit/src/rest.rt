@@ -1,0 +1,71 @@
+//! What is left of the files after the end.
+ghost use Rattle.std.specs.Prelude.{◌≡◌, ◌≢◌, ◌+◌, Err, option_map};
+ghost use Rattle.s2_mode.specs.Counts.{CanCount};
+ghost use Rattle.s2_audit.specs.Evidences.{count_if};
+ghost use Rattle.s2_audit.specs.Differences.{rests_by};
+ghost use Rattle.s2_audit.specs.Steps.{MoreIf, MoreIs, RestIs};
+
+use crate::difference::Difference;
+use crate::place::Place;
+use crate::turn::packet_number;
+use s2_io::Fault;
+use s2_mode::CountedRead;
+use s2_report::read_byte;
+
+/// Whether a file has a byte more.
+fn has_more<R: CountedRead>(reader: &mut R) -> Result<bool, Fault<'static>>
+    requires { CanCount (R.count reader.old) }
+    ensures more { MoreIs (R.remaining reader.old) (R.remaining reader.new) result }
+    ensures read { result ≡ Err Fault.Read → R.count reader.new ≡ R.count reader.old + 1 }
+    ensures no_read { result ≢ Err Fault.Read → R.count reader.new ≡ R.count reader.old }
+{
+    match read_byte(reader) {
+        Ok(byte) => Ok(byte.is_some()),
+        Err(_) => Err(Fault::Read),
+    }
+}
+
+/// Whether a file that may not be given has a byte more.
+fn has_more_if<R: CountedRead>(reader: &mut Option<R>) -> Result<bool, Fault<'static>>
+    requires { CanCount (count_if R.count reader.old) }
+    ensures more { MoreIf (option_map R.remaining reader.old) (option_map R.remaining reader.new) result }
+    ensures read { result ≡ Err Fault.Read → count_if R.count reader.new ≡ count_if R.count reader.old + 1 }
+    ensures no_read { result ≢ Err Fault.Read → count_if R.count reader.new ≡ count_if R.count reader.old }
+{
+    match reader {
+        Some(reader) => has_more(reader),
+        None => Ok(false),
+    }
+}
+
+/// The first file that goes on after the end. This is the place after it.
+pub(crate) fn find_rest<R: CountedRead>(
+    place: Place,
+    report: &mut R,
+    certificates: &mut R,
+    codewords: &mut Option<R>,
+    packets: &mut Option<R>,
+) -> Result<Option<Difference>, Fault<'static>>
+    requires report { CanCount (R.count report.old) }
+    requires certificates { CanCount (R.count certificates.old) }
+    requires codewords { CanCount (count_if R.count codewords.old) }
+    requires packets { CanCount (count_if R.count packets.old) }
+    ensures rest { let ends = rests_by R.remaining in RestIs (ends report.old certificates.old codewords.old packets.old) (ends report.new certificates.new codewords.new packets.new) place result }
+    ensures read { result ≡ Err Fault.Read → R.count report.new + R.count certificates.new + count_if R.count codewords.new + count_if R.count packets.new ≡ R.count report.old + R.count certificates.old + count_if R.count codewords.old + count_if R.count packets.old + 1 }
+    ensures no_read { result ≢ Err Fault.Read → (R.count report.new ≡ R.count report.old) × (R.count certificates.new ≡ R.count certificates.old) × (count_if R.count codewords.new ≡ count_if R.count codewords.old) × (count_if R.count packets.new ≡ count_if R.count packets.old) }
+{
+    if has_more(report)? {
+        return Ok(Some(Difference::MoreLines { line: place.line }));
+    }
+    if has_more(certificates)? {
+        return Ok(Some(Difference::MoreCertificates));
+    }
+    if has_more_if(codewords)? {
+        return Ok(Some(Difference::MoreCodewords));
+    }
+    if has_more_if(packets)? {
+        let number = packet_number(place.bytes, 0);
+        return Ok(Some(Difference::MorePackets { number }));
+    }
+    Ok(None)
+}
