@@ -259,13 +259,14 @@ def report_cases(made):
     for place in range(2, len(words), 2):
         other = " ".join([*words[:place], str(int(words[place]) + 1), *words[place + 1 :]])
         yield from both(made.with_line(number - 1, other), NO, made.shown() + expected(number, text[-1]))
-    for other in ("end", "cut", "cut at 5 symbols 90", "", "ending", frames[0], f"{text[-1]} ", "end " + 507 * "x"):
+    for other in ("end", "cut", "cut at 5 symbols 90", frames[0], f"{text[-1]} ", "end " + 507 * "x"):
         yield audit(made.with_line(number - 1, other), NO, made.shown() + expected(number, text[-1]))
+    for other in ("", "ending", "frame 1", "end " + 508 * "x"):
+        yield stopped(made.with_line(number - 1, other), made.shown(), f"report: line {number}")
     for more in (text[-1], frames[0], "cut at 5 symbols 90"):
         yield from both(made.with_line(number - 1, text[-1], more), NO, made.shown() + no_more("report line", number + 1))
-    # a line without its end, and a line that is too long
+    # a line without its end
     yield stopped(replace(made, report=made.report[:-1]), made.shown(), f"report: line {number}")
-    yield stopped(made.with_line(number - 1, "end " + 508 * "x"), made.shown(), f"report: line {number}")
     yield stopped(replace(made, report="\n" + made.report), "", "report: line 1")
     # an empty report, and an empty recording
     yield from both(replace(made, report=""), NO, expected(1, " ".join(frames[0].split()[:4])))
@@ -319,9 +320,9 @@ def packet_cases(made):
     yield audit(made, 0, made.shown() + last(made.report), options)
 
     def differs(others, at):
-        """From the packet at a place on, which ends in a frame."""
+        """From the packet at a place on. The line of the frame in which it ends is not printed."""
         frame = -(-PACKET_BYTES * (at + 1) // FIELD_BYTES)
-        return audit(replace(made, packets=b"".join(others)), NO, made.shown(frame) + f"packet {at + 1}: expected {packets[at].hex()}\n", options)
+        return audit(replace(made, packets=b"".join(others)), NO, made.shown(frame - 1) + f"packet {at + 1}: expected {packets[at].hex()}\n", options)
 
     for at, packet in enumerate(packets):
         for place in (0, PACKET_BYTES // 2, PACKET_BYTES - 1):
@@ -334,7 +335,7 @@ def packet_cases(made):
             yield differs([*packets[: at - 1], packet, packets[at - 1], *packets[at + 1 :]], at - 1)
     for more in (packets[0], b"\x47"):
         yield audit(replace(made, packets=made.packets + more), NO, made.shown() + no_more("packet", len(packets) + 1), options)
-    yield audit(replace(made, packets=b""), NO, made.shown(1) + f"packet 1: expected {packets[0].hex()}\n", options)
+    yield audit(replace(made, packets=b""), NO, f"packet 1: expected {packets[0].hex()}\n", options)
 
 
 def cut_cases(made):

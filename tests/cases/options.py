@@ -215,7 +215,7 @@ def audit_effects(two, made):
     ends = {"": believed, "--codewords right": known, "--codewords wrong": broken}
     yield Effect("--codewords", f"audit {LINK} {{}} {files}", ends, {"reads": bare | words})
     packets = {"right": given["--codewords"], "packets": 2 * PACKET, "others": PACKET + PACKET[:-1] + b"\1"}
-    shown = ended(f"{lines}packet 2: expected {PACKET.hex()}\n", NO, noted(audit.HINT))
+    shown = ended(f"{first}packet 2: expected {PACKET.hex()}\n", NO, noted(audit.HINT))
     ends = {"": fine, "--packets packets": fine, "--packets others": shown}
     yield Effect("--packets", f"audit {LINK} --codewords right {{}} {files}", ends, {"reads": reads["reads"] | packets})
     # the same frames with three times their amplitude, whose equalized symbols are those that were sent
