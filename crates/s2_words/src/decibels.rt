@@ -26,7 +26,7 @@ fn hundredths(text: &str) -> Option<i32>
 }
 
 /// An Es/N0 in dB, with or without a sign, in hundredths.
-pub(crate) fn read_esn0(text: &str) -> Option<i32> {
+pub fn read_esn0(text: &str) -> Option<i32> {
     let number = match text.strip_prefix("-") {
         Some(size) => -hundredths(size)?,
         None => hundredths(text.strip_prefix("+").unwrap_or(text))?,

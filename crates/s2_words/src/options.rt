@@ -2,6 +2,7 @@
 ghost use Rattle.std.specs.Prelude.{◌≡◌, ◌↔◌, IsSome, IfSome};
 ghost use Rattle.s2_words.specs.Options.{IsModcodText, IsNumbered, NamesMode, progress_by};
 
+use crate::limits::MAX_ROLL_OFF;
 use crate::request::Progress;
 use s2_mode::MAX_MODCOD;
 use s2_names::modcod_of;
@@ -18,7 +19,7 @@ fn numbered(text: &str) -> Option<u8>
 }
 
 /// The MODCOD of a number or of a name.
-pub(crate) fn read_modcod(text: &str) -> Option<u8>
+pub fn read_modcod(text: &str) -> Option<u8>
     ensures found { IsSome result ↔ NamesMode IsModcodText text.now }
     ensures value { IfSome result (λ modcod. IsModcodText modcod text.now) }
 {
@@ -28,8 +29,16 @@ pub(crate) fn read_modcod(text: &str) -> Option<u8>
     }
 }
 
+/// The number of a roll-off, or None if there is no such roll-off.
+pub fn read_roll_off(text: &str) -> Option<u8> {
+    match text.parse::<u8>() {
+        Ok(number) if number <= MAX_ROLL_OFF => Some(number),
+        _ => None,
+    }
+}
+
 /// Whether progress is shown: this depends on `--progress` and `--quiet`.
-pub(crate) fn progress_by(requested: bool, quiet: bool) -> Progress
+pub fn progress_by(requested: bool, quiet: bool) -> Progress
     ensures { result ≡ progress_by requested quiet }
 {
     if requested {
