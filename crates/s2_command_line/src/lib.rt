@@ -10,8 +10,10 @@
 //! ```
 #![tactic(auto)]
 
+mod decibels;
 mod given;
 mod invalid;
 mod reading;
+mod roll_off;
 
 pub use reading::parse_arguments;

@@ -1,6 +1,8 @@
 //! The request of the command line.
+use crate::decibels::read_esn0;
 use crate::given::Given;
 use crate::invalid::check_values;
+use crate::roll_off::read_roll_off;
 use clap::ArgMatches;
 use s2_arguments::{DELIVERY_TEXT, Unread, matches_of, not_understood};
 use s2_names::SymbolRate;
@@ -10,7 +12,7 @@ use s2_words::{
     ModesArguments, NoiseArguments, NoteArguments, NumberArguments, Progress, RecordArguments,
     Request, RowsArguments, RunArguments, ScanArguments, Seeds, SentRecordArguments,
     ShapeArguments, StrengthArguments, TableArguments, TuningArguments, WordsArguments,
-    progress_by, read_esn0, read_modcod, read_roll_off, read_seeds,
+    progress_by, read_modcod, read_seeds,
 };
 use std::alloc::Global;
 

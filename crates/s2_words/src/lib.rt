@@ -1,17 +1,15 @@
-//! The requests of a command line, and the values of its options that are texts.
+//! The requests of a command line.
 //!
-//! A [`Request`] is a command with all its options, as plain numbers and texts. `s2_command_line` reads it from the arguments.
-//! [`read_modcod`], [`read_seeds`], [`read_roll_off`] and [`read_esn0`] read the options for which the parser accepts any text.
+//! A [`Request`] is a command with all its options, as plain numbers and texts. `s2_command_line` reads it from the arguments, with
+//! [`read_modcod`], [`read_seeds`] and [`progress_by`].
 #![tactic(auto)]
 
-mod decibels;
 pub mod limits;
 mod options;
 mod request;
 mod seed_range;
 
-pub use decibels::read_esn0;
-pub use options::{progress_by, read_modcod, read_roll_off};
+pub use options::{progress_by, read_modcod};
 pub use request::{
     AuditArguments, ChannelArguments, CheckArguments, CodeArguments, CompareArguments,
     DemodArguments, ExitBy, JoinArguments, JudgeArguments, LinkArguments, ModArguments,

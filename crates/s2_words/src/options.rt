@@ -2,7 +2,6 @@
 ghost use Rattle.std.specs.Prelude.{◌≡◌, ◌↔◌, IsSome, IfSome};
 ghost use Rattle.s2_words.specs.Options.{IsModcodText, IsNumbered, NamesMode, progress_by};
 
-use crate::limits::MAX_ROLL_OFF;
 use crate::request::Progress;
 use s2_mode::MAX_MODCOD;
 use s2_names::modcod_of;
@@ -26,14 +25,6 @@ pub fn read_modcod(text: &str) -> Option<u8>
     match numbered(text) {
         Some(modcod) => Some(modcod),
         None => modcod_of(text),
-    }
-}
-
-/// The number of a roll-off, or None if there is no such roll-off.
-pub fn read_roll_off(text: &str) -> Option<u8> {
-    match text.parse::<u8>() {
-        Ok(number) if number <= MAX_ROLL_OFF => Some(number),
-        _ => None,
     }
 }
 

@@ -1,7 +1,7 @@
 //! Reads an Es/N0 from the command line.
 ghost use Rattle.std.specs.Prelude.{◌≤ℤ◌, pos, IfSome};
 
-use crate::limits::{LEAST_ESN0, MAX_ESN0};
+use s2_words::limits::{LEAST_ESN0, MAX_ESN0};
 
 /// The number of a text that has decimal digits only.
 fn digits(text: &str) -> Option<u16> {
@@ -26,7 +26,7 @@ fn hundredths(text: &str) -> Option<i32>
 }
 
 /// An Es/N0 in dB, with or without a sign, in hundredths.
-pub fn read_esn0(text: &str) -> Option<i32> {
+pub(crate) fn read_esn0(text: &str) -> Option<i32> {
     let number = match text.strip_prefix("-") {
         Some(size) => -hundredths(size)?,
         None => hundredths(text.strip_prefix("+").unwrap_or(text))?,
