@@ -1,4 +1,6 @@
 //! The requests of a command line.
+ghost use Rattle.std.specs.Prelude.{◌≡◌, ◌∷◌, []};
+
 use s2_names::SymbolRate;
 
 /// The numbers of a shape.
@@ -197,7 +199,9 @@ pub struct RecordArguments<'a> {
 
 impl<'a> RecordArguments<'a> {
     /// The names of the files, in the order in which they are opened.
-    pub fn names(self) -> [Option<&'a str>; 4] {
+    pub fn names(self) -> [Option<&'a str>; 4]
+        ensures order { result ≡ self.entry.certificates ∷ self.entry.values ∷ self.entry.codewords ∷ self.entry.bbframes ∷ [] }
+    {
         let RecordArguments {
             certificates,
             values,
@@ -219,7 +223,9 @@ pub struct SentRecordArguments<'a> {
 
 impl<'a> SentRecordArguments<'a> {
     /// The names of the files, in the order in which they are opened.
-    pub fn names(self) -> [Option<&'a str>; 4] {
+    pub fn names(self) -> [Option<&'a str>; 4]
+        ensures order { result ≡ self.entry.codewords ∷ self.entry.bbframes ∷ self.entry.labels ∷ self.entry.plain_symbols ∷ [] }
+    {
         let SentRecordArguments {
             codewords,
             bbframes,

@@ -554,6 +554,13 @@ const BITS_OF_PACKETS: Rule = Rule {
     excluded: &[],
 };
 
+/// The rule of the other options.
+const NO_RULE: Rule = Rule {
+    given: &[],
+    needed: &[],
+    excluded: &[],
+};
+
 /// The rules for the options of a command, at most one per option.
 fn rules_of(command: CommandName) -> &'static [Rule] {
     match command {
@@ -566,12 +573,12 @@ fn rules_of(command: CommandName) -> &'static [Rule] {
     }
 }
 
-/// The rule for an option of a command, if there is one.
-pub(crate) fn rule_of(command: CommandName, option: &str) -> Option<Rule> {
+/// The rule for an option of a command.
+pub(crate) fn rule_of(command: CommandName, option: &str) -> Rule {
     for rule in rules_of(command) {
         if rule.given.contains(&option) {
-            return Some(*rule);
+            return *rule;
         }
     }
-    None
+    NO_RULE
 }

@@ -1,10 +1,10 @@
 //! The arguments of all commands: options and files, with their kinds, ranges, defaults and help texts.
-use crate::limits::{
+use clap::builder::ValueParser;
+use s2_mode::{MAX_BITS, MAX_GROUP};
+use s2_words::limits::{
     LEAST_FACTOR, LEAST_LOCK, MAX_ADDRESSES, MAX_FACTOR, MAX_LOCK, MAX_NUMBER, MAX_PASSES,
     MAX_ROUNDS,
 };
-use clap::builder::ValueParser;
-use s2_mode::{MAX_BITS, MAX_GROUP};
 
 /// The decimal digits of the default rounds.
 pub(crate) const DEFAULT_ROUNDS_TEXT: &str = "50";
@@ -25,7 +25,7 @@ pub(crate) const DEFAULT_LOCK_TEXT: &str = "12";
 pub(crate) const CERTAINTY_TEXT: &str = "certainty";
 
 /// The exit status is 0 if every frame is delivered, and no symbols are skipped.
-pub(crate) const DELIVERY_TEXT: &str = "delivery";
+pub const DELIVERY_TEXT: &str = "delivery";
 
 /// The values of `--exit-by`.
 pub(crate) const EXIT_BY_TEXTS: [&str; 2] = [CERTAINTY_TEXT, DELIVERY_TEXT];
