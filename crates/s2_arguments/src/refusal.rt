@@ -265,7 +265,7 @@ pub struct Refused<'a> {
     pub accepted: &'a str,
 }
 
-/// The usage error of a refused value. `see` is the command that tells more, in parts.
+/// The usage error of a refused value. The line ends with the command `s2` and the words of `see`.
 pub fn refused_value(
     alloc: Global,
     refused: Refused<'_>,

@@ -64,11 +64,7 @@ impl<'a> Model for Decider<'a> {
 
 impl<'a> Decider<'a> {
     /// A decider with all the memory that it needs.
-    pub fn new(
-        alloc: Global,
-        link: &Link<'a>,
-        tuning: Tuning,
-    ) -> Result<Decider<'a>, AllocError>
+    pub fn new(alloc: Global, link: &Link<'a>, tuning: Tuning) -> Result<Decider<'a>, AllocError>
         ensures link { IfOk result (λ d. d.link ≡ link.now) }
         ensures tuning { IfOk result (λ d. d.tuning ≡ tuning) }
         ensures undecided { IfOk result (λ d. IsUndecided link.now.setup.mode d.last) }
