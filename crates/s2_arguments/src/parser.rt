@@ -140,15 +140,7 @@ fn program<'a>(alloc: Global) -> Result<Command<'a>, AllocError> {
     empty_program(alloc).subcommands(made)
 }
 
-/// What clap finds in the arguments.
-fn found_in<'a>(alloc: Global, arguments: &'a [String]) -> Result<ArgMatches<'a>, Error> {
+/// The parsed arguments, or clap's error.
+pub fn matches_of<'a>(alloc: Global, arguments: &'a [String]) -> Result<ArgMatches<'a>, Error> {
     program(alloc)?.try_get_matches_from(arguments)
-}
-
-/// The parsed arguments, or why there are none.
-pub fn matches_of<'a>(alloc: Global, arguments: &'a [String]) -> Result<ArgMatches<'a>, Unread> {
-    match found_in(alloc, arguments) {
-        Ok(matches) => Ok(matches),
-        Err(error) => Err(unread_of(alloc, arguments, error)?),
-    }
 }

@@ -11,7 +11,6 @@ use crate::options::{
     shape_of,
 };
 use s2_about::FileSums;
-use s2_arguments::{Unread, not_text};
 use s2_audit::{Demodulation, audit_command};
 use s2_command_line::parse_arguments;
 use s2_commands::{noise_command, rows_command};
@@ -32,6 +31,7 @@ use s2_records::join_command;
 use s2_scan::scan_command;
 use s2_table::table_command;
 use s2_tuning::Tuning;
+use s2_usage::{Unread, not_text};
 use s2_words::{
     AuditArguments, CheckArguments, CodeArguments, CompareArguments, DemodArguments, JoinArguments,
     JudgeArguments, ModesArguments, NoiseArguments, Request, RowsArguments, RunArguments,
