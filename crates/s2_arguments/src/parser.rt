@@ -1,12 +1,10 @@
 //! The parser of the command line, built from the table.
 use crate::arguments::{Argument, ArgumentKind, Value};
 use crate::help::{ABOUT, MORE, more_of};
-use crate::refusal::unread_of;
 use crate::table::{
     Choice, CommandHelp, CommandName, Rule, Section, arguments_in, choices_of, commands, rule_of,
     sections_of,
 };
-use crate::unread::Unread;
 use clap::{Arg, ArgAction, ArgGroup, ArgMatches, Command, Error};
 use s2_words::VERSION;
 use std::alloc::{AllocError, Global};
