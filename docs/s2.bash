@@ -22,7 +22,7 @@ _s2() {
     table) words="--modcod --short --quiet --help" ;;
     judge) words="--group --groups --q --modcod --short --each --hard --cert --passes --uncertified --factor --quiet --help" ;;
     check) words="--each --quiet --help" ;;
-    audit) words="--modcod --short --pilots --number --ro --divisor --turns --resync --equalize --tuned --about --help" ;;
+    audit) words="--modcod --short --pilots --number --ro --divisor --lock --turns --resync --equalize --tuned --figures --codewords --packets --about --help" ;;
     compare) words="--group --groups --q --modcod --short --bbframes --bits --quiet --help" ;;
     join) words="--modcod --short --help" ;;
     help) words="demod scan mod run noise modes rows table judge check audit compare join" ;;

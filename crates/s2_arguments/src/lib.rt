@@ -1,23 +1,16 @@
 //! The arguments of the program: one table has each command's options, their ranges and their help.
 //!
-//! [`matches_of`] parses the arguments with clap, using this table. Or it returns why there is nothing to read: help or the version
-//! is requested, or memory ran out, or there is a usage error, reported by one line. [`refused_value`] makes the line for a value
-//! that the parser accepts and its reader refuses, [`not_text`] that for an argument that is not UTF-8.
-//!
-//! ```text
-//! let matches = matches_of(alloc, &words)?;
-//! ```
+//! [`matches_of`] parses the arguments with clap, using this table. [`command_named`] and [`parser_of`] look up a command and the
+//! values of its options, for usage errors.
 #![tactic(auto)]
 
 mod arguments;
 mod help;
-mod misuse;
+mod lookups;
 mod parser;
-mod refusal;
 mod table;
-mod unread;
 
 pub use arguments::DELIVERY_TEXT;
+pub use lookups::{command_named, parser_of};
 pub use parser::matches_of;
-pub use refusal::{Refused, not_text, not_understood, refused_value};
-pub use unread::Unread;
+pub use table::{CommandHelp, CommandName};

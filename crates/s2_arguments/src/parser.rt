@@ -1,12 +1,10 @@
 //! The parser of the command line, built from the table.
 use crate::arguments::{Argument, ArgumentKind, Value};
 use crate::help::{ABOUT, MORE, more_of};
-use crate::refusal::unread_of;
 use crate::table::{
     Choice, CommandHelp, CommandName, Rule, Section, arguments_in, choices_of, commands, rule_of,
     sections_of,
 };
-use crate::unread::Unread;
 use clap::{Arg, ArgAction, ArgGroup, ArgMatches, Command, Error};
 use s2_words::VERSION;
 use std::alloc::{AllocError, Global};
@@ -140,15 +138,7 @@ fn program<'a>(alloc: Global) -> Result<Command<'a>, AllocError> {
     empty_program(alloc).subcommands(made)
 }
 
-/// What clap finds in the arguments.
-fn found_in<'a>(alloc: Global, arguments: &'a [String]) -> Result<ArgMatches<'a>, Error> {
+/// The parsed arguments, or clap's error.
+pub fn matches_of<'a>(alloc: Global, arguments: &'a [String]) -> Result<ArgMatches<'a>, Error> {
     program(alloc)?.try_get_matches_from(arguments)
-}
-
-/// The parsed arguments, or why there are none.
-pub fn matches_of<'a>(alloc: Global, arguments: &'a [String]) -> Result<ArgMatches<'a>, Unread> {
-    match found_in(alloc, arguments) {
-        Ok(matches) => Ok(matches),
-        Err(error) => Err(unread_of(alloc, arguments, error)?),
-    }
 }

@@ -15,7 +15,7 @@ use crate::arguments::{
 
 /// The commands.
 #[derive(Clone, Copy)]
-pub(crate) enum CommandName {
+pub enum CommandName {
     Modes,
     Rows,
     Table,
@@ -34,7 +34,7 @@ pub(crate) enum CommandName {
 /// A command, its name and its first line of help. Its options and the rest of its help are separate, so that no proof
 /// contains all texts.
 #[derive(Clone, Copy)]
-pub(crate) struct CommandHelp {
+pub struct CommandHelp {
     pub command: CommandName,
     pub name: &'static str,
     pub about: &'static str,

@@ -2,9 +2,9 @@
 use crate::decibels::read_esn0;
 use crate::given::Given;
 use crate::roll_off::read_roll_off;
-use s2_arguments::{Refused, Unread, refused_value};
 use s2_mode::{MAX_MODCOD, Mode, Modulation};
 use s2_names::{Case, SymbolRate, constellation};
+use s2_usage::{Refused, Unread, refused_value};
 use s2_words::{read_modcod, read_seeds};
 use std::alloc::{AllocError, Global};
 

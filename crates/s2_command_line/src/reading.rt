@@ -4,8 +4,9 @@ use crate::given::Given;
 use crate::invalid::check_values;
 use crate::roll_off::read_roll_off;
 use clap::ArgMatches;
-use s2_arguments::{DELIVERY_TEXT, Unread, matches_of, not_understood};
+use s2_arguments::DELIVERY_TEXT;
 use s2_names::SymbolRate;
+use s2_usage::{Unread, not_understood, read_words};
 use s2_words::{
     AuditArguments, ChannelArguments, CheckArguments, CodeArguments, CompareArguments,
     DemodArguments, ExitBy, JoinArguments, JudgeArguments, LinkArguments, ModArguments,
@@ -382,6 +383,6 @@ fn request_in<'a>(alloc: Global, matches: &ArgMatches<'a>) -> Result<Request<'a>
 /// The request of the command line, or why there is none. The parser accepts any text for a few values: it is a usage
 /// error too if one of these is invalid.
 pub fn parse_arguments<'a>(alloc: Global, arguments: &'a [String]) -> Result<Request<'a>, Unread> {
-    let matches = matches_of(alloc, arguments)?;
+    let matches = read_words(alloc, arguments)?;
     request_in(alloc, &matches)
 }

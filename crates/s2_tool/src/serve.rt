@@ -5,7 +5,6 @@ ghost use Rattle.s2_io.specs.Screens.{CanNote};
 
 use crate::options::{channel_of, demod_options, run_options};
 use s2_about::FileSums;
-use s2_arguments::{Unread, not_text};
 use s2_command_line::parse_arguments;
 use s2_commands::{noise_command, rows_command};
 use s2_io::{Console, Disk, Exit, Fault, Pace, Terminal};
@@ -21,6 +20,7 @@ use s2_options::shape_of;
 use s2_serve::{
     serve_audit, serve_check, serve_compare, serve_join, serve_judge, serve_scan, serve_table,
 };
+use s2_usage::{Unread, not_text};
 use s2_words::{
     DemodArguments, ModesArguments, NoiseArguments, Request, RowsArguments, RunArguments,
 };

@@ -1,29 +1,18 @@
 //! Usage errors. Each is one line with the mistake, the accepted values, and the command that prints the help.
-use crate::arguments::ArgumentKind;
 use crate::misuse::{Misuse, misuse_of};
-use crate::table::{CommandHelp, Section, arguments_in, commands, sections_of};
 use crate::unread::Unread;
 use clap::Error;
 use clap::builder::ValueParser;
 use clap::error::ErrorKind;
+use s2_arguments::{CommandHelp, command_named, parser_of};
 use std::alloc::{AllocError, Global};
 
 /// What is said of arguments that nothing else describes.
 const NOT_UNDERSTOOD: &str = "the arguments are not understood";
 
-/// The command of this name.
-fn entry_of(name: &str) -> Option<CommandHelp> {
-    for entry in commands() {
-        if entry.name == name {
-            return Some(*entry);
-        }
-    }
-    None
-}
-
 /// The command that the arguments name, if there is one.
 fn command_in(arguments: &[String]) -> Option<CommandHelp> {
-    entry_of(arguments.get(1)?.as_str())
+    command_named(arguments.get(1)?.as_str())
 }
 
 /// Appends texts in turn.
@@ -76,31 +65,6 @@ fn push_names(text: &mut String, names: &[&str]) -> Result<(), AllocError> {
         between = " or ";
     }
     Ok(())
-}
-
-/// The parser of the option with this name in the help, for example `--number <N>`.
-fn parser_of(command: Option<CommandHelp>, option: &str) -> ValueParser<'static> {
-    let Some(entry) = command else {
-        return ValueParser::String;
-    };
-    for section in sections_of(entry.command) {
-        if let Some(parser) = parser_in(*section, option) {
-            return parser;
-        }
-    }
-    ValueParser::String
-}
-
-/// The parser of the option with this name in the help, if it is in this part.
-fn parser_in(section: Section, option: &str) -> Option<ValueParser<'static>> {
-    for argument in arguments_in(section) {
-        if let ArgumentKind::Valued(value) = argument.form {
-            if bare(option).strip_prefix("--") == Some(argument.name) {
-                return Some(value.allowed);
-            }
-        }
-    }
-    None
 }
 
 /// An option without the name of its value.
@@ -158,7 +122,7 @@ fn push_not_accepted(
     value: &str,
 ) -> Result<(), AllocError> {
     push_refused(text, option, value)?;
-    push_accepted(text, parser_of(command, option))
+    push_accepted(text, parser_of(command, bare(option)))
 }
 
 /// Appends a description of a mistake.
