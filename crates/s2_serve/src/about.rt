@@ -45,26 +45,30 @@ fn read_rest<R: CountedRead>(reader: &mut R) -> Result<(), ReadFault> {
 }
 
 /// Reads a record.
-fn read_record<R: CountedRead>(alloc: Global, reader: &mut R) -> Result<Vec<u8>, Fault<'static>> {
+fn read_record<R: CountedRead>(alloc: Global, reader: &mut R) -> Result<Vec<u8>, FileFault> {
     if has_failed(reader) {
-        return Err(Fault::Read);
+        return Err(FileFault::Read);
     }
-    match read_all(alloc, reader, MAX_RECORD) {
-        Ok(bytes) => Ok(bytes),
-        Err(FileFault::Read) => Err(Fault::Read),
-        Err(FileFault::TooLong) => Err(Fault::TooLong),
-        Err(FileFault::NoMemory) => Err(Fault::NoMemory),
-    }
+    read_all(alloc, reader, MAX_RECORD)
 }
 
 /// Reads a record, if it is given: it is empty if it is not.
 fn read_named_record<R: CountedRead>(
     alloc: Global,
     reader: &mut Option<R>,
-) -> Result<Vec<u8>, Fault<'static>> {
+) -> Result<Vec<u8>, FileFault> {
     match reader {
         Some(reader) => read_record(alloc, reader),
         None => Ok(Vec::new(alloc)),
+    }
+}
+
+/// The fault of a record that cannot be read.
+fn record_fault(fault: FileFault) -> Fault<'static> {
+    match fault {
+        FileFault::Read => Fault::Read,
+        FileFault::TooLong => Fault::TooLong,
+        FileFault::NoMemory => Fault::NoMemory,
     }
 }
 
@@ -170,6 +174,8 @@ pub(crate) fn compare_record<R: CountedRead, O: CountedWrite>(
     if read_rests(files).is_err() {
         return Err(Fault::Read);
     }
-    let record = read_named_record(alloc, &mut files.about)?;
-    print_difference(alloc, words, how, sums, record.as_slice(), exit, out)
+    match read_named_record(alloc, &mut files.about) {
+        Ok(record) => print_difference(alloc, words, how, sums, record.as_slice(), exit, out),
+        Err(fault) => Err(record_fault(fault)),
+    }
 }
