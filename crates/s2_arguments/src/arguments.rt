@@ -504,7 +504,7 @@ pub(crate) const CODEWORDS: Argument = Argument {
 };
 
 pub(crate) const CODEWORDS_READ: Argument = Argument {
-    help: "Take the decided bits of frames without a certificate from this file, which `demod --codewords` wrote",
+    help: "Take the decided bits of frames without a certificate from this file of `demod --codewords`, and compare those of the others",
     ..CODEWORDS
 };
 

@@ -306,9 +306,10 @@ The output, a line for each frame that REPORT calls sole or most-likely, and a l
 
 Reasons:
   no certificate    CERTIFICATES ends before the certificate of this frame
+  no codeword       the file of --codewords ends before the bits of this frame
+  other word        the certificate has other bits than the file of --codewords
   other values      the certificate is for other soft values: of another recording, or with another --divisor or --tuned
   not accepted      the certificate proves nothing with these rows
-  not sole          the certificate proves only that the bits are most likely
 
 Exit status:
   0  each line, and with --packets each packet, is the one made again; all frames called sole or most-likely are proved
