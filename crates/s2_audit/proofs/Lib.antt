@@ -1,0 +1,6 @@
+pub mod EvidenceLemmas
+pub mod FrameLemmas
+pub mod TurnLemmas
+pub mod PrintLemmas
+pub mod AuditLemmas
+pub mod CommandLemmas

@@ -21,7 +21,7 @@ use Rattle.s2_audit.specs.declared.place.Place.{Place}
 -- before, and whether all bits are known
 abbrev pub place_after : List Shown → (lines : List (List ℕ)) → (packets : List ℕ) → Place
 place_after frames lines packets =
-    record { line = length lines + 1; frame = length frames + 1; bytes = min (length packets) (2 ^ 64 - 1); known = all_known (counts_of frames) }
+    record { line = length lines + 1; frame = (counts_of frames).frames + 1; bytes = min (length packets) (2 ^ 64 - 1); known = all_known (counts_of frames) }
 
 -- The audit comes to the first difference after these frames: in what is found next, or in what is left of the files after the end.
 -- The packet of a difference is among these packets

@@ -97,9 +97,9 @@ shown_block rows soft bits block verdict paid shows = parsed (file_of_bytes bloc
     parsed (Err fault) is none = absurd (cc)
 
 -- the line of a frame that was settled by such a decision
-pub audits_so : (t : Terms) (old new : Follower) (found : Next) (block : Option (List ℕ)) (soft : List ℤ) (word : List Bool) (line : List ℕ) (d : Decision) (step : Step) (verdict : Verdict) (paid : Option ℤ) (audited : Audited)
-    → SettlesBy t old new found block d step → d.verdict ≡ verdict → d.bits ≡ word → paid ≡ cost_of d.certificate → ComparesLine new step line verdict paid audited → AuditsFrame t old new found block soft word line audited
-audits_so t old new found block soft word line d step verdict paid (Told v c) settles is bits cost_is (own, v_is, c_is) = (d, step, settles, (is ∙ sym v_is, bits, c_is ∙ cost_is), own)
-audits_so t old new found block soft word line d step verdict paid (Differs s) settles is bits cost_is (s_is, other) = subst (λ x. AuditsFrame t old new found block soft word line (Differs x)) (sym s_is) (d, settles, bits, other)
-audits_so t old new found (Some b) soft word line d step verdict paid (Refused r) settles is bits cost_is none = absurd none
-audits_so t old new found None soft word line d step verdict paid (Refused r) settles is bits cost_is none = absurd none
+pub audits_so : (t : Terms) (old new : Follower) (found : Next) (block : Option (List ℕ)) (values : List ℤ) (word : List Bool) (line : List ℕ) (d : Decision) (step : Step) (verdict : Verdict) (paid : Option ℤ) (audited : Audited)
+    → SettlesBy t old new found block d step → d.verdict ≡ verdict → d.bits ≡ word → paid ≡ cost_of d.certificate → ComparesLine new step line verdict paid audited → AuditsFrame t old new found block values word line audited
+audits_so t old new found block values word line d step verdict paid (Told v c) settles is bits cost_is (own, v_is, c_is) = (d, step, settles, (is ∙ sym v_is, bits, c_is ∙ cost_is), own)
+audits_so t old new found block values word line d step verdict paid (Differs s) settles is bits cost_is (s_is, other) = subst (λ x. AuditsFrame t old new found block values word line (Differs x)) (sym s_is) (d, settles, bits, other)
+audits_so t old new found (Some b) values word line d step verdict paid (Refused r) settles is bits cost_is none = absurd none
+audits_so t old new found None values word line d step verdict paid (Refused r) settles is bits cost_is none = absurd none

@@ -1,4 +1,6 @@
-use Rattle.std.proofs.Common.{Some, ap, subst, sym, ◌∙◌}
+use Rattle.std.proofs.Common.{◌≡◌, Some, ap, rules, subst, sym, ◌∙◌}
+use mir.Syntax.{w64}
+use Rattle.std.specs.Int.{cast_signed, cast_unsigned}
 use Rattle.s2_check.specs.CertificateFiles.{view_of}
 use Rattle.s2_replay.specs.Certificates.{Certifies, Shows}
 use Rattle.s2_replay.specs.Frames.{cost_of, terms_of}
@@ -16,6 +18,7 @@ returns-in-Word-clause-audits c =
     let shows = subst (λ s. Shows c.args.matrix.now c.soft.result.now bits c.args.block.now s) c.in-Word.is c.in_ok-shown.ensures.shows in
     let (file, read, (certifies, cost_is)) = shown_block c.args.matrix.now c.soft.result.now bits c.args.block.now verdict c.in-Word.cost shows in
     let view = view_of c.args.matrix.now file in
+    let wide : cast_signed w64 (cast_unsigned w64 c.in-Word.cost) ≡ c.in-Word.cost = search rules in
     let on_frame = subst (λ s. Certifies c.args.matrix.now s verdict bits view) (c.soft.ensures.is ∙ c.requires.soft) certifies in
     audits_so t was.follower c.settle-step.new.self.follower c.args.found (Some c.args.block.now) was.soft bits c.args.line.now (decision_on t.mode t.number t.options was.follower.frame verdict bits (Some view) rounds) c.settle-step.result verdict _ c.compared.result
     (record {
@@ -25,4 +28,4 @@ returns-in-Word-clause-audits c =
       settles = c.settle-step.ensures.settles (Some view);
     })
     (verdict_is t was.follower.frame verdict bits rounds (Some view)) (bits_is t was.follower.frame verdict bits rounds (Some view))
-    (ap Some cost_is ∙ sym (ap cost_of (certificate_is t was.follower.frame verdict bits rounds (Some view)))) c.compared.ensures
+    (ap Some (wide ∙ cost_is) ∙ sym (ap cost_of (certificate_is t was.follower.frame verdict bits rounds (Some view)))) c.compared.ensures
