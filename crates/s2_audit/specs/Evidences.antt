@@ -97,7 +97,7 @@ pub record Takes (n : ℕ) (old new : Evidence) (block packed : Option (List ℕ
   pub certificate : Consumes old.certificates new.certificates (bytes_of block)
   pub codeword : TakesCodeword n old.codewords new.codewords packed
 
--- what was taken of the codewords: nothing is given, no record is left, or the record of these bits. Or the file ends within one
+-- the next record of a codeword: the file is not given, no record is left, or the record has these bits. Or the file ends within one
 abbrev pub TakesRecord : (n size : ℕ) → (old new : Option (Option (List ℕ))) → (bits : List Bool) → Result Recorded Fault → Type 0
 TakesRecord n size old new bits (Ok records.NotGiven) = (old ≡ None) × TakesCodeword n old new None
 TakesRecord n size old new bits (Ok records.Missing) = IsMissing old new

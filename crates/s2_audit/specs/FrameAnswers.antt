@@ -106,7 +106,7 @@ AnswersWith word bits recorded audited (answers.Judged a) = (a ≡ audited) × (
 AnswersWith word bits recorded audited answer = ⊥
 
 -- The audit of a frame whose line says this verdict. The certificate of one that is sole or most likely is missing, or its record of
--- the codeword is; or both are there, with different bits. Or the frame is audited by what is taken, or on the report's word
+-- the codeword is; or both are there, with different bits. Or the frame is audited by these, or on the report's word
 abbrev pub Answers : (old new : FrameAuditor) → Next → Verdict → (line : List ℕ) → (before after : Evidence) → Result FrameAnswer Fault → Type 0
 Answers old new found verdict line before after (Ok answers.NoCodeword) = IsMissing before.codewords after.codewords × (after.certificates ≡ before.certificates)
 Answers old new found verdict line before after (Ok answers.NoCertificate) =
