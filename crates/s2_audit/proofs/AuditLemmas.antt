@@ -1,8 +1,8 @@
 -- An audit, turn by turn.
-use Rattle.std.proofs.Common.{◌≡◌, ◌≢◌, ◌⊎◌, ℕ, ◌+◌, ◌-◌, ◌*◌, ◌^◌, ◌<◌, ◌≤◌, ℤ, min, ◌&&◌, nat_eq, Bool, true, false, List, [], ◌∷◌, ◌++◌, All, Option, Some, None, is_some, Result, Ok, Err, length, map, refl, sym, ap, ap₂, subst, ◌∙◌, append-nil, append_assoc, length-append, arith, ne_eqb, inl, inr}
+use Rattle.std.proofs.Common.{◌≡◌, ℕ, ◌+◌, ◌-◌, ◌*◌, ◌^◌, ◌<◌, ◌≤◌, min, ◌&&◌, nat_eq, Bool, true, false, List, [], ◌∷◌, ◌++◌, Option, Some, None, is_some, Result, Ok, Err, length, refl, sym, ap, subst, ◌∙◌, append-nil, append_assoc, length-append, arith, ne_eqb, inl, inr}
 use Rattle.std.specs.Prelude.{if◌then◌else◌}
 use Rattle.std.specs.List.{flat_map, count_by}
-use Rattle.std.specs.Io.KnownBytes.{Appends, Consumes, IsAtEnd}
+use Rattle.std.specs.Io.KnownBytes.{Appends, Consumes}
 use Rattle.std.proofs.KnownBytes.{Appends-nil, Appends-trans, Consumes-nil, Consumes-trans}
 use Rattle.std.proofs.lemmas.List.{length-map, map_push}
 use Rattle.std.proofs.lemmas.List.Concat.{flat_map-append}
@@ -11,32 +11,26 @@ use Rattle.std.proofs.lemmas.List.Sums.{sum_by_push, count_by-le-length}
 use Rattle.s2_bbframe.specs.Limits.{packet_bytes}
 use Rattle.s2_mode.specs.Mode.{n_of}
 use Rattle.s2_mode.specs.Pieces.{AppendsPart}
-use Rattle.s2_check.specs.Cost.{cost}
 use Rattle.s2_check.specs.Views.{View}
-use Rattle.s2_check.specs.declared.verdict.Verdict.{Verdict}
 use Rattle.s2_io.specs.declared.exit.Exit.{Exit}
 use Rattle.s2_io.specs.declared.exit.Exit.TheVariants as exits
 use Rattle.s2_io.specs.declared.fault.Fault.{Fault}
 use Rattle.s2_io.specs.declared.fault.Fault.TheVariants as faults
-use Rattle.s2_report.specs.Entries.{entry_in, text_of}
-use Rattle.s2_report.specs.declared.entry.Entry.{Entry}
+use Rattle.s2_report.specs.Entries.{text_of}
 use Rattle.s2_report.specs.declared.entry.Entry.TheVariants as entries
-use Rattle.s2_report.specs.declared.entry.Frame.{Frame}
 use Rattle.s2_receive.specs.Halves.{Follower}
-use Rattle.s2_receive.specs.Receiving.{Decision, begun}
-use Rattle.s2_receive.specs.declared.report.Phase.TheVariants as phases
-use Rattle.s2_replay.specs.Auditing.{AuditedFrames, AuditedSoFar, ReplaysIn}
+use Rattle.s2_receive.specs.Receiving.{begun}
+use Rattle.s2_replay.specs.Auditing.{AuditedFrames, AuditedSoFar}
 use Rattle.s2_replay.specs.Frames.{cost_of}
 use Rattle.s2_replay.specs.Replay.{Terms, is_known}
-use Rattle.s2_replay.specs.Running.{IsStuck}
 use Rattle.s2_replay.proofs.AuditLemmas.{audited_none, frames_over}
-use Rattle.s2_audit.specs.Audits.{AuditsAll, EndsWith, FailsAfter, HasText, ReachesLimit, Stops, place_after}
+use Rattle.s2_audit.specs.Audits.{AuditsAll, EndsWith, FailsAfter, ReachesLimit, place_after}
 use Rattle.s2_audit.specs.Differences.{Differs, DiffersIf, Fails, LeavesOver, rests_of}
-use Rattle.s2_audit.specs.Evidences.{Evidence, IsGiven, IsOverIf, ReadsIf, Takes, bytes_of}
+use Rattle.s2_audit.specs.Evidences.{Evidence, IsGiven, ReadsIf, bytes_of}
 use Rattle.s2_audit.specs.Limits.{max_lines}
-use Rattle.s2_audit.specs.Lines.{cost_text, difference_line, end_line, shown_line}
-use Rattle.s2_audit.specs.Steps.{AllOver, EndIs, IsPlaced, OutcomeIs, PrintsOf, PrintsTurn, RestTurn, StandsAfter, StepIs, TurnIs, place_behind, place_for, standing_after, turn_exit, turn_text}
-use Rattle.s2_audit.specs.Turns.{Audited, BeginWith, Ends, IsFine, IsShown, IsTold, OnlyLine, RanSoFar, Reads, Replayed, Shown, TellsCut, TellsEnd, TellsLine, all_known, counted, counts_of, decisions_of, is_most_likely, is_sole, is_unchecked, lines_of, told_by, told_line, told_lines}
+use Rattle.s2_audit.specs.Lines.{cost_text, difference_line, end_line}
+use Rattle.s2_audit.specs.Steps.{AllOver, EndIs, IsPlaced, OutcomeIs, PrintsOf, PrintsTurn, RestTurn, StandsAfter, StepIs, TurnIs, place_behind, place_for, standing_after, turn_text}
+use Rattle.s2_audit.specs.Turns.{Audited, BeginWith, Ends, IsShown, IsTold, OnlyLine, RanSoFar, Reads, Replayed, Shown, TellsCut, TellsEnd, TellsLine, all_known, counted, counts_of, decisions_of, is_most_likely, is_sole, is_unchecked, lines_of, told_by, told_line, told_lines}
 use Rattle.s2_audit.specs.declared.counts.Counts.{Counts}
 use Rattle.s2_audit.specs.declared.difference.Difference.{Difference}
 use Rattle.s2_audit.specs.declared.difference.Difference.TheVariants as differences

@@ -1,11 +1,10 @@
 -- The audit of a frame by its certificate, beside its record of the codeword.
-use Rattle.std.proofs.Common.{◌≡◌, ◌≢◌, ℕ, Bool, true, false, List, Option, Some, None, Result, Ok, Err, refl, sym, ap, subst, ◌∙◌}
+use Rattle.std.proofs.Common.{◌≡◌, ◌≢◌, ℕ, Bool, true, false, List, Option, Some, None, Ok, refl, sym, subst, ◌∙◌}
 use Rattle.s2_bits.specs.Bits.{bits_of_bytes}
 use Rattle.s2_mode.specs.Mode.{n_of}
 use Rattle.s2_rows.specs.Rows.{Rows}
 use Rattle.s2_check.specs.Verdicts.{is_certified}
 use Rattle.s2_check.specs.declared.verdict.Verdict.{Verdict}
-use Rattle.s2_receive.specs.Halves.{Follower}
 use Rattle.s2_receive.specs.declared.window.Next.{Next}
 use Rattle.s2_replay.specs.Frames.{AuditsFrame, terms_of}
 use Rattle.s2_replay.specs.Replayers.{Replayer}

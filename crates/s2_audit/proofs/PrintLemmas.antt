@@ -1,5 +1,5 @@
 -- What is printed in parts.
-use Rattle.std.proofs.Common.{◌≡◌, ℕ, ◌+◌, ◌-◌, ◌*◌, ◌<◌, ◌≤◌, min, List, [], ◌++◌, Option, length, take, drop, sym, ap, subst, ◌∙◌, length-append, length-drop, append_assoc, append-nil, arith, Result, Ok, Err}
+use Rattle.std.proofs.Common.{◌≡◌, ℕ, ◌+◌, ◌-◌, ◌*◌, ◌<◌, min, List, ◌++◌, Option, length, take, drop, sym, ap, subst, ◌∙◌, length-append, length-drop, arith, Result, Ok, Err}
 use Rattle.std.specs.Prelude.{slice_range}
 use Rattle.std.specs.Io.KnownBytes.{Appends}
 use Rattle.std.proofs.KnownBytes.{Appends-trans}
@@ -29,11 +29,6 @@ prints_after a b o m o' (Err (faults.Open name)) app h = absurd h
 prints_after a b o m o' (Err (faults.UsedTwice name)) app h = absurd h
 prints_after a b o m o' (Err (faults.Rows text)) app h = absurd h
 prints_after a b o m o' (Err (faults.Refused text)) app h = absurd h
-
--- a text in three parts
-pub prints_parts : {T : Type 0} (a b d a' d' : List ℕ) (o m n o' : Option (List ℕ)) (result : Result T Fault) → a' ≡ a → d' ≡ d → Appends o m a' → Appends m n b → PrintsText d' n o' result → PrintsText (a ++ b ++ d) o o' result
-prints_parts a b d a' d' o m n o' result front back first second last =
-    prints_after (a ++ b) d o n o' result (Appends-trans o m n a b (subst (Appends o m) front first) second) (subst (λ l. PrintsText l n o' result) back last)
 
 -- a packet as it is cut out
 pub cut_packet : (packets : List ℕ) (place at end : ℕ) → packet_bytes * place < length packets → at ≡ packet_bytes * place → end ≡ min (length packets) (at + packet_bytes) → slice_range packets at end ≡ packet_at packets place

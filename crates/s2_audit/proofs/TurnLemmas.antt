@@ -1,22 +1,17 @@
 -- What is found of the next thing of the receiver's loop.
-use Rattle.std.proofs.Common.{◌≡◌, ◌≢◌, ◌⊎◌, ℕ, ◌+◌, ◌&&◌, ℤ, Bool, true, false, if◌then◌else◌, IsTrue, List, [], ◌∷◌, ◌++◌, Option, Some, None, is_some, Result, Ok, Err, refl, sym, ap, subst, ◌∙◌, inl, inr}
-use Rattle.std.specs.Io.KnownBytes.{Consumes, IsAtEnd}
+use Rattle.std.proofs.Common.{◌≡◌, ◌⊎◌, ℕ, ◌&&◌, ℤ, Bool, true, false, if◌then◌else◌, List, [], ◌∷◌, ◌++◌, Option, Some, None, is_some, Result, Ok, Err, refl, sym, subst, ◌∙◌, inl, inr}
+use Rattle.std.specs.Io.KnownBytes.{Consumes}
 use Rattle.std.proofs.KnownBytes.{Consumes-nil}
-use Rattle.s2_bits.specs.Bits.{bits_of_bytes}
 use Rattle.s2_mode.specs.Mode.{n_of}
 use Rattle.s2_check.specs.Verdicts.{is_certified}
-use Rattle.s2_check.specs.Views.{View}
 use Rattle.s2_check.specs.declared.verdict.Verdict.{Verdict}
 use Rattle.s2_check.specs.declared.verdict.Verdict.TheVariants.{Broken}
 use Rattle.s2_io.specs.declared.fault.Fault.{Fault}
 use Rattle.s2_io.specs.declared.fault.Fault.TheVariants as faults
-use Rattle.s2_report.specs.Entries.{entry_in}
-use Rattle.s2_report.specs.Reading.{line_fault}
 use Rattle.s2_report.specs.declared.entry.Entry.{Entry}
 use Rattle.s2_report.specs.declared.entry.Entry.TheVariants as entries
 use Rattle.s2_report.specs.declared.entry.Frame.{Frame}
 use Rattle.s2_report.specs.declared.report.Step.{Step}
-use Rattle.s2_report.specs.declared.totals.Totals.{Totals}
 use Rattle.s2_receive.specs.Halves.{Follower, IsSameFollower, Settles}
 use Rattle.s2_receive.specs.Receiving.{Decision}
 use Rattle.s2_receive.specs.declared.gap.Gap.{Gap}
@@ -25,27 +20,25 @@ use Rattle.s2_receive.specs.declared.report.Phase.TheVariants as phases
 use Rattle.s2_receive.specs.declared.window.Next.{Next}
 use Rattle.s2_receive.specs.declared.window.Next.TheVariants as next
 use Rattle.s2_message.specs.Decisions.{soft_frame}
-use Rattle.s2_replay.specs.Auditing.{AuditedFrames, AuditedSoFar, ReplaysIn}
+use Rattle.s2_replay.specs.Auditing.{AuditedSoFar}
 use Rattle.s2_replay.specs.Certificates.{Shows}
-use Rattle.s2_replay.specs.Frames.{AuditsClaim, AuditsFrame, AuditsLast, HoldsSoft, IsLastOf, IsOwnLine, SettlesBy, cost_of, terms_of}
+use Rattle.s2_replay.specs.Frames.{AuditsClaim, AuditsFrame, AuditsLast, HoldsSoft, IsLastOf, terms_of}
 use Rattle.s2_replay.specs.Replay.{Terms, claimed_decision, is_known, rules_for}
 use Rattle.s2_rows.specs.Rows.{Rows}
-use Rattle.s2_replay.specs.Replayers.{IfFrame, IsFrame, IsFrameAt, IsSameReplayer, Replayer}
+use Rattle.s2_replay.specs.Replayers.{IfFrame, IsFrame, IsSameReplayer, Replayer}
 use Rattle.s2_replay.specs.Running.{EndsAfterCut, GoesOn, IsBy}
 use Rattle.s2_replay.specs.declared.certificates.Refusal.{Refusal}
 use Rattle.s2_replay.specs.declared.certificates.Refusal.TheVariants as refusals
 use Rattle.s2_replay.specs.declared.certificates.Shown.TheVariants as shown
-use Rattle.s2_replay.specs.declared.frames.Audited.{Audited}
 use Rattle.s2_replay.specs.declared.frames.Audited.TheVariants as audits
 use Rattle.s2_replay.specs.declared.frames.AuditedClaim.{AuditedClaim}
 use Rattle.s2_replay.specs.declared.frames.AuditedLast.{AuditedLast}
 use Rattle.s2_replay.proofs.Told.{tells_claim, tells_cut, tells_end, tells_frame}
-use Rattle.s2_audit.specs.Differences.{ClaimsOther, Differs, DiffersAt, DiffersIf, Fails, GivesLine, LacksAt, Meets, ReadsLine}
+use Rattle.s2_audit.specs.Differences.{ClaimsOther, Differs, DiffersIf, Fails, GivesLine, LacksAt, Meets, ReadsLine}
 use Rattle.s2_audit.specs.Evidences.{Evidence, IsWordOf, ReadsIf, Takes, TakesCodeword, reason_for}
 use Rattle.s2_audit.specs.FrameAnswers.{Answers, FrameAuditor, terms_by}
 use Rattle.s2_audit.specs.Steps.{ComparesIf, ComparesTurn, Judges, JudgesFrame, JudgesLast, TurnBy, TurnIs, no_frame_at, other_last, told_last, turn_by}
-use Rattle.s2_audit.specs.Turns.{Ends, IsTold, OnlyLine, Shown, TellsCut, TellsEnd, TellsLine}
-use Rattle.s2_audit.specs.declared.difference.Difference.{Difference}
+use Rattle.s2_audit.specs.Turns.{Ends, IsTold, OnlyLine, Shown, TellsLine}
 use Rattle.s2_audit.specs.declared.difference.Difference.TheVariants as differences
 use Rattle.s2_audit.specs.declared.difference.Reason.{Reason}
 use Rattle.s2_audit.specs.declared.difference.Reason.TheVariants as reasons

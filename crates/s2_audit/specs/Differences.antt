@@ -14,12 +14,9 @@ use Rattle.s2_report.specs.Reading.{line_fault}
 use Rattle.s2_report.specs.declared.entry.Entry.{Entry}
 use Rattle.s2_report.specs.declared.entry.Entry.TheVariants as entries
 use Rattle.s2_report.specs.declared.report.Step.{Step}
-use Rattle.s2_report.specs.declared.totals.Totals.{Totals}
 use Rattle.s2_receive.specs.Halves.{Follower, Settles}
 use Rattle.s2_receive.specs.Receiving.{Decision}
-use Rattle.s2_receive.specs.declared.gap.Gap.{Gap}
 use Rattle.s2_receive.specs.declared.window.Next.{Next}
-use Rattle.s2_receive.specs.declared.window.Next.TheVariants as next
 use Rattle.s2_message.specs.Decisions.{soft_frame}
 use Rattle.s2_replay.specs.Certificates.{Shows}
 use Rattle.s2_replay.specs.Frames.{AuditsClaim, IsLastOf, IsOwnLine, SettlesBy}

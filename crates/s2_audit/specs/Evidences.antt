@@ -1,8 +1,7 @@
 -- What shows the decision on a frame: a certificate, and a record of its codeword (own).
-use Rattle.std.specs.Prelude.{◌≡◌, ◌⊎◌, ℕ, ◌*◌, ◌<◌, Bool, true, false, List, [], ◌++◌, codes, length, Option, Some, None, Result, Ok, Err, option_map, is_some, ⊤}
+use Rattle.std.specs.Prelude.{◌≡◌, ℕ, ◌*◌, ◌<◌, Bool, true, false, List, [], ◌++◌, codes, length, Option, Some, None, Result, Ok, Err, option_map, is_some, ⊤}
 use Rattle.std.specs.Io.KnownBytes.{Consumes, IsAtEnd}
 use Rattle.s2_bits.specs.Bits.{bits_of_bytes}
-use Rattle.s2_mode.specs.Mode.{Mode, n_of}
 use Rattle.s2_io.specs.declared.fault.Fault.{Fault}
 use Rattle.s2_io.specs.declared.fault.Fault.TheVariants as faults
 use Rattle.s2_replay.specs.declared.certificates.Refusal.{Refusal}

@@ -17,7 +17,6 @@ use Rattle.s2_receive.specs.declared.window.Next.{Next}
 use Rattle.s2_replay.specs.Frames.{AuditsClaim, AuditsFrame, IsShownBy, terms_of}
 use Rattle.s2_replay.specs.Replay.{IsBorneOut, Terms}
 use Rattle.s2_replay.specs.Replayers.{Replayer}
-use Rattle.s2_replay.specs.declared.frames.AuditedClaim.{AuditedClaim}
 use Rattle.s2_audit.specs.Evidences.{Evidence, EndsWithin, EndsWithinIf, IsMissing, IsWordOf, Takes, TakesCodeword, cut_fault}
 use Rattle.s2_audit.specs.Limits.{certificate_bytes}
 use Rattle.s2_audit.specs.declared.how.How.{How}

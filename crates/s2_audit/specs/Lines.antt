@@ -47,7 +47,7 @@ packet_words number = codes "packet " ++ decimal number ++ codes ": expected "
 abbrev pub hex_of : (packet : List ℕ) → List ℕ
 hex_of packet = encode_lower packet
 
--- the first words of the line of a difference: where it is
+-- the first words of a difference: where it is
 abbrev pub front_words : Difference → List ℕ
 front_words (differences.Frame number at reason) = frame_words number at
 front_words (differences.Line line step totals) = line_words line
@@ -76,9 +76,13 @@ abbrev pub packet_shown : (packets : List ℕ) → Difference → List ℕ
 packet_shown packets (differences.Packet number place) = hex_of (packet_at packets place)
 packet_shown packets difference = []
 
+-- the rest of its line, with the packet
+abbrev pub rest_words : (packets : List ℕ) → Difference → List ℕ
+rest_words packets difference = packet_shown packets difference ++ back_words difference
+
 -- the line of a difference
 abbrev pub difference_line : (packets : List ℕ) → Difference → List ℕ
-difference_line packets difference = front_words difference ++ packet_shown packets difference ++ back_words difference
+difference_line packets difference = front_words difference ++ rest_words packets difference
 
 -- ---- the last line
 

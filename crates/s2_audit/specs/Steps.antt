@@ -1,5 +1,5 @@
 -- The audit of one frame, cut frame or end, and of the rest of each file (own).
-use Rattle.std.specs.Prelude.{◌≡◌, ◌⊎◌, ℕ, ◌+◌, ◌-◌, ◌*◌, ◌<◌, ◌^◌, min, Bool, true, false, ◌&&◌, if◌then◌else◌, List, [], ◌++◌, length, Option, Some, None, is_some, Result, Ok, Err, ⊤}
+use Rattle.std.specs.Prelude.{◌≡◌, ◌⊎◌, ℕ, ◌+◌, ◌-◌, ◌*◌, ◌<◌, ◌^◌, min, Bool, true, false, ◌&&◌, if◌then◌else◌, List, [], length, Option, Some, None, is_some, Result, Ok, Err, ⊤}
 use Rattle.std.specs.Io.KnownBytes.{Appends, Consumes, IsAtEnd}
 use Rattle.s2_mode.specs.Pieces.{AppendsPart}
 use Rattle.s2_bbframe.specs.Limits.{packet_bytes}
@@ -17,7 +17,6 @@ use Rattle.s2_receive.specs.declared.window.Next.{Next}
 use Rattle.s2_receive.specs.declared.window.Next.TheVariants as next
 use Rattle.s2_replay.specs.Frames.{AuditsLast}
 use Rattle.s2_replay.specs.Replay.{Terms}
-use Rattle.s2_replay.specs.Replayers.{IsFrame}
 use Rattle.s2_replay.specs.declared.frames.Audited.TheVariants as audits
 use Rattle.s2_replay.specs.declared.frames.AuditedLast.{AuditedLast}
 use Rattle.s2_audit.specs.Differences.{Differs, DiffersIf, Fails, HasMore, HasMoreIf, LeavesOver, Rests, packet_number, rests_of}

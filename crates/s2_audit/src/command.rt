@@ -149,7 +149,7 @@ pub fn audit_command<R: CountedRead, O: CountedWrite, E: CountedWrite>(
     requires console { CanShow console.old }
     ensures quiet { result ≢ Exit.Fault → console.new.errors_failed ≡ console.old.errors_failed }
     ensures whole { result ≢ Exit.Fault → console.new.output_failed ≡ console.old.output_failed }
-    ensures run { AuditEnds R.remaining R.count (setup_of setup) how rows.old symbols.old report.old certificates.old codewords.old packets.old
+    ensures run { AuditEnds R.remaining R.count setup how rows.old symbols.old report.old certificates.old codewords.old packets.old
         rows.new symbols.new report.new certificates.new codewords.new packets.new console.old console.new result }
 {
     let ended = audit_files(

@@ -3,7 +3,7 @@ ghost use Rattle.std.specs.Prelude.{◌≡◌, ◌≢◌, ◌+◌, ◌*◌, ◌�
 ghost use Rattle.s2_bbframe.specs.Limits.{packet_bytes};
 ghost use Rattle.s2_mode.specs.Counts.{CanCount};
 ghost use Rattle.s2_replay.specs.Packets.{packet_at};
-ghost use Rattle.s2_audit.specs.Lines.{back_words, difference_line, front_words, hex_of, packet_shown};
+ghost use Rattle.s2_audit.specs.Lines.{back_words, difference_line, front_words, hex_of, packet_shown, rest_words};
 ghost use Rattle.s2_audit.specs.Steps.{IsPlaced, PrintsText, PrintsTurn, told_text};
 ghost use Rattle.s2_audit.specs.declared.turn.Turn.TheVariants as turns;
 
@@ -46,7 +46,7 @@ fn print_packet<O: CountedWrite>(out: &mut O, packet: &[u8]) -> Result<(), Fault
     print_text(out, digits)
 }
 
-/// The first words of the line of a difference: where it is.
+/// The first words of a difference: where it is.
 fn front_line(difference: Difference) -> Line
     ensures { result ≡ front_words difference }
 {
@@ -114,6 +114,22 @@ fn print_shown<O: CountedWrite>(
     }
 }
 
+/// Prints the rest of the line of a difference, with the packet that it is in.
+fn print_rest<O: CountedWrite>(
+    out: &mut O,
+    difference: Difference,
+    packets: &[u8],
+) -> Result<(), Fault<'static>>
+    requires out { CanCount (O.count out.old) }
+    requires placed { IsPlaced packets.now (turns.Differs difference) }
+    ensures prints { PrintsText (rest_words packets.now difference) (O.contents out.old) (O.contents out.new) result }
+    ensures write { result ≡ Err Fault.Write → O.count out.new ≡ O.count out.old + 1 }
+    ensures no_write { result ≢ Err Fault.Write → O.count out.new ≡ O.count out.old }
+{
+    print_shown(out, difference, packets)?;
+    print_text(out, back_line(difference).as_bytes())
+}
+
 /// Prints the line of a difference. The packet of one is among these packets.
 fn print_difference<O: CountedWrite>(
     out: &mut O,
@@ -127,8 +143,7 @@ fn print_difference<O: CountedWrite>(
     ensures no_write { result ≢ Err Fault.Write → O.count out.new ≡ O.count out.old }
 {
     print_text(out, front_line(difference).as_bytes())?;
-    print_shown(out, difference, packets)?;
-    print_text(out, back_line(difference).as_bytes())
+    print_rest(out, difference, packets)
 }
 
 /// Prints the line of a frame, if its bits have a certificate.

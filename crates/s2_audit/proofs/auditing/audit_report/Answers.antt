@@ -1,4 +1,4 @@
-use Rattle.std.proofs.Common.{◌≡◌, None, Ok, Err, rules, refl, sym, ap, ◌∙◌, inl, inr, arith}
+use Rattle.std.proofs.Common.{◌≡◌, None, Ok, Err, rules, refl, ap, ◌∙◌}
 use Rattle.s2_io.specs.declared.fault.Fault.TheVariants as faults
 use Rattle.s2_audit.specs.Turns.{ends_by}
 use Rattle.s2_audit.proofs.AuditLemmas.{begins, ends_by_step, few_counts, goes_on_by, last_of, none_by, not_failed, reaches, stops_there}

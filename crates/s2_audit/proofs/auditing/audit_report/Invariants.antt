@@ -1,5 +1,4 @@
 use Rattle.std.proofs.Common.{◌≡◌, None}
-use Rattle.s2_replay.specs.Replayers.{IsSameReplayer}
 use Rattle.s2_replay.specs.Running.{IsBy}
 use Rattle.s2_audit.specs.FrameAnswers.{terms_by}
 use Rattle.s2_audit.specs.Turns.{SameFailures, ends_by, failures_by}

@@ -1,4 +1,4 @@
-use Rattle.std.proofs.Common.{refl, rules}
+use Rattle.std.proofs.Common.{refl}
 use Rattle.s2_audit.specs.FrameAnswers.{terms_by}
 use Rattle.s2_audit.specs.Turns.{ends_by}
 use Rattle.s2_audit.proofs.AuditLemmas.{with_rests}

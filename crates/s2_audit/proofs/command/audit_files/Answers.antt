@@ -1,4 +1,4 @@
-use Rattle.std.proofs.Common.{refl, rules, inl}
+use Rattle.std.proofs.Common.{refl, rules}
 use Rattle.s2_audit.specs.Commands.{files_by}
 use Rattle.s2_audit.proofs.CommandLemmas.{none_after_rows, on_rows, read_after}
 use Rattle.s2_audit.proofs.command.audit_files.Goals as goal

@@ -1,10 +1,8 @@
 use Rattle.std.proofs.Common.{◌≡◌, Ok, refl, rules, subst, sym}
 use Rattle.s2_audit.specs.Differences.{ReadsLine}
-use Rattle.s2_audit.specs.Evidences.{evidence_by}
 use Rattle.s2_audit.specs.FrameAnswers.{terms_by}
-use Rattle.s2_audit.specs.Steps.{Judges}
 use Rattle.s2_audit.specs.Turns.{ends_by}
-use Rattle.s2_audit.proofs.TurnLemmas.{JudgedIs, compared_turn, judged_by, same_by, same_terms}
+use Rattle.s2_audit.proofs.TurnLemmas.{compared_turn, judged_by, same_by, same_terms}
 use Rattle.s2_audit.proofs.turn.audit_next.Goals as goal
 
 pub returns-clause-turns : goal.returns-clause-turns
