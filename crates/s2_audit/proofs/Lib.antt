@@ -1,4 +1,3 @@
-pub mod EvidenceLemmas
 pub mod FrameLemmas
 pub mod TurnLemmas
 pub mod PrintLemmas

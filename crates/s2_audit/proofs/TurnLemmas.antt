@@ -1,22 +1,17 @@
 -- What is found of the next thing of the receiver's loop.
-use Rattle.std.proofs.Common.{◌≡◌, ◌≢◌, ◌⊎◌, ℕ, ◌+◌, ◌&&◌, ℤ, Bool, true, false, if◌then◌else◌, IsTrue, List, [], ◌∷◌, ◌++◌, Option, Some, None, is_some, Result, Ok, Err, refl, sym, ap, subst, ◌∙◌, inl, inr}
-use Rattle.std.specs.Io.KnownBytes.{Consumes, IsAtEnd}
+use Rattle.std.proofs.Common.{◌≡◌, ◌⊎◌, ℕ, ◌&&◌, ℤ, Bool, true, false, if◌then◌else◌, List, [], ◌∷◌, ◌++◌, Option, Some, None, is_some, Result, Ok, Err, refl, sym, subst, ◌∙◌, inl, inr}
+use Rattle.std.specs.Io.KnownBytes.{Consumes}
 use Rattle.std.proofs.KnownBytes.{Consumes-nil}
-use Rattle.s2_bits.specs.Bits.{bits_of_bytes}
 use Rattle.s2_mode.specs.Mode.{n_of}
 use Rattle.s2_check.specs.Verdicts.{is_certified}
-use Rattle.s2_check.specs.Views.{View}
 use Rattle.s2_check.specs.declared.verdict.Verdict.{Verdict}
 use Rattle.s2_check.specs.declared.verdict.Verdict.TheVariants.{Broken}
 use Rattle.s2_io.specs.declared.fault.Fault.{Fault}
 use Rattle.s2_io.specs.declared.fault.Fault.TheVariants as faults
-use Rattle.s2_report.specs.Entries.{entry_in}
-use Rattle.s2_report.specs.Reading.{line_fault}
 use Rattle.s2_report.specs.declared.entry.Entry.{Entry}
 use Rattle.s2_report.specs.declared.entry.Entry.TheVariants as entries
 use Rattle.s2_report.specs.declared.entry.Frame.{Frame}
 use Rattle.s2_report.specs.declared.report.Step.{Step}
-use Rattle.s2_report.specs.declared.totals.Totals.{Totals}
 use Rattle.s2_receive.specs.Halves.{Follower, IsSameFollower, Settles}
 use Rattle.s2_receive.specs.Receiving.{Decision}
 use Rattle.s2_receive.specs.declared.gap.Gap.{Gap}
@@ -25,27 +20,25 @@ use Rattle.s2_receive.specs.declared.report.Phase.TheVariants as phases
 use Rattle.s2_receive.specs.declared.window.Next.{Next}
 use Rattle.s2_receive.specs.declared.window.Next.TheVariants as next
 use Rattle.s2_message.specs.Decisions.{soft_frame}
-use Rattle.s2_replay.specs.Auditing.{AuditedFrames, AuditedSoFar, ReplaysIn}
+use Rattle.s2_replay.specs.Auditing.{AuditedSoFar}
 use Rattle.s2_replay.specs.Certificates.{Shows}
-use Rattle.s2_replay.specs.Frames.{AuditsClaim, AuditsFrame, AuditsLast, HoldsSoft, IsLastOf, IsOwnLine, SettlesBy, cost_of, terms_of}
+use Rattle.s2_replay.specs.Frames.{AuditsClaim, AuditsFrame, AuditsLast, HoldsSoft, IsLastOf, terms_of}
 use Rattle.s2_replay.specs.Replay.{Terms, claimed_decision, is_known, rules_for}
 use Rattle.s2_rows.specs.Rows.{Rows}
-use Rattle.s2_replay.specs.Replayers.{IfFrame, IsFrame, IsFrameAt, IsSameReplayer, Replayer}
+use Rattle.s2_replay.specs.Replayers.{IfFrame, IsFrame, IsSameReplayer, Replayer}
 use Rattle.s2_replay.specs.Running.{EndsAfterCut, GoesOn, IsBy}
 use Rattle.s2_replay.specs.declared.certificates.Refusal.{Refusal}
 use Rattle.s2_replay.specs.declared.certificates.Refusal.TheVariants as refusals
 use Rattle.s2_replay.specs.declared.certificates.Shown.TheVariants as shown
-use Rattle.s2_replay.specs.declared.frames.Audited.{Audited}
 use Rattle.s2_replay.specs.declared.frames.Audited.TheVariants as audits
 use Rattle.s2_replay.specs.declared.frames.AuditedClaim.{AuditedClaim}
 use Rattle.s2_replay.specs.declared.frames.AuditedLast.{AuditedLast}
 use Rattle.s2_replay.proofs.Told.{tells_claim, tells_cut, tells_end, tells_frame}
-use Rattle.s2_audit.specs.Differences.{ClaimsOther, Differs, DiffersAt, DiffersIf, Fails, GivesLine, LacksAt, Meets, ReadsLine}
+use Rattle.s2_audit.specs.Differences.{ClaimsOther, Differs, DiffersIf, Fails, GivesLine, LacksAt, Meets, ReadsLine}
 use Rattle.s2_audit.specs.Evidences.{Evidence, IsWordOf, ReadsIf, Takes, TakesCodeword, reason_for}
 use Rattle.s2_audit.specs.FrameAnswers.{Answers, FrameAuditor, terms_by}
-use Rattle.s2_audit.specs.Steps.{ComparesIf, Judges, JudgesFrame, JudgesLast, TurnBy, TurnIs, no_frame_at, other_last, told_last, turn_by}
-use Rattle.s2_audit.specs.Turns.{Ends, IsTold, OnlyLine, Shown, TellsCut, TellsEnd, TellsLine}
-use Rattle.s2_audit.specs.declared.difference.Difference.{Difference}
+use Rattle.s2_audit.specs.Steps.{ComparesIf, ComparesTurn, Judges, JudgesFrame, JudgesLast, TurnBy, TurnIs, no_frame_at, other_last, told_last, turn_by}
+use Rattle.s2_audit.specs.Turns.{Ends, IsTold, OnlyLine, Shown, TellsLine}
 use Rattle.s2_audit.specs.declared.difference.Difference.TheVariants as differences
 use Rattle.s2_audit.specs.declared.difference.Reason.{Reason}
 use Rattle.s2_audit.specs.declared.difference.Reason.TheVariants as reasons
@@ -111,12 +104,12 @@ module _ (old new : Ends) (f : Follower) (am an : FrameAuditor) (line : List ℕ
                 (tells_frame t whole old.symbols new.symbols f mid f' known decisions lines packets found block d step line so_far meets.goes meets.found_is tt settles own);
             open_ = frame_open;
             none = settles.settles.none;
-            report = gives.1.0;
+            report = gives.1;
             takes = takes;
             certificate = settles.shown;
             word = word_is packed word d.bits bits is_word;
           },
-          record { verdict = v_is; known = settles.known; paid = cost_is; entry = gives.1.1 },
+          record { verdict = v_is; known = settles.known; paid = cost_is; entry = gives.2 },
         )
 
     -- or on the report's word
@@ -130,15 +123,15 @@ module _ (old new : Ends) (f : Follower) (am an : FrameAuditor) (line : List ℕ
           record {
             goes = λ whole known decisions lines packets so_far.
                 subst (λ k. AuditedSoFar t whole new.symbols f' k (decisions ++ d ∷ []) (lines ++ line ∷ []) (packets ++ f'.packets)) (and_unknown known)
-                (tells_claim t whole old.symbols new.symbols f mid f' known decisions lines packets found at line frame.verdict claim so_far meets.goes meets.found_is refl uncertified audits' (subst IsTrue (sym told) tt));
+                (tells_claim t whole old.symbols new.symbols f mid f' known decisions lines packets found at line frame.verdict claim so_far meets.goes meets.found_is refl uncertified audits' told);
             open_ = frame_open;
             none = audits'.settles.none;
-            report = gives.1.0;
+            report = gives.1;
             takes = subst (λ e. Takes (n_of t.mode) old.evidence e None None) (sym same) takes_old;
             certificate = refl;
             word = tt;
           },
-          record { verdict = refl; known = refl; paid = refl; entry = gives.1.1 },
+          record { verdict = refl; known = refl; paid = refl; entry = gives.2 },
         )
       where
         takes_none : (n : ℕ) (e : Evidence) → e.codewords ≡ None → Takes n e e None None
@@ -170,7 +163,7 @@ module _ (old new : Ends) (f : Follower) (am an : FrameAuditor) (line : List ℕ
         → JudgedIs t old new f f' p (Ok (if b then turns.Frame (record { frame = frame; verdict = frame.verdict; cost = None; known = false }) else no_frame_at p at))
     claimed frame claim says uncertified none same audits' true told = told_claim frame claim says uncertified none same audits' told
     claimed frame claim says uncertified none same audits' false told =
-        no_frame (subst (λ e. ClaimsOther mid f' found line e) (sym says) (uncertified, (claim, audits', λ yes. subst IsTrue told yes)))
+        no_frame (subst (λ e. ClaimsOther mid f' found line e) (sym says) (uncertified, (claim, audits', λ yes. (let never : true ≡ false = sym yes ∙ told in absurd (cc)))))
 
     -- by its answer
     answered : (frame : Frame) (answer : FrameAnswer) → entry ≡ Some (entries.Frame frame) → Answers am an found frame.verdict line old.evidence new.evidence (Ok answer)
@@ -225,40 +218,60 @@ module _ (old new : Ends) (f : Follower) (am an : FrameAuditor) (line : List ℕ
         → ((entry ≡ None) ⊎ ¬ IsLastOf (next.End at skipped) p.known last.step f'.state.standing.totals line) → (k : Bool) → p.known ≡ k
         → JudgedIs t old new f f' p (Ok (turns.Differs (if k then differences.Line p.line last.step f'.state.standing.totals else differences.Count p.line f'.state.standing.totals.frames)))
     other_end at skipped last meets audits' differs true is = other_line (next.End at skipped) last (λ x. x) meets audits' differs
-    other_end at skipped last meets audits' differs false is =
-        (mid, next.End at skipped, line, entry, meets, (refl, refl, is, (last.step, record {
-          last = λ x. x;
-          settles = audits'.settles;
-          other = subst (λ k. (entry ≡ None) ⊎ ¬ IsLastOf (next.End at skipped) k last.step f'.state.standing.totals line) is differs;
-        })))
+    other_end at skipped last meets audits' differs false is = (
+      mid,
+      next.End at skipped,
+      line,
+      entry,
+      meets,
+      (
+        refl,
+        refl,
+        is,
+        (
+          last.step,
+          record {
+            last = λ x. x;
+            settles = audits'.settles;
+            other = subst (λ k. (entry ≡ None) ⊎ ¬ IsLastOf (next.End at skipped) k last.step f'.state.standing.totals line) is differs;
+          },
+        ),
+      ),
+    )
 
     -- after a cut frame the end is sought
     cut_closes : (at : ℕ) (skipped : Gap) (count : ℕ) (d : Decision) (step : Step) → Settles mid f' (next.Cut at skipped count) d step → f'.state.phase ≡ phases.Closing
     cut_closes at skipped count d step settles = (settles.handles (rules_for t) [] tt).phase
 
     only_line : (e : Entry) → entry ≡ Some e → GivesLine old.report new.report line entry → OnlyLine old new line
-    only_line e is gives = record { report = (subst (λ x. GivesLine old.report new.report line x) is gives).1.0; evidence = same; packets = kept }
+    only_line e is gives = record { report = (subst (λ x. GivesLine old.report new.report line x) is gives).1; evidence = same; packets = kept }
 
     told_cut : (at : ℕ) (skipped : Gap) (count : ℕ) (last : AuditedLast) (e : Entry) → entry ≡ Some e → Meets old new f mid (next.Cut at skipped count) line entry
         → AuditsLast mid f' (next.Cut at skipped count) p.known line last → last.told ≡ true → JudgedIs t old new f f' p (Ok turns.Cut)
-    told_cut at skipped count last e is meets audits' told = (line, record {
-      goes = λ whole decisions lines packets so_far.
-          tells_cut t whole old.symbols new.symbols f mid f' p.known decisions lines packets at skipped count line last so_far meets.goes meets.found_is audits' (subst IsTrue (sym told) tt);
-      closes = cut_closes at skipped count (claimed_decision Broken true) last.step audits'.settles;
-      none = audits'.settles.none;
-      only = only_line e is meets.gives;
-    })
+    told_cut at skipped count last e is meets audits' told = (
+      line,
+      record {
+        goes = λ whole decisions lines packets so_far.
+            tells_cut t whole old.symbols new.symbols f mid f' p.known decisions lines packets at skipped count line last so_far meets.goes meets.found_is audits' told;
+        closes = cut_closes at skipped count (claimed_decision Broken true) last.step audits'.settles;
+        none = audits'.settles.none;
+        only = only_line e is meets.gives;
+      },
+    )
 
     told_end : (at : ℕ) (skipped : Gap) (last : AuditedLast) (e : Entry) → entry ≡ Some e → IsBy t f' → Meets old new f mid (next.End at skipped) line entry
         → AuditsLast mid f' (next.End at skipped) p.known line last → last.told ≡ true → JudgedIs t old new f f' p (Ok turns.End)
-    told_end at skipped last e is by meets audits' told = (line, record {
-      goes = λ whole decisions lines packets so_far.
-          tells_end t whole old.symbols new.symbols f mid f' p.known decisions lines packets at skipped line last so_far meets.goes meets.found_is by audits' (subst IsTrue (sym told) tt);
-      only = only_line e is meets.gives;
-    })
+    told_end at skipped last e is by meets audits' told = (
+      line,
+      record {
+        goes = λ whole decisions lines packets so_far.
+            tells_end t whole old.symbols new.symbols f mid f' p.known decisions lines packets at skipped line last so_far meets.goes meets.found_is by audits' told;
+        only = only_line e is meets.gives;
+      },
+    )
 
     not_told : (found : Next) (last : AuditedLast) → AuditsLast mid f' found p.known line last → last.told ≡ false → ¬ IsLastOf found p.known last.step f'.state.standing.totals line
-    not_told found last audits' is = λ so. subst IsTrue is (audits'.told.1 so)
+    not_told found last audits' is = λ so. (let never : true ≡ false = sym (audits'.told.1 so) ∙ is in absurd (cc))
 
     pub cut_judged : (at : ℕ) (skipped : Gap) (count : ℕ) (turn : Turn) → Meets old new f mid (next.Cut at skipped count) line entry → JudgesLast am an (next.Cut at skipped count) entry line p turn
         → JudgedIs t old new f f' p (Ok turn)
@@ -317,22 +330,50 @@ compared t old mid new f f' p told result kept symbols report evidence (s, tells
     by_result : (r : Result Turn Fault) → ComparesIf f'.packets mid.packets new.packets told p r → TurnIs t old new f f' p r
     by_result (Ok (turns.Frame x)) (is, reads) = (s, tells_new, subst (IsTold s) (sym is) is_told, subst (λ x'. ReadsIf x' new.packets f'.packets) kept reads)
     by_result (Ok (turns.Differs (differences.Packet number place))) (is, differs) = (is, (s, tells_new), subst (λ x'. DiffersIf f'.packets x' new.packets place) kept differs)
+    by_result (Ok turns.Cut) h' = absurd h'
+    by_result (Ok turns.End) h' = absurd h'
+    by_result (Ok (turns.Differs (differences.Frame number at reason))) h' = absurd h'
+    by_result (Ok (turns.Differs (differences.Line number step totals))) h' = absurd h'
+    by_result (Ok (turns.Differs (differences.NoFrame number frame at))) h' = absurd h'
+    by_result (Ok (turns.Differs (differences.Count number frames))) h' = absurd h'
+    by_result (Ok (turns.Differs (differences.MoreLines number))) h' = absurd h'
+    by_result (Ok (turns.Differs (differences.MorePackets number))) h' = absurd h'
+    by_result (Ok (turns.Differs differences.MoreCertificates)) h' = absurd h'
+    by_result (Ok (turns.Differs differences.MoreCodewords)) h' = absurd h'
     by_result (Err faults.Read) h' = tt
+    by_result (Err faults.Write) h' = absurd h'
+    by_result (Err faults.TooLong) h' = absurd h'
+    by_result (Err faults.NoMemory) h' = absurd h'
+    by_result (Err (faults.Open name)) h' = absurd h'
+    by_result (Err (faults.UsedTwice name)) h' = absurd h'
+    by_result (Err (faults.Rows text)) h' = absurd h'
+    by_result (Err (faults.Refused text)) h' = absurd h'
 
--- nothing but a frame has packets
-pub passed : (t : Terms) (old new : Ends) (f f' : Follower) (p : Place) (turn : Turn) → ((told : Told) → turn ≡ turns.Frame told → ⊥) → JudgedIs t old new f f' p (Ok turn) → TurnIs t old new f f' p (Ok turn)
-passed t old new f f' p (turns.Frame told) never h = absurd (never told refl)
-passed t old new f f' p turns.Cut never h = h
-passed t old new f f' p turns.End never h = h
-passed t old new f f' p (turns.Differs (differences.Packet number place)) never h = absurd h
-passed t old new f f' p (turns.Differs (differences.Frame number at reason)) never h = h
-passed t old new f f' p (turns.Differs (differences.Line number step totals)) never h = h
-passed t old new f f' p (turns.Differs (differences.NoFrame number frame at)) never h = h
-passed t old new f f' p (turns.Differs (differences.Count number frames)) never h = h
-passed t old new f f' p (turns.Differs (differences.MoreLines number)) never h = h
-passed t old new f f' p (turns.Differs (differences.MorePackets number)) never h = h
-passed t old new f f' p (turns.Differs differences.MoreCertificates) never h = h
-passed t old new f f' p (turns.Differs differences.MoreCodewords) never h = h
+-- of any turn
+pub compared_turn : (t : Terms) (old mid new : Ends) (f f' : Follower) (p : Place) (turn : Turn) (result : Result Turn Fault) → mid.packets ≡ old.packets
+    → new.symbols ≡ mid.symbols → new.report ≡ mid.report → new.evidence ≡ mid.evidence → JudgedIs t old mid f f' p (Ok turn) → ComparesTurn f'.packets mid.packets new.packets turn p result
+    → TurnIs t old new f f' p result
+compared_turn t old mid new f f' p turn result kept symbols report evidence j h = by_turn turn j h
+  where
+    same : new.packets ≡ mid.packets → new ≡ mid
+    same packets = λ i. record { symbols = symbols i; report = report i; evidence = evidence i; packets = packets i }
+
+    pass : (x : Turn) → TurnIs t old mid f f' p (Ok x) → result ≡ Ok x → new.packets ≡ mid.packets → TurnIs t old new f f' p result
+    pass x is made packets = subst (TurnIs t old new f f' p) (sym made) (subst (λ e. TurnIs t old e f f' p (Ok x)) (sym (same packets)) is)
+
+    by_turn : (x : Turn) → JudgedIs t old mid f f' p (Ok x) → ComparesTurn f'.packets mid.packets new.packets x p result → TurnIs t old new f f' p result
+    by_turn (turns.Frame told) j h = compared t old mid new f f' p told result kept symbols report evidence j h
+    by_turn turns.Cut j h = pass turns.Cut j h.0 h.1
+    by_turn turns.End j h = pass turns.End j h.0 h.1
+    by_turn (turns.Differs (differences.Packet number place)) j h = absurd j
+    by_turn (turns.Differs (differences.Frame number at reason)) j h = pass (turns.Differs (differences.Frame number at reason)) j h.0 h.1
+    by_turn (turns.Differs (differences.Line number step totals)) j h = pass (turns.Differs (differences.Line number step totals)) j h.0 h.1
+    by_turn (turns.Differs (differences.NoFrame number frame at)) j h = pass (turns.Differs (differences.NoFrame number frame at)) j h.0 h.1
+    by_turn (turns.Differs (differences.Count number frames)) j h = pass (turns.Differs (differences.Count number frames)) j h.0 h.1
+    by_turn (turns.Differs (differences.MoreLines number)) j h = pass (turns.Differs (differences.MoreLines number)) j h.0 h.1
+    by_turn (turns.Differs (differences.MorePackets number)) j h = pass (turns.Differs (differences.MorePackets number)) j h.0 h.1
+    by_turn (turns.Differs differences.MoreCertificates) j h = pass (turns.Differs differences.MoreCertificates) j h.0 h.1
+    by_turn (turns.Differs differences.MoreCodewords) j h = pass (turns.Differs differences.MoreCodewords) j h.0 h.1
 
 -- ---- faults
 
@@ -368,3 +409,28 @@ same_by t old new same by = record {
   resync = same.resync ∙ by.resync;
   limit = same.limit ∙ by.limit;
 }
+
+-- ---- the next thing as a whole
+
+module _ (t : Terms) (old mid : Ends) (f : Follower) (am an : FrameAuditor) (line : List ℕ) (entry : Option Entry) (p : Place) (found : Next) (result : Result Turn Fault) where
+  pub judged_by : terms_by am ≡ t → EndsAfterCut f.state.phase (Some found) → IfFrame (Some found) (HoldsSoft am.replayer) → IsBy t an.replayer.follower → mid.packets ≡ old.packets
+      → GoesOn f am.replayer.follower old.symbols mid.symbols → am.replayer.follower.found ≡ Some found → ReadsLine p.line old.report mid.report line (Ok entry)
+      → Judges am an found entry line p old.evidence mid.evidence result → JudgedIs t old mid f an.replayer.follower p result
+  judged_by terms closing soft by kept goes found_is reads h =
+      subst (λ x. JudgedIs x old mid f an.replayer.follower p result) terms
+      (judged old mid f am an line entry p found result closing soft (subst (λ x. IsBy x an.replayer.follower) (sym terms) by) kept (record { goes = goes; found_is = found_is; gives = reads }) h)
+
+-- a fault of the evidence
+pub judge_fails : (t : Terms) (old new : Ends) (f f' : Follower) (p : Place) (fault : Fault) → JudgedIs t old new f f' p (Err fault) → TurnIs t old new f f' p (Err fault)
+judge_fails t old new f f' p fault h = h
+
+-- ---- soft values
+
+pub holds_after : (old new : Replayer) → IsSameReplayer old new → new.soft ≡ soft_frame old.follower.sought.mode old.number old.options new.follower.frame → HoldsSoft new
+holds_after old new same is = is ∙ sym (λ i. soft_frame (same.follower.sought i).mode (same.number i) (same.options i) new.follower.frame)
+
+pub if_holds : (found : Option Next) (old new : Replayer) → IsSameReplayer old new → IfFrame found (new.soft ≡ soft_frame old.follower.sought.mode old.number old.options new.follower.frame) → IfFrame found (HoldsSoft new)
+if_holds None old new same h = tt
+if_holds (Some (next.Frame at skipped)) old new same h = holds_after old new same h
+if_holds (Some (next.Cut at skipped count)) old new same h = tt
+if_holds (Some (next.End at skipped)) old new same h = tt

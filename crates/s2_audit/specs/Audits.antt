@@ -17,14 +17,14 @@ use Rattle.s2_audit.specs.Turns.{Audited, Ends, IsFine, Replayed, Shown, all_kno
 use Rattle.s2_audit.specs.declared.difference.Difference.{Difference}
 use Rattle.s2_audit.specs.declared.place.Place.{Place}
 
--- what comes next after these frames, lines and packets: the number of the line, that of the frame, how many bytes of packets came
--- before, and whether all bits are known
+-- the position after these frames, lines and packets: the number of the next line, that of the next frame, the number of bytes of
+-- packets before it, and whether all bits are known
 abbrev pub place_after : List Shown → (lines : List (List ℕ)) → (packets : List ℕ) → Place
 place_after frames lines packets =
     record { line = length lines + 1; frame = (counts_of frames).frames + 1; bytes = min (length packets) (2 ^ 64 - 1); known = all_known (counts_of frames) }
 
--- The audit comes to the first difference after these frames: in what is found next, or in what is left of the files after the end.
--- The packet of a difference is among these packets
+-- The audit comes to the first difference after these frames: in the next frame, cut frame or end, or in the rest of a file after the
+-- end. The packet of a difference is among these packets
 pub record Stops (t : Terms) (old new : Ends) (frames : List Shown) (difference : Difference) (shown : List ℕ) : Type 0 where
   pub between : Ends
   pub lines : List (List ℕ)
@@ -32,8 +32,8 @@ pub record Stops (t : Terms) (old new : Ends) (frames : List Shown) (difference 
   pub differs : ((f f' : Follower) × Audited t old between f frames lines packets × Differs t between new f f' (place_after frames lines packets) difference × (shown ≡ f'.packets))
       ⊎ (Replayed t old between frames lines packets × LeavesOver (rests_of between) (rests_of new) (place_after frames lines packets) difference)
 
--- The audit ends with this exit, and with this text. Exit 0: all is fine, and the lines of the frames and the counts are printed. Exit 2:
--- the lines of the frames before the first difference, and what was expected
+-- The audit ends with this exit, and with this text. Exit 0: all is fine, and the text has the lines of the frames and the counts. Exit
+-- 2: it has the lines of the frames before the first difference, and the line of the difference
 abbrev pub EndsWith : Terms → (old new : Ends) → Exit → (text : List ℕ) → Type 0
 EndsWith t old new exits.Fine text =
     (frames : List Shown) × (lines : List (List ℕ)) × (packets : List ℕ) × IsFine t old new frames lines packets × (text ≡ told_lines frames ++ end_line (counts_of frames))

@@ -8,7 +8,8 @@ use Rattle.s2_io.specs.declared.fault.Fault.{Fault}
 use Rattle.s2_io.specs.declared.fault.Fault.TheVariants as faults
 use Rattle.s2_io.specs.Exits.{Complains, Follows, counted, exit_of}
 use Rattle.s2_io.specs.Screens.{Screen}
-use Rattle.s2_link.specs.Link.{Link, link_of}
+use Rattle.s2_link.specs.Link.{Link, link_of, setup_of}
+use Rattle.s2_link.specs.declared.setup.LinkSetup.{LinkSetup}
 use Rattle.s2_link.specs.declared.setup.Setup.{Setup}
 use Rattle.s2_inputs.specs.Inputs.{rows_in}
 use Rattle.s2_audit.specs.Audits.{AuditsAll, ReachesLimit}
@@ -60,7 +61,13 @@ pub record Causes (ended : Result Exit Fault) (old new : Files) (prints prints_a
 
 -- `audit` has ended with this exit: so it ran on its files and its output, only failed calls were counted, and the line
 -- of a fault is on the errors
-abbrev pub AuditExits : Setup → How → Files → Files → Screen → Screen → Exit → Type 0
+abbrev pub AuditExits : Setup → How → (old new : Files) → Screen → Screen → Exit → Type 0
 AuditExits setup how old new screen_old screen_new exit =
     (ended : Result Exit Fault) × (exit ≡ exit_of ended) × AuditRuns setup how old new screen_old.output screen_new.output ended
     × Causes ended old new screen_old.output_failed screen_new.output_failed × Complains ended screen_old screen_new
+
+-- the same of six readers, before and after
+abbrev pub AuditEnds : {R : Type 0} → (R → Option (List ℕ)) → (R → ℕ) → LinkSetup → How → (rows symbols report certificates : R) → (codewords packets : Option R)
+    → (rows_new symbols_new report_new certificates_new : R) → (codewords_new packets_new : Option R) → Screen → Screen → Exit → Type 0
+AuditEnds remaining count setup how rows symbols report certificates codewords packets rows' symbols' report' certificates' codewords' packets' screen_old screen_new exit =
+    AuditExits (setup_of setup) how (files_by remaining count rows symbols report certificates codewords packets) (files_by remaining count rows' symbols' report' certificates' codewords' packets') screen_old screen_new exit

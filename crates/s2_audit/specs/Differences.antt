@@ -14,12 +14,9 @@ use Rattle.s2_report.specs.Reading.{line_fault}
 use Rattle.s2_report.specs.declared.entry.Entry.{Entry}
 use Rattle.s2_report.specs.declared.entry.Entry.TheVariants as entries
 use Rattle.s2_report.specs.declared.report.Step.{Step}
-use Rattle.s2_report.specs.declared.totals.Totals.{Totals}
 use Rattle.s2_receive.specs.Halves.{Follower, Settles}
 use Rattle.s2_receive.specs.Receiving.{Decision}
-use Rattle.s2_receive.specs.declared.gap.Gap.{Gap}
 use Rattle.s2_receive.specs.declared.window.Next.{Next}
-use Rattle.s2_receive.specs.declared.window.Next.TheVariants as next
 use Rattle.s2_message.specs.Decisions.{soft_frame}
 use Rattle.s2_replay.specs.Certificates.{Shows}
 use Rattle.s2_replay.specs.Frames.{AuditsClaim, IsLastOf, IsOwnLine, SettlesBy}
@@ -58,7 +55,7 @@ ReadsLine number old new line (Ok entry) = GivesLine old new line entry
 ReadsLine number old new line (Err faults.Read) = ⊤
 ReadsLine number old new line (Err f) = (f ≡ line_fault number) × IsUnreadable old new
 
--- ---- what was found
+-- ---- the receiver's loop
 
 -- The receiver's loop found this next, and the report has this line, or none
 pub record Meets (old new : Ends) (f mid : Follower) (found : Next) (line : List ℕ) (entry : Option Entry) : Type 0 where
@@ -100,7 +97,7 @@ ClaimsOther mid f' found line entry = ⊤
 
 -- ---- the first difference
 
--- the number of the packet at this place after so many bytes of packets, as far as 64 bits count these
+-- the number of the packet at this place after this number of bytes of packets, which stops at 2^64 - 1
 abbrev pub packet_number : (before place : ℕ) → ℕ
 packet_number before place = min (before + packet_bytes * place) (2 ^ 64 - 1) / packet_bytes + 1
 
@@ -109,8 +106,8 @@ abbrev pub LacksAt : Terms → (old new : Ends) → (mid : Follower) → Next �
 LacksAt t old new mid found (Some (entries.Frame frame)) reason = LacksEvidence t mid frame.verdict old.evidence new.evidence reason
 LacksAt t old new mid found entry reason = ⊥
 
--- What differs first, of the thing that is found next, of its line, or of the packets of a frame whose line is told. The numbers are
--- those of the next frame and of the next line
+-- The first difference is in the evidence or in the line of the next frame, cut frame or end. The numbers are those of the next frame
+-- and of the next line
 abbrev pub DiffersAt : Terms → (old new : Ends) → (mid f' : Follower) → Next → (line : List ℕ) → Option Entry → Place → Difference → Type 0
 DiffersAt t old new mid f' found line entry p (differences.Frame number at reason) = (number ≡ p.frame) × IsFrameAt found at × LacksAt t old new mid found entry reason
 DiffersAt t old new mid f' found line entry p (differences.Line number step totals) =

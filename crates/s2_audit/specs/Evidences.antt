@@ -1,8 +1,7 @@
 -- What shows the decision on a frame: a certificate, and a record of its codeword (own).
-use Rattle.std.specs.Prelude.{◌≡◌, ◌⊎◌, ℕ, ◌*◌, ◌<◌, Bool, true, false, List, [], ◌++◌, codes, length, Option, Some, None, Result, Ok, Err, option_map, is_some, ⊤}
+use Rattle.std.specs.Prelude.{◌≡◌, ℕ, ◌*◌, ◌<◌, Bool, true, false, List, [], ◌++◌, codes, length, Option, Some, None, Result, Ok, Err, option_map, is_some, ⊤}
 use Rattle.std.specs.Io.KnownBytes.{Consumes, IsAtEnd}
 use Rattle.s2_bits.specs.Bits.{bits_of_bytes}
-use Rattle.s2_mode.specs.Mode.{Mode, n_of}
 use Rattle.s2_io.specs.declared.fault.Fault.{Fault}
 use Rattle.s2_io.specs.declared.fault.Fault.TheVariants as faults
 use Rattle.s2_replay.specs.declared.certificates.Refusal.{Refusal}
@@ -97,7 +96,7 @@ pub record Takes (n : ℕ) (old new : Evidence) (block packed : Option (List ℕ
   pub certificate : Consumes old.certificates new.certificates (bytes_of block)
   pub codeword : TakesCodeword n old.codewords new.codewords packed
 
--- what was taken of the codewords: nothing is given, no record is left, or the record of these bits. Or the file ends within one
+-- the next record of a codeword: the file is not given, no record is left, or the record has these bits. Or the file ends within one
 abbrev pub TakesRecord : (n size : ℕ) → (old new : Option (Option (List ℕ))) → (bits : List Bool) → Result Recorded Fault → Type 0
 TakesRecord n size old new bits (Ok records.NotGiven) = (old ≡ None) × TakesCodeword n old new None
 TakesRecord n size old new bits (Ok records.Missing) = IsMissing old new

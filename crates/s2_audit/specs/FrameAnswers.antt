@@ -17,7 +17,6 @@ use Rattle.s2_receive.specs.declared.window.Next.{Next}
 use Rattle.s2_replay.specs.Frames.{AuditsClaim, AuditsFrame, IsShownBy, terms_of}
 use Rattle.s2_replay.specs.Replay.{IsBorneOut, Terms}
 use Rattle.s2_replay.specs.Replayers.{Replayer}
-use Rattle.s2_replay.specs.declared.frames.AuditedClaim.{AuditedClaim}
 use Rattle.s2_audit.specs.Evidences.{Evidence, EndsWithin, EndsWithinIf, IsMissing, IsWordOf, Takes, TakesCodeword, cut_fault}
 use Rattle.s2_audit.specs.Limits.{certificate_bytes}
 use Rattle.s2_audit.specs.declared.how.How.{How}
@@ -106,7 +105,7 @@ AnswersWith word bits recorded audited (answers.Judged a) = (a ≡ audited) × (
 AnswersWith word bits recorded audited answer = ⊥
 
 -- The audit of a frame whose line says this verdict. The certificate of one that is sole or most likely is missing, or its record of
--- the codeword is; or both are there, with different bits. Or the frame is audited by what is taken, or on the report's word
+-- the codeword is; or both are there, with different bits. Or the frame is audited by these, or on the report's word
 abbrev pub Answers : (old new : FrameAuditor) → Next → Verdict → (line : List ℕ) → (before after : Evidence) → Result FrameAnswer Fault → Type 0
 Answers old new found verdict line before after (Ok answers.NoCodeword) = IsMissing before.codewords after.codewords × (after.certificates ≡ before.certificates)
 Answers old new found verdict line before after (Ok answers.NoCertificate) =

@@ -47,7 +47,7 @@ packet_words number = codes "packet " ++ decimal number ++ codes ": expected "
 abbrev pub hex_of : (packet : List ℕ) → List ℕ
 hex_of packet = encode_lower packet
 
--- what a difference is in, or the words before what is expected
+-- the first words of a difference: where it is
 abbrev pub front_words : Difference → List ℕ
 front_words (differences.Frame number at reason) = frame_words number at
 front_words (differences.Line line step totals) = line_words line
@@ -59,22 +59,30 @@ front_words (differences.MorePackets number) = packet_words number
 front_words differences.MoreCertificates = codes "certificates"
 front_words differences.MoreCodewords = codes "codewords"
 
--- the words after these; a difference in a packet shows the packet
+-- the words after these, and after a packet
 abbrev pub back_words : Difference → List ℕ
 back_words (differences.Frame number at reason) = codes " " ++ reason_text reason ++ codes "\n"
 back_words (differences.Line line step totals) = step_line step totals
 back_words (differences.NoFrame line number at) = frame_words number at ++ codes "\n"
 back_words (differences.Count line frames) = codes "end frames " ++ decimal frames ++ codes "\n"
 back_words (differences.MoreLines line) = codes "no more\n"
-back_words (differences.Packet number place) = []
+back_words (differences.Packet number place) = codes "\n"
 back_words (differences.MorePackets number) = codes "no more\n"
 back_words differences.MoreCertificates = codes " left over\n"
 back_words differences.MoreCodewords = codes " left over\n"
 
--- The line of a difference. The packet of one is among these packets
+-- the packet that a difference is in, among these
+abbrev pub packet_shown : (packets : List ℕ) → Difference → List ℕ
+packet_shown packets (differences.Packet number place) = hex_of (packet_at packets place)
+packet_shown packets difference = []
+
+-- the rest of its line, with the packet
+abbrev pub rest_words : (packets : List ℕ) → Difference → List ℕ
+rest_words packets difference = packet_shown packets difference ++ back_words difference
+
+-- the line of a difference
 abbrev pub difference_line : (packets : List ℕ) → Difference → List ℕ
-difference_line packets (differences.Packet number place) = packet_words number ++ hex_of (packet_at packets place) ++ codes "\n"
-difference_line packets difference = front_words difference ++ back_words difference
+difference_line packets difference = front_words difference ++ rest_words packets difference
 
 -- ---- the last line
 

@@ -1,5 +1,5 @@
--- The audit of one thing of the receiver's loop, and of the rests of the files (own).
-use Rattle.std.specs.Prelude.{◌≡◌, ◌⊎◌, ℕ, ◌+◌, ◌-◌, ◌*◌, ◌<◌, ◌^◌, min, Bool, true, false, ◌&&◌, if◌then◌else◌, List, [], ◌++◌, length, Option, Some, None, is_some, Result, Ok, Err, ⊤}
+-- The audit of one frame, cut frame or end, and of the rest of each file (own).
+use Rattle.std.specs.Prelude.{◌≡◌, ◌⊎◌, ℕ, ◌+◌, ◌-◌, ◌*◌, ◌<◌, ◌^◌, min, Bool, true, false, ◌&&◌, if◌then◌else◌, List, [], length, Option, Some, None, is_some, Result, Ok, Err, ⊤}
 use Rattle.std.specs.Io.KnownBytes.{Appends, Consumes, IsAtEnd}
 use Rattle.s2_mode.specs.Pieces.{AppendsPart}
 use Rattle.s2_bbframe.specs.Limits.{packet_bytes}
@@ -17,7 +17,6 @@ use Rattle.s2_receive.specs.declared.window.Next.{Next}
 use Rattle.s2_receive.specs.declared.window.Next.TheVariants as next
 use Rattle.s2_replay.specs.Frames.{AuditsLast}
 use Rattle.s2_replay.specs.Replay.{Terms}
-use Rattle.s2_replay.specs.Replayers.{IsFrame}
 use Rattle.s2_replay.specs.declared.frames.Audited.TheVariants as audits
 use Rattle.s2_replay.specs.declared.frames.AuditedLast.{AuditedLast}
 use Rattle.s2_audit.specs.Differences.{Differs, DiffersIf, Fails, HasMore, HasMoreIf, LeavesOver, Rests, packet_number, rests_of}
@@ -48,7 +47,7 @@ refused_at p at reason = turns.Differs (differences.Frame p.frame at reason)
 abbrev pub no_frame_at : Place → (at : ℕ) → Turn
 no_frame_at p at = turns.Differs (differences.NoFrame p.line p.frame at)
 
--- what is found of a frame by this answer, whose line says this
+-- the finding of a frame with this answer, whose line has this content
 abbrev pub turn_by : Frame → (at : ℕ) → Place → Totals → FrameAnswer → Turn
 turn_by frame at p totals answers.NoCertificate = refused_at p at reasons.NoCertificate
 turn_by frame at p totals answers.NoCodeword = refused_at p at reasons.NoCodeword
@@ -78,6 +77,11 @@ ComparesIf own old new told p (Ok turn) = ⊥
 ComparesIf own old new told p (Err faults.Read) = ⊤
 ComparesIf own old new told p (Err f) = ⊥
 
+-- the same of any finding; only a frame has packets
+abbrev pub ComparesTurn : (own : List ℕ) → (old new : Option (Option (List ℕ))) → Turn → Place → Result Turn Fault → Type 0
+ComparesTurn own old new (turns.Frame told) p result = ComparesIf own old new told p result
+ComparesTurn own old new turn p result = (result ≡ Ok turn) × (new ≡ old)
+
 -- ---- a cut frame, and the end
 
 abbrev pub told_last : Next → Turn
@@ -102,7 +106,7 @@ abbrev pub Judges : (old new : FrameAuditor) → Next → Option Entry → (line
 Judges old new (next.Frame at skipped) entry line p before after result = JudgesFrame old new (next.Frame at skipped) at entry line p before after result
 Judges old new found entry line p before after result = (after ≡ before) × ((turn : Turn) × (result ≡ Ok turn) × JudgesLast old new found entry line p turn)
 
--- the audit of the next thing: a frame with its packets, a cut frame, the end, or the first difference
+-- the finding of the next frame with its packets, of a cut frame or of the end; or the first difference
 abbrev pub TurnIs : Terms → (old new : Ends) → (f f' : Follower) → Place → Result Turn Fault → Type 0
 TurnIs t old new f f' p (Ok (turns.Frame told)) = (s : Shown) × TellsLine t old new f f' s × IsTold s told × ReadsIf old.packets new.packets f'.packets
 TurnIs t old new f f' p (Ok turns.Cut) = (line : List ℕ) × TellsCut t old new f f' p.known line
@@ -133,16 +137,24 @@ pub record AllOver (old new : Rests) : Type 0 where
   pub codewords : ReadsIf old.evidence.codewords new.evidence.codewords [] × IsOverIf new.evidence.codewords
   pub packets_are : ReadsIf old.packets new.packets [] × IsOverIf new.packets
 
--- what is left of the files after the end, whose place this is
+-- the rest of each file after the end, by the position after it
 abbrev pub RestIs : (old new : Rests) → Place → Result (Option Difference) Fault → Type 0
 RestIs old new p (Ok None) = AllOver old new
 RestIs old new p (Ok (Some difference)) = LeavesOver old new p difference
 RestIs old new p (Err faults.Read) = ⊤
 RestIs old new p (Err f) = ⊥
 
--- the place after the end
+-- the position after the end
 abbrev pub place_behind : Place → Place
 place_behind p = record p { line = p.line + 1 }
+
+-- the end with the rest of each file; another finding is unchanged
+abbrev pub RestTurn : (old new : Rests) → Turn → Place → Result Turn Fault → Type 0
+RestTurn old new turns.End p (Ok turns.End) = RestIs old new (place_behind p) (Ok None)
+RestTurn old new turns.End p (Ok (turns.Differs difference)) = RestIs old new (place_behind p) (Ok (Some difference))
+RestTurn old new turns.End p (Err faults.Read) = ⊤
+RestTurn old new turns.End p result = ⊥
+RestTurn old new turn p result = (result ≡ Ok turn) × (new ≡ old)
 
 -- after the end all is fine, or a file goes on
 pub record EndIs (t : Terms) (old new : Ends) (f : Follower) (p : Place) (left : Option Difference) : Type 0 where
@@ -152,20 +164,20 @@ pub record EndIs (t : Terms) (old new : Ends) (f : Follower) (p : Place) (left :
   pub symbols : new.symbols ≡ mid.symbols
   pub rest : RestIs (rests_of mid) (rests_of new) (place_behind p) (Ok left)
 
--- ---- a whole turn
+-- ---- with the rests
 
--- the audit of the next thing; with the end also that of the rests
+-- the same with the rest of each file after the end
 abbrev pub OutcomeIs : Terms → (old new : Ends) → (f f' : Follower) → Place → Result Turn Fault → Type 0
 OutcomeIs t old new f f' p (Ok turns.End) = EndIs t old new f p None
 OutcomeIs t old new f f' p (Ok (turns.Differs difference)) = Differs t old new f f' p difference ⊎ EndIs t old new f p (Some difference)
 OutcomeIs t old new f f' p result = TurnIs t old new f f' p result
 
--- ---- what is printed
+-- ---- printed text
 
 abbrev pub told_text : Told → List ℕ
 told_text told = cost_text told.frame told.cost
 
--- the text of a turn
+-- the text of a finding
 abbrev pub turn_text : Counts → (packets : List ℕ) → Turn → List ℕ
 turn_text counts packets (turns.Frame told) = told_text told
 turn_text counts packets turns.Cut = []
@@ -185,7 +197,7 @@ PrintsText text out out_new (Ok x) = Appends out out_new text
 PrintsText text out out_new (Err faults.Write) = AppendsPart text out out_new
 PrintsText text out out_new (Err f) = ⊥
 
--- so of a turn
+-- the same of the text of a finding, with its exit
 abbrev pub PrintsTurn : Counts → (packets : List ℕ) → Turn → (out out_new : Option (List ℕ)) → Result (Option Exit) Fault → Type 0
 PrintsTurn counts packets turn out out_new (Ok exit) = (exit ≡ turn_exit turn) × Appends out out_new (turn_text counts packets turn)
 PrintsTurn counts packets turn out out_new (Err faults.Write) = AppendsPart (turn_text counts packets turn) out out_new
@@ -196,23 +208,23 @@ abbrev pub IsPlaced : (packets : List ℕ) → Turn → Type 0
 IsPlaced packets (turns.Differs (differences.Packet number place)) = packet_bytes * place < length packets
 IsPlaced packets turn = ⊤
 
--- ---- the standing
+-- ---- counts
 
--- after so many lines with these counts
+-- the position after this number of lines with these counts
 abbrev pub place_for : (lines : ℕ) → Standing → Place
 place_for lines s = record { line = lines + 1; frame = s.counts.frames + 1; bytes = s.bytes; known = all_known s.counts }
 
--- with one turn more, whose packets are these
+-- the counts with one more finding, whose step has these packets
 abbrev pub standing_after : Standing → (packets : List ℕ) → Turn → Standing
 standing_after s packets (turns.Frame told) = record { counts = counted s.counts told.verdict told.known; bytes = min (s.bytes + length packets) (2 ^ 64 - 1) }
 standing_after s packets turn = s
 
--- a whole step: the turn, and what is printed of it, or its fault
+-- a whole step: the finding and its text, or its fault
 abbrev pub PrintsOf : Counts → (packets : List ℕ) → Result Turn Fault → (out out_new : Option (List ℕ)) → Result (Option Exit) Fault → Type 0
 PrintsOf counts packets (Ok turn) out out_new result = PrintsTurn counts packets turn out out_new result
 PrintsOf counts packets (Err f) out out_new result = (result ≡ Err f) × (out_new ≡ out)
 
--- the standing after it
+-- the counts after it
 abbrev pub StandsAfter : Standing → Standing → (packets : List ℕ) → Result Turn Fault → Type 0
 StandsAfter s s' packets (Ok turn) = s' ≡ standing_after s packets turn
 StandsAfter s s' packets (Err f) = ⊤

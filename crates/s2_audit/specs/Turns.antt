@@ -1,5 +1,5 @@
--- What was audited so far: frames, what shows their decisions, and the lines of the report (own).
-use Rattle.std.specs.Prelude.{◌≡◌, ◌⊎◌, ℕ, ◌+◌, ◌&&◌, nat_eq, Bool, true, false, if◌then◌else◌, List, [], ◌∷◌, ◌++◌, All, length, map, count_by, Option, Some, None, Result, Ok, Err, option_map, is_some, ⊤}
+-- An audit up to a frame: the decisions and their evidence, and the lines of the report (own).
+use Rattle.std.specs.Prelude.{◌≡◌, ◌⊎◌, ℕ, ◌+◌, ◌&&◌, nat_eq, Bool, true, false, if◌then◌else◌, List, [], ◌∷◌, ◌++◌, All, map, count_by, Option, Some, None, option_map, is_some}
 use Rattle.std.specs.List.{flat_map}
 use Rattle.std.specs.Io.KnownBytes.{Consumes, IsAtEnd}
 use Rattle.s2_mode.specs.Mode.{n_of}
@@ -77,7 +77,7 @@ pub record IsShown (t : Terms) (given : Bool) (s : Shown) : Type 0 where
   pub codeword : IsGiven (n_of t.mode) given s.packed
   pub word : IsWordOf s.packed s.decision.bits
 
--- what is printed of a frame: its line with the cost of its bits, if it has a certificate
+-- the printed line of a frame, with the cost of its bits, if it has a certificate
 abbrev pub told_by : Option View → Option Entry → List ℕ
 told_by (Some view) (Some (entries.Frame frame)) = shown_line frame (cost view.soft view.bits)
 told_by certificate entry = []
@@ -134,9 +134,9 @@ counted counts verdict known = record {
 abbrev pub all_known : Counts → Bool
 all_known counts = nat_eq counts.unchecked 0
 
--- ---- what was read
+-- ---- the bytes read
 
--- these lines of the report were read, what shows each frame, and these packets
+-- these lines of the report were read, the evidence of each frame, and these packets
 pub record Reads (t : Terms) (old new : Ends) (frames : List Shown) (lines : List (List ℕ)) (packets : List ℕ) : Type 0 where
   pub report : Consumes old.report new.report (text_of lines)
   pub each : All (IsShown t (is_some old.evidence.codewords)) frames
@@ -148,7 +148,7 @@ pub record Reads (t : Terms) (old new : Ends) (frames : List Shown) (lines : Lis
 abbrev pub BeginWith : (lines : List (List ℕ)) → List Shown → Type 0
 BeginWith lines frames = (rest : List (List ℕ)) × (lines ≡ lines_of frames ++ rest)
 
--- ---- so far
+-- ---- the audit up to a frame
 
 -- more frames may come; or a cut frame came
 abbrev pub RanSoFar : Terms → (whole left : Option (List ℕ)) → Follower → List Shown → (lines : List (List ℕ)) → (packets : List ℕ) → Type 0
@@ -156,7 +156,7 @@ RanSoFar t whole left f frames lines packets =
     ((lines ≡ lines_of frames) × AuditedSoFar t whole left f (all_known (counts_of frames)) (decisions_of frames) lines packets)
     ⊎ ((f.state.phase ≡ phases.Closing) × AuditedFrames t whole left f (all_known (counts_of frames)) (decisions_of frames) lines packets)
 
--- What was audited so far. The receiver's loop has come to this follower by the decisions on these frames. These lines of the report
+-- The audit up to a frame. The receiver's loop has come to this follower by the decisions on these frames. These lines of the report
 -- are its own, and the files have what shows the decisions, and the packets
 pub record Audited (t : Terms) (old new : Ends) (f : Follower) (frames : List Shown) (lines : List (List ℕ)) (packets : List ℕ) : Type 0 where
   pub ran : RanSoFar t old.symbols new.symbols f frames lines packets
@@ -177,7 +177,7 @@ pub record IsFine (t : Terms) (old new : Ends) (frames : List Shown) (lines : Li
   pub codewords : IsOverIf new.evidence.codewords
   pub packets_end : IsOverIf new.packets
 
--- ---- one thing more
+-- ---- the next frame, cut frame or end
 
 -- a frame was audited, but for its packets: its line is the receiver's own, and it is shown
 pub record TellsLine (t : Terms) (old new : Ends) (f f' : Follower) (s : Shown) : Type 0 where
@@ -191,7 +191,7 @@ pub record TellsLine (t : Terms) (old new : Ends) (f f' : Follower) (s : Shown) 
   pub certificate : IsShownBy t.rows s.decision s.block
   pub word : IsWordOf s.packed s.decision.bits
 
--- a told frame is this one
+-- the finding of a frame is of this one
 pub record IsTold (s : Shown) (told : Told) : Type 0 where
   pub verdict : s.decision.verdict ≡ told.verdict
   pub known : is_known s.decision ≡ told.known

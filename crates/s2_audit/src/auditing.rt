@@ -1,5 +1,5 @@
-//! The loop over the things of a recording.
-ghost use Rattle.std.specs.Prelude.{◌≡◌, ◌≢◌, ◌⊎◌, ◌+◌, ◌^◌, ◌<◌, Err, IfOk, None};
+//! The loop over the frames of a recording.
+ghost use Rattle.std.specs.Prelude.{◌≡◌, ◌≢◌, ◌+◌, ◌^◌, ◌<◌, Err, None};
 ghost use Rattle.s2_mode.specs.Counts.{CanCount};
 ghost use Rattle.s2_receive.specs.Receiving.{begun};
 ghost use Rattle.s2_replay.specs.Replayers.{IsSameReplayer};
@@ -7,7 +7,7 @@ ghost use Rattle.s2_replay.specs.Running.{IsBy, IsStuck};
 ghost use Rattle.s2_audit.specs.Audits.{AuditsAll, ReachesLimit};
 ghost use Rattle.s2_audit.specs.Evidences.{count_if};
 ghost use Rattle.s2_audit.specs.FrameAnswers.{terms_by};
-ghost use Rattle.s2_audit.specs.Steps.{IsPlaced, OutcomeIs, StepIs};
+ghost use Rattle.s2_audit.specs.Steps.{OutcomeIs, StepIs};
 ghost use Rattle.s2_audit.specs.Turns.{FailedOnce, SameFailures, ends_by, failures_by};
 
 use crate::counts::Counts;
@@ -15,13 +15,13 @@ use crate::frame::FrameAuditor;
 use crate::limits::MAX_LINES;
 use crate::place::{Place, Standing};
 use crate::printing::print_turn;
-use crate::rest::find_rest;
+use crate::rest::with_rest;
 use crate::turn::{Turn, audit_next};
 use s2_io::{Exit, Fault};
 use s2_mode::{CountedRead, CountedWrite};
 use std::alloc::Global;
 
-/// Audits the next thing; with the end also what is left of the files.
+/// Audits the next frame, cut frame or end. At the end the rest of each file is audited too.
 fn audit_turn<R: CountedRead>(
     alloc: Global,
     auditor: &mut FrameAuditor<'_>,
@@ -42,7 +42,6 @@ fn audit_turn<R: CountedRead>(
     requires line { place.line < 2 ^ 63 }
     ensures turns { let ends = ends_by R.remaining in OutcomeIs (terms_by auditor.old) (ends symbols.old report.old certificates.old codewords.old packets.old)
         (ends symbols.new report.new certificates.new codewords.new packets.new) auditor.old.replayer.follower auditor.new.replayer.follower place result }
-    ensures placed { IfOk result (IsPlaced auditor.new.replayer.follower.packets) }
     ensures rows { auditor.new.rows ≡ auditor.old.rows }
     ensures same { IsSameReplayer auditor.old.replayer auditor.new.replayer }
     ensures read { let failures = failures_by R.count in result ≡ Err Fault.Read → FailedOnce (failures symbols.old report.old certificates.old codewords.old packets.old)
@@ -50,7 +49,7 @@ fn audit_turn<R: CountedRead>(
     ensures no_read { let failures = failures_by R.count in result ≢ Err Fault.Read → SameFailures (failures symbols.old report.old certificates.old codewords.old packets.old)
         (failures symbols.new report.new certificates.new codewords.new packets.new) }
 {
-    match audit_next(
+    let turn = audit_next(
         alloc,
         auditor,
         place,
@@ -59,22 +58,11 @@ fn audit_turn<R: CountedRead>(
         certificates,
         codewords,
         packets,
-    )? {
-        Turn::End => {
-            let behind = Place {
-                line: place.line + 1,
-                ..place
-            };
-            match find_rest(behind, report, certificates, codewords, packets)? {
-                Some(difference) => Ok(Turn::Differs(difference)),
-                None => Ok(Turn::End),
-            }
-        }
-        turn => Ok(turn),
-    }
+    )?;
+    with_rest(turn, place, report, certificates, codewords, packets)
 }
 
-/// Audits the next thing after so many lines, and prints what it says. The exit, if the audit ends with it.
+/// Audits the next frame, cut frame or end after this number of lines, and prints its text. Returns the exit if the audit ends here.
 fn audit_step<R: CountedRead, O: CountedWrite>(
     alloc: Global,
     auditor: &mut FrameAuditor<'_>,

@@ -4,7 +4,7 @@ ghost use Rattle.s2_mode.specs.Counts.{CanCount};
 ghost use Rattle.s2_io.specs.Screens.{CanShow};
 ghost use Rattle.s2_link.specs.Link.{setup_of};
 ghost use Rattle.s2_audit.specs.Audits.{ReachesLimit};
-ghost use Rattle.s2_audit.specs.Commands.{AuditExits, AuditRuns, AuditsLink, ReadFailed, files_by};
+ghost use Rattle.s2_audit.specs.Commands.{AuditEnds, AuditRuns, AuditsLink, ReadFailed, files_by};
 ghost use Rattle.s2_audit.specs.Evidences.{count_if};
 ghost use Rattle.s2_audit.specs.Turns.{FailedOnce, SameFailures, ends_by, failures_by};
 
@@ -149,8 +149,8 @@ pub fn audit_command<R: CountedRead, O: CountedWrite, E: CountedWrite>(
     requires console { CanShow console.old }
     ensures quiet { result ≢ Exit.Fault → console.new.errors_failed ≡ console.old.errors_failed }
     ensures whole { result ≢ Exit.Fault → console.new.output_failed ≡ console.old.output_failed }
-    ensures run { let files = files_by R.remaining R.count in AuditExits (setup_of setup) how (files rows.old symbols.old report.old certificates.old codewords.old packets.old)
-        (files rows.new symbols.new report.new certificates.new codewords.new packets.new) console.old console.new result }
+    ensures run { AuditEnds R.remaining R.count setup how rows.old symbols.old report.old certificates.old codewords.old packets.old
+        rows.new symbols.new report.new certificates.new codewords.new packets.new console.old console.new result }
 {
     let ended = audit_files(
         alloc,

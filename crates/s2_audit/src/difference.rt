@@ -63,7 +63,7 @@ pub(crate) enum Difference {
         number: u64,
         at: u64,
     },
-    /// The report does not have an end line of so many frames.
+    /// The report does not have an end line of this number of frames.
     Count {
         line: u64,
         frames: u64,

@@ -1,5 +1,5 @@
 //! The audit of a frame that was found, by its evidence.
-ghost use Rattle.std.specs.Prelude.{◌≡◌, ◌≢◌, ◌↔◌, ◌⊎◌, ◌+◌, ◌*◌, ◌/◌, ◌<◌, ⊥, Err, IfOk, IsOkUnless, IsTrue, None, Some, length, option_map};
+ghost use Rattle.std.specs.Prelude.{◌≡◌, ◌≢◌, ◌↔◌, ◌⊎◌, ◌+◌, ◌*◌, ◌/◌, ◌<◌, Err, IfOk, IsOkUnless, IsTrue, None, Some, length, option_map};
 ghost use Rattle.s2_mode.specs.Counts.{CanCount};
 ghost use Rattle.s2_mode.specs.Mode.{n_of};
 ghost use Rattle.s2_receive.specs.Receiving.{begun};
@@ -24,7 +24,7 @@ use s2_report::{Totals, read_rounds};
 use std::alloc::{AllocError, Global};
 use std::marker::Model;
 
-/// What was taken of the codewords: they are not given, no record is left, or a record.
+/// The record of a codeword: the file is not given, no record is left, or one is there.
 #[derive(Clone, Copy)]
 pub(crate) enum Recorded {
     NotGiven,
@@ -151,7 +151,7 @@ impl<'a> FrameAuditor<'a> {
         })
     }
 
-    /// Reads up to the next thing. The soft values of a frame are found. `Read`: a read failed, or the limit of symbols was reached.
+    /// Reads up to the next frame, cut frame or end. The soft values of a frame are found. `Read`: a read failed, or the limit of symbols was reached.
     pub(crate) fn find<R: CountedRead>(&mut self, symbols: &mut R) -> Result<Next, Fault<'static>>
         requires symbols { CanCount (R.count symbols.old) }
         requires none { self.old.replayer.follower.found ≡ None }
@@ -165,10 +165,10 @@ impl<'a> FrameAuditor<'a> {
         ensures read { result ≡ Err Fault.Read → (R.count symbols.new ≡ R.count symbols.old + 1) ⊎ ((R.count symbols.new ≡ R.count symbols.old) × IsStuck self.new.replayer.follower) }
         ensures no_read { result ≢ Err Fault.Read → R.count symbols.new ≡ R.count symbols.old }
     {
-        match self.replayer.find(symbols) {
-            Ok(found) => Ok(found),
-            Err(_) => Err(Fault::Read),
-        }
+        let Ok(found) = self.replayer.find(symbols) else {
+            return Err(Fault::Read);
+        };
+        Ok(found)
     }
 
     /// Audits the frame that was found by the next certificate. The report's line says its rounds of min-sum.

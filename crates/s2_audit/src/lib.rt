@@ -7,7 +7,7 @@
 //! (LLRs) of the frame that is found.
 //!
 //! `specs/Turns.antt` says what an accepted audit means (`IsFine`), over the receiver's definition (`IsReplay` of `s2_replay`).
-//! `specs/Differences.antt` says what else is found, and `specs/Lines.antt` what is printed. [`How`] has the options of the reception.
+//! `specs/Differences.antt` defines the first difference, and `specs/Lines.antt` the printed lines. [`How`] has the options of the reception.
 //!
 //! One line, one frame, one certificate and one codeword are in memory at a time.
 //!

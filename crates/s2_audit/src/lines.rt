@@ -32,7 +32,7 @@ pub(crate) fn shown_line(frame: Frame, cost: i64) -> Line
     line
 }
 
-/// The words before what is expected as a line of the report.
+/// The words before the expected line of the report.
 #[tactic(auto, unfolding(crate::specs::Lines::line_words))]
 pub(crate) fn line_words(number: u64) -> Line
     ensures { result ≡ line_words number }
@@ -43,7 +43,7 @@ pub(crate) fn line_words(number: u64) -> Line
     line
 }
 
-/// The words before what is expected as a packet.
+/// The words before the expected packet.
 #[tactic(auto, unfolding(crate::specs::Lines::packet_words))]
 pub(crate) fn packet_words(number: u64) -> Line
     ensures { result ≡ packet_words number }

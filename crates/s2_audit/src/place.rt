@@ -5,15 +5,15 @@ ghost use Rattle.s2_audit.specs.Steps.{place_for, standing_after};
 use crate::counts::Counts;
 use crate::turn::Turn;
 
-/// The counts so far, and how many bytes of packets came, as far as they can be counted.
+/// The counts of the frames, and the number of bytes of their packets, which stops at 2^64 - 1.
 #[derive(Clone, Copy)]
 pub(crate) struct Standing {
     pub(crate) counts: Counts,
     pub(crate) bytes: u64,
 }
 
-/// What comes next: the number of the line of the report, and that of the frame. Then how many bytes of packets came before, as far as
-/// they can be counted, and whether the bits of all frames so far are known.
+/// The position of an audit: the number of the next line of the report, and that of the next frame. Then the number of bytes of packets
+/// before it, which stops at 2^64 - 1, and whether the bits of all frames before it are known.
 #[derive(Clone, Copy)]
 pub(crate) struct Place {
     pub(crate) line: u64,
@@ -23,7 +23,7 @@ pub(crate) struct Place {
 }
 
 impl Standing {
-    /// The place of what comes next, after so many lines.
+    /// The position after this number of lines.
     pub(crate) fn place(self, lines: u64) -> Place
         requires { (lines < 2 ^ 62) × (self.counts.frames < 2 ^ 62) }
         ensures { result ≡ place_for lines self }
@@ -36,7 +36,7 @@ impl Standing {
         }
     }
 
-    /// The standing with one turn more, whose packets are these.
+    /// The counts with one more finding, and with the packets of its step.
     pub(crate) fn after(self, packets: &[u8], turn: Turn) -> Standing
         requires { (self.counts.frames < 2 ^ 62) × (self.counts.sole < 2 ^ 62) × (self.counts.most_likely < 2 ^ 62) × (self.counts.unchecked < 2 ^ 62) }
         ensures { result ≡ standing_after self packets.now turn }

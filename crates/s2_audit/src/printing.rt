@@ -1,9 +1,9 @@
-//! What an audit prints.
-ghost use Rattle.std.specs.Prelude.{◌≡◌, ◌≢◌, ◌+◌, ◌*◌, ◌≤◌, ◌<◌, ◌++◌, Err, codes, length};
+//! The text that an audit prints.
+ghost use Rattle.std.specs.Prelude.{◌≡◌, ◌≢◌, ◌+◌, ◌*◌, ◌≤◌, ◌<◌, Err, length};
 ghost use Rattle.s2_bbframe.specs.Limits.{packet_bytes};
 ghost use Rattle.s2_mode.specs.Counts.{CanCount};
 ghost use Rattle.s2_replay.specs.Packets.{packet_at};
-ghost use Rattle.s2_audit.specs.Lines.{back_words, difference_line, front_words, hex_of, packet_words};
+ghost use Rattle.s2_audit.specs.Lines.{back_words, difference_line, front_words, hex_of, packet_shown, rest_words};
 ghost use Rattle.s2_audit.specs.Steps.{IsPlaced, PrintsText, PrintsTurn, told_text};
 ghost use Rattle.s2_audit.specs.declared.turn.Turn.TheVariants as turns;
 
@@ -32,37 +32,21 @@ fn print_text<O: CountedWrite>(out: &mut O, text: &[u8]) -> Result<(), Fault<'st
     }
 }
 
-/// Prints a text in two parts.
-fn print_both<O: CountedWrite>(out: &mut O, front: &[u8], back: &[u8]) -> Result<(), Fault<'static>>
-    requires { CanCount (O.count out.old) }
-    ensures prints { PrintsText (front.now ++ back.now) (O.contents out.old) (O.contents out.new) result }
-    ensures write { result ≡ Err Fault.Write → O.count out.new ≡ O.count out.old + 1 }
-    ensures no_write { result ≢ Err Fault.Write → O.count out.new ≡ O.count out.old }
-{
-    print_text(out, front)?;
-    print_text(out, back)
-}
-
-/// Prints the packet that is expected, of at most 188 bytes, after these words.
-fn print_packet<O: CountedWrite>(
-    out: &mut O,
-    words: &[u8],
-    packet: &[u8],
-) -> Result<(), Fault<'static>>
+/// Prints a packet of at most 188 bytes in hexadecimal digits.
+fn print_packet<O: CountedWrite>(out: &mut O, packet: &[u8]) -> Result<(), Fault<'static>>
     requires out { CanCount (O.count out.old) }
     requires packet { length packet.now ≤ packet_bytes }
-    ensures prints { PrintsText (words.now ++ hex_of packet.now ++ codes "\n") (O.contents out.old) (O.contents out.new) result }
+    ensures prints { PrintsText (hex_of packet.now) (O.contents out.old) (O.contents out.new) result }
     ensures write { result ≡ Err Fault.Write → O.count out.new ≡ O.count out.old + 1 }
     ensures no_write { result ≢ Err Fault.Write → O.count out.new ≡ O.count out.old }
 {
     let mut room = [0u8; 2 * PACKET_BYTES];
     let (digits, _) = room.split_at_mut(2 * packet.len());
     hex::encode_to_slice(packet, digits).unwrap();
-    print_text(out, words)?;
-    print_both(out, digits, b"\n")
+    print_text(out, digits)
 }
 
-/// What a difference is in, or the words before what is expected.
+/// The first words of a difference: where it is.
 fn front_line(difference: Difference) -> Line
     ensures { result ≡ front_words difference }
 {
@@ -90,7 +74,7 @@ fn back_line(difference: Difference) -> Line
         Difference::NoFrame { number, at, .. } => frame_end(number, at),
         Difference::Count { frames, .. } => count_end(frames),
         Difference::MoreLines { .. } | Difference::MorePackets { .. } => text_line("no more\n"),
-        Difference::Packet { .. } => Line::new(),
+        Difference::Packet { .. } => text_line("\n"),
         Difference::MoreCertificates | Difference::MoreCodewords => text_line(" left over\n"),
     }
 }
@@ -105,6 +89,47 @@ fn packet_at(packets: &[u8], place: usize) -> &[u8]
     &packets[at..packets.len().min(at + PACKET_BYTES)]
 }
 
+/// Prints the packet that a difference is in, if it is in one.
+fn print_shown<O: CountedWrite>(
+    out: &mut O,
+    difference: Difference,
+    packets: &[u8],
+) -> Result<(), Fault<'static>>
+    requires out { CanCount (O.count out.old) }
+    requires placed { IsPlaced packets.now (turns.Differs difference) }
+    ensures prints { PrintsText (packet_shown packets.now difference) (O.contents out.old) (O.contents out.new) result }
+    ensures write { result ≡ Err Fault.Write → O.count out.new ≡ O.count out.old + 1 }
+    ensures no_write { result ≢ Err Fault.Write → O.count out.new ≡ O.count out.old }
+{
+    match difference {
+        Difference::Packet { place, .. } => print_packet(out, packet_at(packets, place)),
+        Difference::Frame { .. }
+        | Difference::Line { .. }
+        | Difference::NoFrame { .. }
+        | Difference::Count { .. }
+        | Difference::MoreLines { .. }
+        | Difference::MorePackets { .. }
+        | Difference::MoreCertificates
+        | Difference::MoreCodewords => Ok(()),
+    }
+}
+
+/// Prints the rest of the line of a difference, with the packet that it is in.
+fn print_rest<O: CountedWrite>(
+    out: &mut O,
+    difference: Difference,
+    packets: &[u8],
+) -> Result<(), Fault<'static>>
+    requires out { CanCount (O.count out.old) }
+    requires placed { IsPlaced packets.now (turns.Differs difference) }
+    ensures prints { PrintsText (rest_words packets.now difference) (O.contents out.old) (O.contents out.new) result }
+    ensures write { result ≡ Err Fault.Write → O.count out.new ≡ O.count out.old + 1 }
+    ensures no_write { result ≢ Err Fault.Write → O.count out.new ≡ O.count out.old }
+{
+    print_shown(out, difference, packets)?;
+    print_text(out, back_line(difference).as_bytes())
+}
+
 /// Prints the line of a difference. The packet of one is among these packets.
 fn print_difference<O: CountedWrite>(
     out: &mut O,
@@ -117,16 +142,11 @@ fn print_difference<O: CountedWrite>(
     ensures write { result ≡ Err Fault.Write → O.count out.new ≡ O.count out.old + 1 }
     ensures no_write { result ≢ Err Fault.Write → O.count out.new ≡ O.count out.old }
 {
-    let front = front_line(difference);
-    match difference {
-        Difference::Packet { place, .. } => {
-            print_packet(out, front.as_bytes(), packet_at(packets, place))
-        }
-        _ => print_both(out, front.as_bytes(), back_line(difference).as_bytes()),
-    }
+    print_text(out, front_line(difference).as_bytes())?;
+    print_rest(out, difference, packets)
 }
 
-/// Prints the line of a told frame, if its bits have a certificate.
+/// Prints the line of a frame, if its bits have a certificate.
 fn print_told<O: CountedWrite>(out: &mut O, told: Told) -> Result<(), Fault<'static>>
     requires { CanCount (O.count out.old) }
     ensures prints { PrintsText (told_text told) (O.contents out.old) (O.contents out.new) result }
@@ -139,8 +159,8 @@ fn print_told<O: CountedWrite>(out: &mut O, told: Told) -> Result<(), Fault<'sta
     }
 }
 
-/// Prints what a turn says, and returns the exit if the audit ends with it. These are the counts before it, and the packets of the last
-/// step.
+/// Prints the text of a finding, and returns the exit if the audit ends with it. The counts are those before it. The packets are those of
+/// the last step.
 pub(crate) fn print_turn<O: CountedWrite>(
     out: &mut O,
     turn: Turn,

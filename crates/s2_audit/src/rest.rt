@@ -1,13 +1,13 @@
-//! What is left of the files after the end.
-ghost use Rattle.std.specs.Prelude.{◌≡◌, ◌≢◌, ◌+◌, Err, option_map};
+//! The rest of each file after the end.
+ghost use Rattle.std.specs.Prelude.{◌≡◌, ◌≢◌, ◌+◌, ◌^◌, ◌<◌, Err, option_map};
 ghost use Rattle.s2_mode.specs.Counts.{CanCount};
 ghost use Rattle.s2_audit.specs.Evidences.{count_if};
 ghost use Rattle.s2_audit.specs.Differences.{rests_by};
-ghost use Rattle.s2_audit.specs.Steps.{MoreIf, MoreIs, RestIs};
+ghost use Rattle.s2_audit.specs.Steps.{MoreIf, MoreIs, RestIs, RestTurn};
 
 use crate::difference::Difference;
 use crate::place::Place;
-use crate::turn::packet_number;
+use crate::turn::{Turn, packet_number};
 use s2_io::Fault;
 use s2_mode::CountedRead;
 use s2_report::read_byte;
@@ -38,8 +38,8 @@ fn has_more_if<R: CountedRead>(reader: &mut Option<R>) -> Result<bool, Fault<'st
     }
 }
 
-/// The first file that goes on after the end. This is the place after it.
-pub(crate) fn find_rest<R: CountedRead>(
+/// The first file that has more bytes after the end.
+fn find_rest<R: CountedRead>(
     place: Place,
     report: &mut R,
     certificates: &mut R,
@@ -68,4 +68,38 @@ pub(crate) fn find_rest<R: CountedRead>(
         return Ok(Some(Difference::MorePackets { number }));
     }
     Ok(None)
+}
+
+/// Audits the rest of each file if this is the end. Another finding is unchanged.
+pub(crate) fn with_rest<R: CountedRead>(
+    turn: Turn,
+    place: Place,
+    report: &mut R,
+    certificates: &mut R,
+    codewords: &mut Option<R>,
+    packets: &mut Option<R>,
+) -> Result<Turn, Fault<'static>>
+    requires report { CanCount (R.count report.old) }
+    requires certificates { CanCount (R.count certificates.old) }
+    requires codewords { CanCount (count_if R.count codewords.old) }
+    requires packets { CanCount (count_if R.count packets.old) }
+    requires line { place.line < 2 ^ 63 }
+    ensures rest { let ends = rests_by R.remaining in RestTurn (ends report.old certificates.old codewords.old packets.old) (ends report.new certificates.new codewords.new packets.new) turn place result }
+    ensures read { result ≡ Err Fault.Read → R.count report.new + R.count certificates.new + count_if R.count codewords.new + count_if R.count packets.new ≡ R.count report.old + R.count certificates.old + count_if R.count codewords.old + count_if R.count packets.old + 1 }
+    ensures no_read { result ≢ Err Fault.Read → (R.count report.new ≡ R.count report.old) × (R.count certificates.new ≡ R.count certificates.old) × (count_if R.count codewords.new ≡ count_if R.count codewords.old) × (count_if R.count packets.new ≡ count_if R.count packets.old) }
+{
+    match turn {
+        Turn::Frame(told) => Ok(Turn::Frame(told)),
+        Turn::Cut => Ok(Turn::Cut),
+        Turn::Differs(difference) => Ok(Turn::Differs(difference)),
+        Turn::End => {
+            let line = place.line + 1;
+            let behind = Place { line, ..place };
+            match find_rest(behind, report, certificates, codewords, packets) {
+                Ok(Some(difference)) => Ok(Turn::Differs(difference)),
+                Ok(None) => Ok(Turn::End),
+                Err(fault) => Err(fault),
+            }
+        }
+    }
 }

@@ -1,4 +1,4 @@
-//! One thing of the receiver's loop beside the files: a frame, a cut frame or the end.
+//! One frame, cut frame or end of the receiver's loop beside the files.
 ghost use Rattle.std.specs.Prelude.{◌≡◌, ◌≢◌, ◌+◌, ◌*◌, ◌^◌, ◌<◌, [], Err, None, Some, option_map};
 ghost use Rattle.s2_bbframe.specs.Limits.{packet_bytes};
 ghost use Rattle.s2_mode.specs.Counts.{CanCount};
@@ -9,7 +9,7 @@ ghost use Rattle.s2_audit.specs.Differences.{ReadsLine, packet_number};
 ghost use Rattle.s2_audit.specs.Evidences.{count_if, evidence_by};
 ghost use Rattle.s2_audit.specs.FrameAnswers.{terms_by};
 ghost use Rattle.s2_audit.specs.Turns.{FailedOnce, SameFailures, ends_by, failures_by};
-ghost use Rattle.s2_audit.specs.Steps.{ComparesIf, Judges, JudgesFrame, JudgesLast, TurnIs, no_frame_at, other_last, refused_at, told_last, turn_by};
+ghost use Rattle.s2_audit.specs.Steps.{ComparesIf, ComparesTurn, Judges, JudgesFrame, JudgesLast, TurnIs, no_frame_at, other_last, refused_at, told_last, turn_by};
 
 use crate::difference::{Difference, Reason};
 use crate::frame::{FrameAnswer, FrameAuditor};
@@ -23,8 +23,8 @@ use s2_replay::{Audited, compare_packets};
 use s2_report::{Entry, Frame, LineBytes, Step, Totals, next_line, read_entry};
 use std::alloc::Global;
 
-/// A frame whose line is the receiver's own: what the line says, the verdict that is shown, the cost of the bits if they have a
-/// certificate, and whether the bits are known.
+/// A frame whose line is the receiver's own: the content of the line, the verdict, the cost of the bits if they have a certificate, and
+/// whether the bits are known.
 #[derive(Clone, Copy)]
 pub(crate) struct Told {
     pub(crate) frame: Frame,
@@ -33,7 +33,7 @@ pub(crate) struct Told {
     pub(crate) known: bool,
 }
 
-/// What an audit finds of one thing: a frame, a cut frame, that all is fine at the end, or the first difference.
+/// A finding of an audit: a frame, a cut frame, that all is fine at the end, or the first difference.
 #[derive(Clone, Copy)]
 pub(crate) enum Turn {
     Frame(Told),
@@ -85,7 +85,7 @@ fn no_frame(place: Place, at: u64) -> Turn
     })
 }
 
-/// What is found of a frame by this answer, whose line says this.
+/// The finding of a frame with this answer. `frame` is the content of its line.
 fn turn_by(frame: Frame, at: u64, place: Place, totals: Totals, answer: FrameAnswer) -> Turn
     ensures { result ≡ turn_by frame at place totals answer }
 {
@@ -155,7 +155,7 @@ fn judge_frame<R: CountedRead>(
     }
 }
 
-/// A cut frame or the end whose line is told.
+/// The finding of a cut frame or of the end, if the report has its line.
 fn told_last(found: Next) -> Turn
     ensures { result ≡ told_last found }
 {
@@ -165,7 +165,7 @@ fn told_last(found: Next) -> Turn
     }
 }
 
-/// A cut frame or the end whose line is another one, or missing.
+/// The finding of a cut frame or of the end, if its line is another one or missing.
 fn other_last(found: Next, place: Place, step: Step, totals: Totals) -> Turn
     ensures { result ≡ other_last found place step totals }
 {
@@ -200,7 +200,7 @@ fn judge_last(
     }
 }
 
-/// The number of the packet at this place after so many bytes of packets.
+/// The number of the packet at this place after this number of bytes of packets.
 pub(crate) fn packet_number(before: u64, place: usize) -> u64
     requires { packet_bytes * place < 2 ^ 63 }
     ensures { result ≡ packet_number before place }
@@ -209,7 +209,7 @@ pub(crate) fn packet_number(before: u64, place: usize) -> u64
     bytes / PACKET_BYTES as u64 + 1
 }
 
-/// Compares the packets of a frame whose line is told, if a packet file is given.
+/// Compares the packets of a frame with the next ones of the packet file, if it is given.
 fn compare<R: CountedRead>(
     told: Told,
     own: &[u8],
@@ -234,7 +234,27 @@ fn compare<R: CountedRead>(
     }
 }
 
-/// Audits the thing that was found beside the next line of the report, but for the packets of a frame.
+/// Compares the packets of a finding, if it is a frame.
+fn with_packets<R: CountedRead>(
+    turn: Turn,
+    own: &[u8],
+    place: Place,
+    packets: &mut Option<R>,
+) -> Result<Turn, Fault<'static>>
+    requires packets { CanCount (count_if R.count packets.old) }
+    ensures compares { ComparesTurn own.now (option_map R.remaining packets.old) (option_map R.remaining packets.new) turn place result }
+    ensures read { result ≡ Err Fault.Read → count_if R.count packets.new ≡ count_if R.count packets.old + 1 }
+    ensures no_read { result ≢ Err Fault.Read → count_if R.count packets.new ≡ count_if R.count packets.old }
+{
+    match turn {
+        Turn::Frame(told) => compare(told, own, place, packets),
+        Turn::Cut => Ok(Turn::Cut),
+        Turn::End => Ok(Turn::End),
+        Turn::Differs(difference) => Ok(Turn::Differs(difference)),
+    }
+}
+
+/// Audits what the receiver's loop found beside the next line of the report, but for the packets of a frame.
 fn judge<R: CountedRead>(
     alloc: Global,
     auditor: &mut FrameAuditor<'_>,
@@ -271,7 +291,7 @@ fn judge<R: CountedRead>(
     }
 }
 
-/// Audits the next thing of the receiver's loop.
+/// Audits the next frame, cut frame or end of the receiver's loop.
 pub(crate) fn audit_next<R: CountedRead>(
     alloc: Global,
     auditor: &mut FrameAuditor<'_>,
@@ -312,8 +332,5 @@ pub(crate) fn audit_next<R: CountedRead>(
         certificates,
         codewords,
     )?;
-    match turn {
-        Turn::Frame(told) => compare(told, auditor.packets(), place, packets),
-        Turn::Cut | Turn::End | Turn::Differs(_) => Ok(turn),
-    }
+    with_packets(turn, auditor.packets(), place, packets)
 }

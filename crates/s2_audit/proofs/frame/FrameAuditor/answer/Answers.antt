@@ -1,0 +1,18 @@
+use Rattle.std.proofs.Common.{◌≡◌, true, Ok, ◌/◌, ap, rules, subst}
+use Rattle.s2_mode.specs.Mode.{n_of}
+use Rattle.s2_check.specs.Verdicts.{is_certified}
+use Rattle.s2_audit.specs.Evidences.{evidence_by}
+use Rattle.s2_audit.specs.FrameAnswers.{ByBlock}
+use Rattle.s2_audit.proofs.FrameLemmas.{answers_certified}
+use Rattle.s2_audit.proofs.frame.FrameAuditor.answer.Goals as goal
+
+pub returns-in-Judged-clause-answers : goal.returns-in-Judged-clause-answers
+returns-in-Judged-clause-answers g c =
+    let remaining = g.R.CountedRead.remaining in
+    let ends = evidence_by remaining in
+    let was = c.args.self.now in
+    let certified : is_certified c.args.verdict ≡ true = search rules in
+    let by = subst (ByBlock c.take.new.self c.by_certificate.new.self c.args.found c.args.line.now (remaining c.args.certificates.now) (remaining c.by_certificate.new.certificates)) (ap Ok c.in-Judged.is) c.in_ok-by_certificate.ensures.audits in
+    answers_certified was c.take.new.self c.by_certificate.new.self c.args.found c.args.verdict c.args.line.now (ends c.args.certificates.now c.args.codewords.now) (ends c.by_certificate.new.certificates c.take.new.codewords)
+    (n_of was.replayer.follower.sought.mode / 8) c.in_ok-recorded.recorded c.in-Judged.audited c.with_record.result certified c.take.ensures.rows c.take.ensures.replayer c.by_certificate.ensures.recorded c.in_ok-recorded.ensures.takes
+    c.in_default.not-Missing by c.with_record.ensures
