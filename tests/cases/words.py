@@ -21,7 +21,7 @@ Commands:
   table    Checks whether a row file is the standard's table
   judge    Decodes soft values
   check    Verifies a certificate
-  audit    Checks a report against its certificates, without decoding
+  audit    Checks a report against the recording and its certificates, without decoding
   compare  Compares another receiver's words with certified ones, without decoding
   join     Reassembles packets from BBFRAMEs
   help     Print this message or the help of the given subcommand(s)
@@ -277,6 +277,11 @@ MISUSES = [
     ("audit --modcod 1 --number 262142 made in report certificates", beyond(262142, "number", 0, 262141)),
     ("audit --modcod 1 --tuned=1 made in report certificates", "--tuned takes no value"),
     ("audit --modcod 1 --rounds 50 made in report certificates", "--rounds is not an option of audit"),
+    ("audit --modcod 1 --lock 11 made in report certificates", beyond(11, "lock", 12, 40)),
+    ("audit --modcod 1 --lock 41 made in report certificates", beyond(41, "lock", 12, 40)),
+    ("audit --modcod 1 --figures=1 made in report certificates", "--figures takes no value"),
+    ("audit --modcod 1 --packets packets made in report certificates", "missing: --codewords <FILE>"),
+    *((f"audit --modcod 1 made in report certificates {name}", f"{name}: the value is missing") for name in ("--codewords", "--packets")),
     (f"rows {PAIR} --weight 0 --seed 1", beyond(0, "weight", 1, 24)),
     (f"rows {PAIR} --weight 25 --seed 1", beyond(25, "weight", 1, 24)),
     (f"rows {PAIR} --weight 1 --seed -1", "--seed: -1 is not an unsigned 64-bit number"),
@@ -306,7 +311,7 @@ ABOUTS = {
     "rows": "Prints a row file generated from a seed",
     "table": "Checks whether a row file is the standard's table",
     "judge": "Decodes soft values",
-    "audit": "Checks a report against its certificates, without decoding",
+    "audit": "Checks a report against the recording and its certificates, without decoding",
     "join": "Reassembles packets from BBFRAMEs",
     "compare": "Compares another receiver's words with certified ones, without decoding",
 }
@@ -323,7 +328,7 @@ ENDS = {
     "run": "every frame is delivered, and sole or most-likely",
     "scan": "a header is repeated one frame later",
     "join": "every frame has a valid header, and no packet is bad",
-    "audit": "all frames called sole or most-likely are proved, and no certificate is left over",
+    "audit": "each line, and with --packets each packet, is the one made again; all frames called sole or most-likely are proved",
     "compare": "every word is the certified one",
 }
 # What a word says, and the value where it is left out.
@@ -385,9 +390,16 @@ WORDS = [
     ("audit", "frame I at SYMBOL sole cost C", "proved: the decided bits cost C, and every other codeword costs more"),
     ("audit", "other values", "of another recording, or with another --divisor or --tuned"),
     ("audit", "likely causes: ..", "another mode, or a recording that was cut or shifted"),
-    ("audit", "--tuned", "--turns and --resync, if the report was made with --tuned; --divisor overrides it"),
-    ("audit", "--resync", "a frame to begin inside an earlier one, lost or not, if the report was made with --resync"),
-    ("audit", "no symbols", "or the frame begins inside an earlier one: see --resync"),
+    ("audit", "--tuned", "--turns and --resync, if the report was made with --tuned; --divisor and --lock override it"),
+    ("audit", "--resync", "Search lost frames again for headers, if the report was made with --resync"),
+    ("audit", "--lock <H>", "directly after a frame: the one that the report was made with [default: 12]"),
+    ("audit", "--figures", "if the report was made with --figures"),
+    ("audit", "--codewords <FILE>", "of frames without a certificate from this file, which `demod --codewords` wrote"),
+    ("audit", "--packets <FILE>", "which `demod` wrote; needs --codewords"),
+    ("audit", "Each line of REPORT", "with the decided bits of CERTIFICATES or --codewords."),
+    ("audit", "Taken on the report's word", "which are counted as `unchecked`, and the rounds of --figures."),
+    ("audit", "audit frames F sole A most-likely B unchecked U", "A of them proved sole, B proved most-likely, U taken on its word"),
+    *((name, "The file of --about is opened", "after all other files.") for name in ("demod", "run")),
     *((name, "five sync bytes at distance D begin at byte B", "if the first or second is refused, and what to try") for name in ("mod", "run")),
     ("mod", "--resync", "continue at the next place with five sync bytes at distance 188; count the bytes left out"),
     ("demod", "--resync", "After a lost frame, search its symbols again for a header that is followed by another one frame later"),
@@ -564,11 +576,13 @@ CASES = [
     *(refused("--progress", name) for name in LINES if name not in SHOWING),
     *(refused(word, name) for name in LINES if name not in STRICT for word in ("--strict", "--exit-by")),
     *(refused("--tuned", name) for name in LINES if name not in (*STRICT, "audit")),
-    taken("--tuned", "audit"),
+    *(taken(word, "audit") for word in ("--tuned", "--lock 40", "--figures")),
     *(refused("--uncertified", name) for name in LINES if name not in DECIDING),
     *(refused("--rate", name) for name in LINES if name != "modes"),
     *(refused("--every", name) for name in LINES if name not in STRICT),
-    *(refused("--figures", name) for name in LINES if name not in STRICT),
+    *(refused("--figures", name) for name in LINES if name not in (*STRICT, "audit")),
+    *(refused("--lock", name) for name in LINES if name not in (*STRICT, "audit")),
+    *(refused("--packets", name) for name in LINES if name != "audit"),
     *(refused("--each", name) for name in LINES if name not in ("judge", "check")),
     Case("--help", FAULT, to="/dev/full"),
     *(misuse(words, text) for words, text in MISUSES),

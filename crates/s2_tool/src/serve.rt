@@ -11,7 +11,9 @@ use crate::options::{
     shape_of,
 };
 use s2_about::FileSums;
+use s2_arguments::{Unread, not_text};
 use s2_audit::{Demodulation, audit_command};
+use s2_command_line::parse_arguments;
 use s2_commands::{noise_command, rows_command};
 use s2_compare::compare_command;
 use s2_evidence::{check_command, check_each_command};
@@ -33,7 +35,7 @@ use s2_tuning::Tuning;
 use s2_words::{
     AuditArguments, CheckArguments, CodeArguments, CompareArguments, DemodArguments, JoinArguments,
     JudgeArguments, ModesArguments, NoiseArguments, Request, RowsArguments, RunArguments,
-    ScanArguments, TableArguments, Unread, not_text, parse_arguments,
+    ScanArguments, TableArguments,
 };
 use std::alloc::{AllocError, Global};
 use std::env::FillError;

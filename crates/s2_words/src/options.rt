@@ -18,7 +18,7 @@ fn numbered(text: &str) -> Option<u8>
 }
 
 /// The MODCOD of a number or of a name.
-pub(crate) fn read_modcod(text: &str) -> Option<u8>
+pub fn read_modcod(text: &str) -> Option<u8>
     ensures found { IsSome result ↔ NamesMode IsModcodText text.now }
     ensures value { IfSome result (λ modcod. IsModcodText modcod text.now) }
 {
@@ -29,7 +29,7 @@ pub(crate) fn read_modcod(text: &str) -> Option<u8>
 }
 
 /// Whether progress is shown: this depends on `--progress` and `--quiet`.
-pub(crate) fn progress_by(requested: bool, quiet: bool) -> Progress
+pub fn progress_by(requested: bool, quiet: bool) -> Progress
     ensures { result ≡ progress_by requested quiet }
 {
     if requested {

@@ -1,4 +1,6 @@
 //! The requests of a command line.
+ghost use Rattle.std.specs.Prelude.{◌≡◌, ◌∷◌, []};
+
 use s2_names::SymbolRate;
 
 /// The numbers of a shape.
@@ -197,7 +199,9 @@ pub struct RecordArguments<'a> {
 
 impl<'a> RecordArguments<'a> {
     /// The names of the files, in the order in which they are opened.
-    pub fn names(self) -> [Option<&'a str>; 4] {
+    pub fn names(self) -> [Option<&'a str>; 4]
+        ensures order { result ≡ self.entry.certificates ∷ self.entry.values ∷ self.entry.codewords ∷ self.entry.bbframes ∷ [] }
+    {
         let RecordArguments {
             certificates,
             values,
@@ -219,7 +223,9 @@ pub struct SentRecordArguments<'a> {
 
 impl<'a> SentRecordArguments<'a> {
     /// The names of the files, in the order in which they are opened.
-    pub fn names(self) -> [Option<&'a str>; 4] {
+    pub fn names(self) -> [Option<&'a str>; 4]
+        ensures order { result ≡ self.entry.codewords ∷ self.entry.bbframes ∷ self.entry.labels ∷ self.entry.plain_symbols ∷ [] }
+    {
         let SentRecordArguments {
             codewords,
             bbframes,
@@ -285,16 +291,21 @@ pub struct JoinArguments<'a> {
     pub packets: &'a str,
 }
 
-/// `audit`: a link, the divisor of the soft values, whether the report was made with the best settings, whether frames were
-/// rotated back and equalized, and the files.
+/// `audit`: a link, the divisor of the soft values, the limit of wrong header bits, and whether the report was made with the
+/// best settings. Also whether frames were rotated back and equalized, whether lost frames were searched again, whether the
+/// report has figures, and the files.
 #[derive(Clone, Copy)]
 pub struct AuditArguments<'a> {
     pub link: LinkArguments,
     pub divisor: NumberArguments,
+    pub max_header_errors: NumberArguments,
     pub tuned: bool,
     pub turns: bool,
     pub equalize: bool,
     pub resync: bool,
+    pub figures: bool,
+    pub codewords: Option<&'a str>,
+    pub packets: Option<&'a str>,
     pub about: Option<&'a str>,
     pub rows: &'a str,
     pub symbols: &'a str,

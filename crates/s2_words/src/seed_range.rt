@@ -25,7 +25,7 @@ fn read_seed(text: &str) -> Option<u64>
 }
 
 /// A range of seeds: the first and the last, with two dots between them.
-pub(crate) fn read_seeds(text: &str) -> Option<Seeds>
+pub fn read_seeds(text: &str) -> Option<Seeds>
     ensures found { IsSome result ↔ ((seeds : Seeds) × IsSeedsText seeds text.now) }
     ensures value { IfSome result (λ seeds. IsSeedsText seeds text.now) }
 {

@@ -1,4 +1,4 @@
-use Rattle.std.proofs.Common.{◌≤◌, sym, subst, refl, arith, rules}
+use Rattle.std.proofs.Common.{sym, subst, refl, arith, rules}
 use Rattle.s2_words.specs.SeedRanges.{IsSeedText}
 use Rattle.s2_words.proofs.SeedLemmas.{no_point, same_seed}
 use Rattle.s2_words.proofs.seed_range.read_seeds.Goals as goal

@@ -1,17 +1,11 @@
 //! Usage errors. Each is one line with the mistake, the accepted values, and the command that prints the help.
 use crate::arguments::ArgumentKind;
-use crate::decibels::read_esn0;
 use crate::misuse::{Misuse, misuse_of};
-use crate::options::read_modcod;
-use crate::reading::roll_off_of;
-use crate::seed_range::read_seeds;
 use crate::table::{CommandHelp, Section, arguments_in, commands, sections_of};
 use crate::unread::Unread;
+use clap::Error;
 use clap::builder::ValueParser;
 use clap::error::ErrorKind;
-use clap::{ArgMatches, Error};
-use s2_mode::{MAX_MODCOD, Mode, Modulation};
-use s2_names::{Case, SymbolRate, constellation};
 use std::alloc::{AllocError, Global};
 
 /// What is said of arguments that nothing else describes.
@@ -263,132 +257,34 @@ pub(crate) fn unread_of(
     }
 }
 
-/// Appends the names of all modes of a constellation to a text.
-fn push_modes(text: &mut String, modulation: Modulation) -> Result<(), AllocError> {
-    let mut between = "";
-    for modcod in 1..=MAX_MODCOD {
-        if let Some(mode) = Mode::of(modcod, false, false) {
-            if mode.modulation() == modulation {
-                text.push_str(between)?;
-                text.push_str(constellation(&mode, Case::Small))?;
-                text.push_str(mode.code_rate())?;
-                between = ", ";
-            }
-        }
-    }
-    Ok(())
-}
-
-/// Appends the accepted modes: those of the constellation with which the name begins, if it does.
-fn push_accepted_modes(text: &mut String, name: &str) -> Result<(), AllocError> {
-    if begins_with(name, "qpsk", "QPSK") {
-        text.push_str("a mode: QPSK has ")?;
-        push_modes(text, Modulation::Qpsk)
-    } else if begins_with(name, "8psk", "8PSK") {
-        text.push_str("a mode: 8PSK has ")?;
-        push_modes(text, Modulation::Psk8)
-    } else {
-        text.push_str("1 to 17 or the name of a mode")
-    }
-}
-
-fn begins_with(name: &str, small: &str, capital: &str) -> bool {
-    name.starts_with(small) || name.starts_with(capital)
-}
-
-/// The line for an invalid MODCOD.
-fn modcod_line(alloc: Global, value: &str) -> Result<String, AllocError> {
-    let mut text = String::from_str(alloc, "s2: ")?;
-    push_refused(&mut text, "--modcod", value)?;
-    push_accepted_modes(&mut text, value)?;
-    text.push_str("; see s2 modes\n")?;
-    Ok(text)
-}
-
-/// An option, a value that it does not accept, and those that it accepts.
+/// A value that an option does not accept, and those that it accepts.
 #[derive(Clone, Copy)]
-struct Refused<'a> {
-    value: &'a str,
-    option: &'static str,
-    accepted: &'static str,
+pub struct Refused<'a> {
+    pub option: &'a str,
+    pub value: &'a str,
+    pub accepted: &'a str,
 }
 
-/// The value of an option, if it is given and invalid.
-fn refused_by<'a>(
-    value: Option<&'a str>,
-    is_read: bool,
-    option: &'static str,
-    accepted: &'static str,
-) -> Option<Refused<'a>> {
-    match value {
-        Some(value) if !is_read => Some(Refused {
-            value,
-            option,
-            accepted,
-        }),
-        _ => None,
-    }
-}
-
-/// The first invalid value of the options for which the parser accepts any text, apart from `--modcod`.
-fn refused_in<'a>(m: &ArgMatches<'a>) -> Option<Refused<'a>> {
-    let (roll_off, esn0) = (m.get_str("ro"), m.get_str("esn0"));
-    let (seeds, rate) = (m.get_str("seeds"), m.get_str("rate"));
-    refused_by(
-        roll_off,
-        roll_off_of(m).is_some(),
-        "--ro",
-        "0 for 0.35, 1 for 0.25 or 2 for 0.20",
-    )
-    .or(refused_by(
-        esn0,
-        esn0.and_then(read_esn0).is_some(),
-        "--esn0",
-        "-10 to 40, with at most two decimals",
-    ))
-    .or(refused_by(
-        seeds,
-        seeds.and_then(read_seeds).is_some(),
-        "--seeds",
-        "two unsigned 64-bit numbers with two dots between them, the first at most the second, for example 1..100",
-    ))
-    .or(refused_by(
-        rate,
-        rate.and_then(SymbolRate::read).is_some(),
-        "--rate",
-        "a whole number, 1 to 1000000000, also as 27.5M, 27.5e6 or 27500k",
-    ))
-}
-
-/// Appends that an option does not accept its value, and what it accepts.
-fn push_said_of(text: &mut String, refused: Refused<'_>) -> Result<(), AllocError> {
-    push_refused(text, refused.option, refused.value)?;
-    text.push_str(refused.accepted)
-}
-
-/// The line for the first invalid value.
-fn refused_line(alloc: Global, name: &str, m: &ArgMatches<'_>) -> Result<String, AllocError> {
+/// The usage error of a refused value. The line ends with the command `s2` and the words of `see`.
+pub fn refused_value(
+    alloc: Global,
+    refused: Refused<'_>,
+    see: &[&str],
+) -> Result<Unread, AllocError> {
     let mut text = String::from_str(alloc, "s2: ")?;
-    match refused_in(m) {
-        Some(refused) => push_said_of(&mut text, refused)?,
-        None => text.push_str(NOT_UNDERSTOOD)?,
-    }
-    push_way(&mut text, entry_of(name))?;
-    Ok(text)
+    push_refused(&mut text, refused.option, refused.value)?;
+    push_all(&mut text, &[refused.accepted, "; see s2 "])?;
+    push_all(&mut text, see)?;
+    text.push_str("\n")?;
+    Ok(Unread::Fault(text))
 }
 
 /// The usage error of arguments from which no request can be made.
-pub(crate) fn not_understood(
-    alloc: Global,
-    name: &str,
-    m: &ArgMatches<'_>,
-) -> Result<Unread, AllocError> {
-    match m.get_str("modcod") {
-        Some(value) if read_modcod(value).is_none() => Ok(Unread::Fault(modcod_line(
-            alloc, value,
-        )?)),
-        _ => Ok(Unread::Fault(refused_line(alloc, name, m)?)),
-    }
+pub fn not_understood(alloc: Global) -> Result<Unread, AllocError> {
+    let mut text = String::from_str(alloc, "s2: ")?;
+    text.push_str(NOT_UNDERSTOOD)?;
+    push_way(&mut text, None)?;
+    Ok(Unread::Fault(text))
 }
 
 /// The usage error of an argument that is not text.

@@ -205,8 +205,8 @@ Files:
   A frame's records are written before its line. A file keeps its contents until the rows",
             $accepted,
             " are accepted.
-  --about writes a JSON object when the command ends, but not after a fault: the version, the mode, every option, and
-  the SHA-256 and the number of bytes of each file and of the report. It is opened after all other files.
+  --about writes a JSON object when the command ends, but not after a fault: the version, the mode, every option, and the SHA-256 and the number of bytes of each file and of the report.
+  The file of --about is opened after all other files.
 
 Example:
 ",
@@ -288,33 +288,41 @@ Example:
 
 /// The text below the options of `audit`.
 const AUDIT_MORE: &str = "\
-The report, a line for each frame that REPORT calls sole or most-likely, and a line at the end:
+An accepted audit:
+  Each line of REPORT, and with --packets each packet, is what `demod` makes of SYMBOLS with the decided bits of CERTIFICATES or --codewords.
+  Taken on the report's word: frames with neither, which are counted as `unchecked`, and the rounds of --figures.
+
+The output, a line for each frame that REPORT calls sole or most-likely, and a line at the end:
   frame I at SYMBOL sole cost C           proved: the decided bits cost C, and every other codeword costs more
   frame I at SYMBOL most-likely cost C    proved: the decided bits cost C, and no codeword costs less
   frame I at SYMBOL REASON                not proved; the audit ends here
+  report line L: expected TEXT            line L of REPORT is another one; the audit ends here
+  packet P: expected HEX                  with --packets: the packet P of its file is another one; the audit ends here
   certificates left over                  CERTIFICATES has more after that of the last frame
-  audit frames F sole A most-likely B     REPORT has F frames; all frames that it calls sole (A) or most-likely (B) are proved
+  codewords left over                     the file of --codewords has more after the bits of the last frame
+  audit frames F sole A most-likely B unchecked U    REPORT has F frames, A of them proved sole, B proved most-likely, U taken on its word
   about line N differs: KEY               with --about: line N of its file has another value than these options and files
   about has no KEY                        with --about: its file has no line with this key
 
 Reasons:
   no certificate    CERTIFICATES ends before the certificate of this frame
-  no symbols        SYMBOLS ends before the end of this frame, or the frame begins inside an earlier one: see --resync
   other values      the certificate is for other soft values: of another recording, or with another --divisor or --tuned
   not accepted      the certificate proves nothing with these rows
   not sole          the certificate proves only that the bits are most likely
 
 Exit status:
-  0  all frames called sole or most-likely are proved, and no certificate is left over
+  0  each line, and with --packets each packet, is the one made again; all frames called sole or most-likely are proved
   1  a usage error, or an error reported on standard error
-  2  a frame is not proved, certificates are left over, or the file of --about differs
+  2  a frame is not proved, a line or a packet is another one, something is left over, or the file of --about differs
 
 Notes, on standard error:
   likely causes: ..    after exit 2: another divisor (try --tuned), another mode, or a recording that was cut or shifted
 
 Example:
   s2 demod --modcod qpsk1/2 --tuned --certificates certificates rows noisy received.ts > report
-  s2 audit --modcod qpsk1/2 --tuned rows noisy report certificates";
+  s2 audit --modcod qpsk1/2 --tuned rows noisy report certificates
+  s2 demod --modcod qpsk1/2 --certificates certificates --codewords codewords rows noisy received.ts > report
+  s2 audit --modcod qpsk1/2 --codewords codewords --packets received.ts rows noisy report certificates";
 
 /// The text below the options of `compare`.
 const COMPARE_MORE: &str = "\

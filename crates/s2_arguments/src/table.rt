@@ -2,14 +2,15 @@
 use crate::arguments::{
     ABOUT, ABOUT_REPORT, Argument, BBFRAMES, BBFRAMES_GIVEN, BBFRAMES_READ, BITS_GIVEN,
     CERTIFICATE, CERTIFICATE_READ, CERTIFICATES, CERTIFICATES_GIVEN, CERTIFICATES_READ,
-    CLEAN_SYMBOLS, CODEWORDS, DIVISOR, DIVISOR_OF_REPORT, DUMMY, EACH_CERTIFICATE, EACH_FRAME,
-    EQUALIZE, EQUALIZE_REPORT, ESN0, EVERY, EXIT_BY, FACTOR, FIGURES, FIRST, GROUP, GROUP_OR_MODE,
-    GROUPS, GROUPS_OR_MODE, HARD, LEVEL, LOCK, MODCOD, MODCOD_OR_NONE, NOISY_SYMBOLS, NUMBER,
-    PACKETS, PACKETS_MADE, PACKETS_RECEIVED, PASSES, PILOTS, PROGRESS, Q, Q_OR_MODE, QUIET,
-    QUIET_AND_STILL, RATE, RECORDING, REPORT, RESYNC, RESYNC_BOTH, RESYNC_FRAMES, RESYNC_REPORT,
-    ROLL_OFF, ROLL_OFF_READ, ROUNDS, ROWS, SEED, SEED_OR_SEEDS, SEEDS, SENT_BBFRAMES,
-    SENT_CODEWORDS, SENT_LABELS, SENT_SYMBOLS, SHORT, SOFT_VALUES, STRICT, SYMBOLS, SYMBOLS_MADE,
-    TUNED, TUNED_REPORT, TURNS, TURNS_REPORT, UNCERTIFIED, VALUES, WEIGHT, WORDS,
+    CLEAN_SYMBOLS, CODEWORDS, CODEWORDS_READ, DIVISOR, DIVISOR_OF_REPORT, DUMMY, EACH_CERTIFICATE,
+    EACH_FRAME, EQUALIZE, EQUALIZE_REPORT, ESN0, EVERY, EXIT_BY, FACTOR, FIGURES, FIGURES_REPORT,
+    FIRST, GROUP, GROUP_OR_MODE, GROUPS, GROUPS_OR_MODE, HARD, LEVEL, LOCK, LOCK_REPORT, MODCOD,
+    MODCOD_OR_NONE, NOISY_SYMBOLS, NUMBER, PACKETS, PACKETS_COMPARED, PACKETS_MADE,
+    PACKETS_RECEIVED, PASSES, PILOTS, PROGRESS, Q, Q_OR_MODE, QUIET, QUIET_AND_STILL, RATE,
+    RECORDING, REPORT, RESYNC, RESYNC_BOTH, RESYNC_FRAMES, RESYNC_REPORT, ROLL_OFF, ROLL_OFF_READ,
+    ROUNDS, ROWS, SEED, SEED_OR_SEEDS, SEEDS, SENT_BBFRAMES, SENT_CODEWORDS, SENT_LABELS,
+    SENT_SYMBOLS, SHORT, SOFT_VALUES, STRICT, SYMBOLS, SYMBOLS_MADE, TUNED, TUNED_REPORT, TURNS,
+    TURNS_REPORT, UNCERTIFIED, VALUES, WEIGHT, WORDS,
 };
 
 /// The commands.
@@ -94,7 +95,7 @@ static COMMANDS: [CommandHelp; 13] = [
     CommandHelp {
         command: CommandName::Audit,
         name: "audit",
-        about: "Checks a report against its certificates, without decoding",
+        about: "Checks a report against the recording and its certificates, without decoding",
     },
     CommandHelp {
         command: CommandName::Compare,
@@ -169,6 +170,8 @@ pub(crate) enum Section {
     Join,
     /// `audit`, after the roll-off.
     Audit,
+    /// What else `audit` reads and compares.
+    Compared,
     /// The files of `audit`.
     AuditFiles,
     /// `compare`, after the code.
@@ -347,15 +350,26 @@ fn join_arguments() -> &'static [Argument] {
 
 static AUDIT_ARGUMENTS: [Argument; 6] = [
     DIVISOR_OF_REPORT,
+    LOCK_REPORT,
     TURNS_REPORT,
     RESYNC_REPORT,
     EQUALIZE_REPORT,
     TUNED_REPORT,
-    ABOUT_REPORT,
 ];
 
 fn audit_arguments() -> &'static [Argument] {
     &AUDIT_ARGUMENTS
+}
+
+static COMPARED_ARGUMENTS: [Argument; 4] = [
+    FIGURES_REPORT,
+    CODEWORDS_READ,
+    PACKETS_COMPARED,
+    ABOUT_REPORT,
+];
+
+fn compared_arguments() -> &'static [Argument] {
+    &COMPARED_ARGUMENTS
 }
 
 static AUDIT_FILES_ARGUMENTS: [Argument; 4] = [ROWS, SYMBOLS, REPORT, CERTIFICATES_READ];
@@ -405,6 +419,7 @@ pub(crate) fn arguments_in(section: Section) -> &'static [Argument] {
         Section::Scan => scan_arguments(),
         Section::Join => join_arguments(),
         Section::Audit => audit_arguments(),
+        Section::Compared => compared_arguments(),
         Section::AuditFiles => audit_files_arguments(),
         Section::Compare => compare_arguments(),
         Section::CompareFiles => compare_files_arguments(),
@@ -451,6 +466,7 @@ pub(crate) fn sections_of(command: CommandName) -> &'static [Section] {
             Section::Link,
             Section::Received,
             Section::Audit,
+            Section::Compared,
             Section::AuditFiles,
         ],
         CommandName::Compare => &[Section::Code, Section::Compare, Section::CompareFiles],
@@ -531,6 +547,20 @@ const MODE_OF_BBFRAMES: Rule = Rule {
     excluded: &["bits"],
 };
 
+/// Packets are compared only if the bits of each frame are known.
+const BITS_OF_PACKETS: Rule = Rule {
+    given: &["packets"],
+    needed: &["codewords"],
+    excluded: &[],
+};
+
+/// The rule of the other options.
+const NO_RULE: Rule = Rule {
+    given: &[],
+    needed: &[],
+    excluded: &[],
+};
+
 /// The rules for the options of a command, at most one per option.
 fn rules_of(command: CommandName) -> &'static [Rule] {
     match command {
@@ -538,16 +568,17 @@ fn rules_of(command: CommandName) -> &'static [Rule] {
         CommandName::Judge => &[WHOLE_SHAPE, LENGTH_OF_MODE, NO_PASSES],
         CommandName::Compare => &[WHOLE_SHAPE, LENGTH_OF_MODE, MODE_OF_BBFRAMES],
         CommandName::Demod | CommandName::Run => &[NO_PASSES],
+        CommandName::Audit => &[BITS_OF_PACKETS],
         _ => &[],
     }
 }
 
-/// The rule for an option of a command, if there is one.
-pub(crate) fn rule_of(command: CommandName, option: &str) -> Option<Rule> {
+/// The rule for an option of a command.
+pub(crate) fn rule_of(command: CommandName, option: &str) -> Rule {
     for rule in rules_of(command) {
         if rule.given.contains(&option) {
-            return Some(*rule);
+            return *rule;
         }
     }
-    None
+    NO_RULE
 }

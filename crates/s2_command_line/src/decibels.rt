@@ -1,7 +1,7 @@
 //! Reads an Es/N0 from the command line.
 ghost use Rattle.std.specs.Prelude.{◌≤ℤ◌, pos, IfSome};
 
-use crate::limits::{LEAST_ESN0, MAX_ESN0};
+use s2_words::limits::{LEAST_ESN0, MAX_ESN0};
 
 /// The number of a text that has decimal digits only.
 fn digits(text: &str) -> Option<u16> {

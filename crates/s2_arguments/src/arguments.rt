@@ -1,10 +1,10 @@
 //! The arguments of all commands: options and files, with their kinds, ranges, defaults and help texts.
-use crate::limits::{
+use clap::builder::ValueParser;
+use s2_mode::{MAX_BITS, MAX_GROUP};
+use s2_words::limits::{
     LEAST_FACTOR, LEAST_LOCK, MAX_ADDRESSES, MAX_FACTOR, MAX_LOCK, MAX_NUMBER, MAX_PASSES,
     MAX_ROUNDS,
 };
-use clap::builder::ValueParser;
-use s2_mode::{MAX_BITS, MAX_GROUP};
 
 /// The decimal digits of the default rounds.
 pub(crate) const DEFAULT_ROUNDS_TEXT: &str = "50";
@@ -25,7 +25,7 @@ pub(crate) const DEFAULT_LOCK_TEXT: &str = "12";
 pub(crate) const CERTAINTY_TEXT: &str = "certainty";
 
 /// The exit status is 0 if every frame is delivered, and no symbols are skipped.
-pub(crate) const DELIVERY_TEXT: &str = "delivery";
+pub const DELIVERY_TEXT: &str = "delivery";
 
 /// The values of `--exit-by`.
 pub(crate) const EXIT_BY_TEXTS: [&str; 2] = [CERTAINTY_TEXT, DELIVERY_TEXT];
@@ -229,7 +229,7 @@ pub(crate) const RESYNC_BOTH: Argument = Argument {
 
 /// The same name, for a report that was made with it.
 pub(crate) const RESYNC_REPORT: Argument = Argument {
-    help: "Allow a frame to begin inside an earlier one, lost or not, if the report was made with --resync",
+    help: "Search lost frames again for headers, if the report was made with --resync",
     ..RESYNC
 };
 
@@ -294,6 +294,12 @@ pub(crate) const LOCK: Argument = Argument {
     help: "Maximum number of wrong header bits directly after a frame, 12 to 40; elsewhere it is always 12",
 };
 
+/// The same option, for a report that was made with it.
+pub(crate) const LOCK_REPORT: Argument = Argument {
+    help: "Maximum number of wrong header bits directly after a frame: the one that the report was made with",
+    ..LOCK
+};
+
 pub(crate) const UNCERTIFIED: Argument = Argument {
     name: "uncertified",
     form: ArgumentKind::Flag,
@@ -332,7 +338,7 @@ pub(crate) const EQUALIZE_REPORT: Argument = Argument {
 
 /// The same option, for a report that was made with it.
 pub(crate) const TUNED_REPORT: Argument = Argument {
-    help: "Use the divisor that --tuned sets for the mode, --turns and --resync, if the report was made with --tuned; --divisor overrides it",
+    help: "Use the divisor that --tuned sets for the mode, --lock 30, --turns and --resync, if the report was made with --tuned; --divisor and --lock override it",
     ..TUNED
 };
 
@@ -392,6 +398,12 @@ pub(crate) const FIGURES: Argument = Argument {
     name: "figures",
     form: ArgumentKind::Flag,
     help: "Add link metrics to the line of each frame, and their totals to the last line",
+};
+
+/// The same option, for a report that was made with it.
+pub(crate) const FIGURES_REPORT: Argument = Argument {
+    help: "Compute the link metrics of each frame, if the report was made with --figures",
+    ..FIGURES
 };
 
 pub(crate) const EVERY: Argument = Argument {
@@ -489,6 +501,17 @@ pub(crate) const CODEWORDS: Argument = Argument {
     name: "codewords",
     form: ArgumentKind::Valued(FILE),
     help: "Write the decided bits of each frame to this file, eight bits per byte, the first in the highest bit",
+};
+
+pub(crate) const CODEWORDS_READ: Argument = Argument {
+    help: "Take the decided bits of frames without a certificate from this file, which `demod --codewords` wrote",
+    ..CODEWORDS
+};
+
+pub(crate) const PACKETS_COMPARED: Argument = Argument {
+    name: "packets",
+    form: ArgumentKind::Valued(FILE),
+    help: "Compare the packets with those of this file, which `demod` wrote; needs --codewords",
 };
 
 pub(crate) const BBFRAMES: Argument = Argument {
