@@ -166,7 +166,7 @@ module _ (t : Terms) (old mid new : Ends) (f f' : Follower) (frames : List Shown
   audited_frame s tells more = by_ran a.ran
     where
       by_ran : RanSoFar t old.symbols mid.symbols f frames lines packets → Audited t old new f' (frames ++ s ∷ []) (lines ++ s.line ∷ []) (packets ++ f'.packets)
-      by_ran (inr (closing, ran)) = absurd (tells.open_ closing)
+      by_ran (inr (closing, ran)) = absurd (tells.not_closing closing)
       by_ran (inl (are, so_far)) =
           let lines_are : lines ++ s.line ∷ [] ≡ lines_of (frames ++ s ∷ []) = ap (λ l. l ++ s.line ∷ []) are ∙ lines_push frames s in
           let one = tells.goes old.symbols (all_known (counts_of frames)) (decisions_of frames) lines packets so_far in

@@ -102,7 +102,7 @@ module _ (old new : Ends) (f : Follower) (am an : FrameAuditor) (line : List ℕ
             goes = λ whole known decisions lines packets so_far.
                 subst (λ k. AuditedSoFar t whole new.symbols f' k (decisions ++ d ∷ []) (lines ++ line ∷ []) (packets ++ f'.packets)) (and_known known (is_known d) settles.known)
                 (tells_frame t whole old.symbols new.symbols f mid f' known decisions lines packets found block d step line so_far meets.goes meets.found_is tt settles own);
-            open_ = frame_open;
+            not_closing = frame_open;
             none = settles.settles.none;
             report = gives.1;
             takes = takes;
@@ -124,7 +124,7 @@ module _ (old new : Ends) (f : Follower) (am an : FrameAuditor) (line : List ℕ
             goes = λ whole known decisions lines packets so_far.
                 subst (λ k. AuditedSoFar t whole new.symbols f' k (decisions ++ d ∷ []) (lines ++ line ∷ []) (packets ++ f'.packets)) (and_unknown known)
                 (tells_claim t whole old.symbols new.symbols f mid f' known decisions lines packets found at line frame.verdict claim so_far meets.goes meets.found_is refl uncertified audits' told);
-            open_ = frame_open;
+            not_closing = frame_open;
             none = audits'.settles.none;
             report = gives.1;
             takes = subst (λ e. Takes (n_of t.mode) old.evidence e None None) (sym same) takes_old;
@@ -319,7 +319,7 @@ compared t old mid new f f' p told result kept symbols report evidence (s, tells
     tells_new = record {
       goes = λ whole known decisions lines packets so_far.
           subst (λ x. AuditedSoFar t whole x f' (known && is_known s.decision) (decisions ++ s.decision ∷ []) (lines ++ s.line ∷ []) (packets ++ f'.packets)) (sym symbols) (tells.goes whole known decisions lines packets so_far);
-      open_ = tells.open_;
+      not_closing = tells.not_closing;
       none = tells.none;
       report = subst (λ x. Consumes old.report x (s.line ++ 10 ∷ [])) (sym report) tells.report;
       takes = subst (λ e. Takes (n_of t.mode) old.evidence e s.block s.packed) (sym evidence) tells.takes;

@@ -184,7 +184,7 @@ pub record TellsLine (t : Terms) (old new : Ends) (f f' : Follower) (s : Shown) 
   pub goes : (whole : Option (List ℕ)) (known : Bool) (decisions : List Decision) (lines : List (List ℕ)) (packets : List ℕ)
       → AuditedSoFar t whole old.symbols f known decisions lines packets
       → AuditedSoFar t whole new.symbols f' (known && is_known s.decision) (decisions ++ s.decision ∷ []) (lines ++ s.line ∷ []) (packets ++ f'.packets)
-  pub open_ : f.state.phase ≡ phases.Closing → ⊥
+  pub not_closing : f.state.phase ≡ phases.Closing → ⊥
   pub none : f'.found ≡ None
   pub report : Consumes old.report new.report (s.line ++ 10 ∷ [])
   pub takes : Takes (n_of t.mode) old.evidence new.evidence s.block s.packed

@@ -5,8 +5,8 @@
 //! its line and its packets are those of the receiver that came to this decision. BCH decoding (EN 302 307-1, 5.3.1), the BBHEADER
 //! and the packets (5.1) are algebra. Nothing is searched but headers of frames.
 //!
-//! The bits of a frame are those of its certificate ([`read_certificate`]), which also shows the verdict; or those of a record of the
-//! codeword ([`read_codeword`]), whose verdict the parity checks show ([`parity_verdict`]). Else the report is taken at its word
+//! The bits of a frame are those of its certificate ([`read_certificate`]), which also shows the verdict; or those of a record of its
+//! codeword, whose verdict the parity checks show ([`parity_verdict`]). Else the report is taken at its word
 //! ([`Replayer::claim`]). [`is_line_of`] and [`compare_packets`] compare line and packets with a report and a packet file.
 //!
 //! `specs/Replay.antt` defines what an audit is to find out: a report has exactly the receiver's lines, and a packet file exactly
@@ -24,7 +24,6 @@
 #![tactic(auto)]
 
 mod certificates;
-mod codewords;
 mod frames;
 pub mod laws;
 mod lines;
@@ -33,7 +32,6 @@ mod replayer;
 mod verdicts;
 
 pub use certificates::{Refusal, Shown, read_certificate};
-pub use codewords::read_codeword;
 pub use frames::{Audited, AuditedClaim, AuditedLast};
 pub use lines::{is_claimed_line, is_counted_line, is_line_of};
 pub use packets::compare_packets;
