@@ -1,6 +1,5 @@
 pub mod Lines
 pub mod Packets
-pub mod Codewords
 pub mod Certificates
 pub mod Replay
 pub mod Running
