@@ -1,0 +1,11 @@
+pub mod JoinedTexts
+pub mod PacketLemmas
+pub mod ValueLemmas
+pub mod RunLemmas
+pub mod ReplayerLemmas
+pub mod AuditLemmas
+pub mod OwnReports
+pub mod BorneOut
+pub mod ClaimLemmas
+pub mod OwnWords
+pub mod Told

@@ -1,0 +1,10 @@
+pub mod Lines
+pub mod Packets
+pub mod Codewords
+pub mod Certificates
+pub mod Replay
+pub mod Running
+pub mod Replayers
+pub mod Auditing
+pub mod Frames
+pub mod Laws

@@ -1,0 +1,21 @@
+//! Laws about replays.
+ghost use Rattle.s2_replay.specs.Laws.{AuditBeginsLaw, AuditOverLaw, OwnReportLaw, TellsClaimLaw, TellsCutLaw, TellsEndLaw, TellsFrameLaw};
+
+/// The report of a receiver is accepted if each of its decisions is borne out: the receiver's own lines and packets are those of a
+/// replay by its decisions.
+pub fn own_report()
+    ensures { OwnReportLaw }
+{}
+
+/// An audit in steps. A step finds the next thing ([`crate::Replayer::find`]) and audits it. Nothing was audited with a new
+/// replayer. A frame is one more if the report has its line ([`crate::Replayer::audit_certified`],
+/// [`crate::Replayer::audit_recorded`], [`crate::Replayer::audit_claimed`]). After the last frame come a cut frame and the end
+/// ([`crate::Replayer::audit_last`]). With the end, report and packets are those of the receiver by its decisions.
+pub fn audits()
+    ensures begins { AuditBeginsLaw }
+    ensures frame { TellsFrameLaw }
+    ensures claim { TellsClaimLaw }
+    ensures over { AuditOverLaw }
+    ensures cut { TellsCutLaw }
+    ensures end { TellsEndLaw }
+{}

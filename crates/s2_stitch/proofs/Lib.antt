@@ -1,0 +1,7 @@
+pub mod RecordLemmas
+pub mod StitchLemmas
+pub mod StitcherLemmas
+pub mod RunLemmas
+pub mod WalkLemmas
+pub mod FindLemmas
+pub mod UncertifiedLemmas

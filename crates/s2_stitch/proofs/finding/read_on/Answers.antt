@@ -1,0 +1,13 @@
+use Rattle.std.proofs.Common.{◌<◌, rules, subst, sym, ◌∙◌}
+use Rattle.s2_stitch.proofs.FindLemmas.{comes_nearer, empty_seek, goes_on}
+use Rattle.s2_stitch.proofs.finding.read_on.Goals as goal
+
+pub returns-clause-goes_on : goal.returns-clause-goes_on
+returns-clause-goes_on g c = goes_on _ _ _ _ c.requires.none (search rules) c.seek.ensures.seeks _ _ c.in_ok-count.ensures.bytes (search rules)
+
+pub returns-clause-nearer : goal.returns-clause-nearer
+returns-clause-nearer g c = λ some. comes_nearer _ _ _ (subst (λ n. 0 < n) c.requires.room some) _ c.seek.ensures.seeks
+
+pub returns-clause-stuck : goal.returns-clause-stuck
+returns-clause-stuck g c = λ none.
+    empty_seek _ _ _ (search rules) (sym c.requires.room ∙ none) _ c.seek.ensures.seeks
