@@ -4,6 +4,7 @@ pub mod Codewords
 pub mod Certificates
 pub mod Replay
 pub mod Running
+pub mod Following
 pub mod Replayers
 pub mod Auditing
 pub mod Frames

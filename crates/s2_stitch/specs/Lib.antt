@@ -4,5 +4,4 @@ pub mod Walking
 pub mod Stitching
 pub mod Stitchers
 pub mod Running
-pub mod Finding
 pub mod Laws

@@ -9,6 +9,11 @@ AreLeft n None (Some bytes) records = (records ≡ []) × (bytes ≡ [])
 AreLeft n (Some r) (Some bytes) [] = ⊥
 AreLeft n (Some r) (Some bytes) (first ∷ later) = (first ≡ r) × AreAllRecords n later bytes
 
+-- all records of known bytes
+abbrev pub AreAllLeft : (n : ℕ) → (bytes : Option (List ℕ)) → List Record → Type 0
+AreAllLeft n None records = ⊥
+AreAllLeft n (Some bytes) records = AreAllRecords n records bytes
+
 -- these records are before a position
 abbrev pub AreBefore : (at : ℕ) → List Record → Type 0
 AreBefore at [] = ⊤
@@ -27,3 +32,7 @@ IsFrom at (Some r) = at ≤ r.at
 abbrev pub IsAtHand : (n : ℕ) → Option Record → Type 0
 IsAtHand n None = ⊤
 IsAtHand n (Some r) = length r.bits ≡ n
+
+-- from one record at hand to another some records were passed, and no others
+abbrev pub LeavesRecords : (n : ℕ) → (held next : Option Record) → (old new : Option (List ℕ)) → Type 0
+LeavesRecords n held next old new = (records : List Record) → AreLeft n held old records → (passed later : List Record) × (records ≡ passed ++ later) × AreLeft n next new later

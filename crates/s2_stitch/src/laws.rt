@@ -1,7 +1,6 @@
 //! Laws of stitching.
-ghost use Rattle.s2_stitch.specs.Laws.{StitchLaw, UncertifiedLaw};
+ghost use Rattle.s2_stitch.specs.Laws.{UncertifiedLaw};
 ghost use Rattle.s2_stitch.specs.Records.{ReadAgainLaw, SameRecordsLaw, WrittenLaw};
-ghost use Rattle.s2_stitch.specs.Running.{StitchBeginsLaw, StitchEndsLaw, StitchSeeksLaw, StitchSettlesLaw};
 
 /// Records that are written are read again, and no others.
 pub fn read_again()
@@ -10,19 +9,8 @@ pub fn read_again()
     ensures no_others { SameRecordsLaw }
 {}
 
-/// If each record has the decision of the receiver's rule, a stitched run is the receiver's own. Certificates
-/// do not change lines and packets.
-pub fn stitch()
-    ensures own { StitchLaw }
-    ensures uncertified { UncertifiedLaw }
-{}
-
-/// A stitched run in steps, each of which finds the next thing ([`crate::Stitcher::seek`]) and handles it
-/// ([`crate::Stitcher::settle`]). At the end, report and packets are those of a receiver by
-/// these decisions.
-pub fn runs()
-    ensures begins { StitchBeginsLaw }
-    ensures seeks { StitchSeeksLaw }
-    ensures settles { StitchSettlesLaw }
-    ensures ends { StitchEndsLaw }
+/// A receiver that drops the certificates of its decisions has the same lines and packets. So records without certificates give the
+/// same report and the same packets.
+pub fn without_certificates()
+    ensures { UncertifiedLaw }
 {}
