@@ -28,7 +28,7 @@ fn options_of(tuning: Tuning) -> FrameOptions
 
 /// Decides the frames of a link, in its own buffers. It finds figures, equalizes frames, and rotates them back, only if
 /// the tuning says so.
-pub(crate) struct Decider<'a> {
+pub struct Decider<'a> {
     roll_off: RollOff,
     judge: Judge<'a>,
     reader: FrameReader,
@@ -64,7 +64,7 @@ impl<'a> Model for Decider<'a> {
 
 impl<'a> Decider<'a> {
     /// A decider with all the memory that it needs.
-    pub(crate) fn new(
+    pub fn new(
         alloc: Global,
         link: &Link<'a>,
         tuning: Tuning,

@@ -89,6 +89,21 @@ entry_of (word ∷ words) =
 abbrev pub entry_in : List ℕ → Option Entry
 entry_in line = if nat_le (length line) line_bytes then entry_of (words_of line) else None
 
+-- the number that a word says, if it is below 2^32; else 0
+abbrev pub small_or_zero : Option ℕ → ℕ
+small_or_zero (Some n) = if nat_lt n 4294967296 then n else 0
+small_or_zero None = 0
+
+-- the number that the first of these words says
+abbrev pub first_number : List (List ℕ) → ℕ
+first_number [] = 0
+first_number (word ∷ words) = small_or_zero (number_in word)
+
+-- the rounds of a frame's line with figures: the number after the word `rounds`; 0 if there is none
+abbrev pub rounds_in : List (List ℕ) → ℕ
+rounds_in [] = 0
+rounds_in (word ∷ words) = if is_text word (codes "rounds") then first_number words else rounds_in words
+
 -- no byte of a line is LF
 abbrev pub IsLine : List ℕ → Type 0
 IsLine line = All (λ b. is_line_feed b ≡ false) line

@@ -1,7 +1,7 @@
 //! What a line of a report says to a reader.
 ghost use Rattle.std.specs.Prelude.{◌≡◌, ◌<◌, ◌∷◌, [], IfSome, IfNone, length};
 ghost use Rattle.s2_rows.specs.Text.{pieces_of};
-ghost use Rattle.s2_report.specs.Entries.{entry_in, entry_of, frame_of, frame_with, is_blank, is_text, number_in, verdict_in, words_of, IsSmall, IsSmallEntry};
+ghost use Rattle.s2_report.specs.Entries.{entry_in, entry_of, first_number, frame_of, frame_with, is_blank, is_text, number_in, rounds_in, verdict_in, words_of, IsSmall, IsSmallEntry};
 
 use crate::limits::MAX_LINE_BYTES;
 use crate::number::read_number;
@@ -146,4 +146,32 @@ pub fn read_entry(line: &[u8]) -> Option<Entry>
         return None;
     }
     entry_of(line)
+}
+
+/// The number that the first word of a line says, if it is below 2^32; else 0.
+fn first_number(line: &[u8]) -> u32
+    ensures { result ≡ first_number (words_of line.now) }
+{
+    let Some((word, _)) = first_word(line) else {
+        return 0;
+    };
+    match read_number(word) {
+        Some(number) if number <= u64::from(u32::MAX) => number as u32,
+        _ => 0,
+    }
+}
+
+/// The number of rounds of min-sum that the line of a frame with figures says: the number after the word `rounds`. 0 if there is none
+/// below 2^32.
+pub fn read_rounds(line: &[u8]) -> u32
+    ensures { result ≡ rounds_in (words_of line.now) }
+{
+    let mut rest = line;
+    'words: while let Some((word, more)) = first_word(rest) {
+        if is_text(word, "rounds") {
+            return first_number(more);
+        }
+        rest = more;
+    }
+    0
 }

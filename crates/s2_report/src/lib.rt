@@ -5,14 +5,14 @@
 //! step: its words are in `specs/ReportLines.antt`. [`end_line`] and [`cut_bytes_line`] are the lines of `join`, which has a
 //! file of frames and no symbols.
 //!
-//! [`next_entry`] reads a report line by line, in the memory of one line. An [`Entry`] of a frame has its number, the symbol
-//! at which it begins, and its verdict; the rest of its line is not read. A line that [`line_of`] writes of a step is read as
-//! the entry of this step, if its numbers are below 2^40 (its clause `read_back`).
+//! [`next_line`] reads a report line by line, in the memory of one line. [`read_entry`] reads of a line what it says: an [`Entry`]
+//! of a frame has its number, the symbol at which it begins, and its verdict. A line that [`line_of`] writes of a step is read as the
+//! entry of this step, if its numbers are below 2^40 (its clause `read_back`). [`read_rounds`] reads one figure of the line.
 //!
 //! ```text
 //! write_full(&mut report, line_of(step, totals).as_bytes())?;
 //! // elsewhere
-//! while let Some(entry) = next_entry(&mut report, number)? { .. }
+//! while next_line(&mut report, &mut line, number)? { .. }
 //! ```
 #![tactic(auto)]
 
@@ -26,10 +26,10 @@ mod reading;
 mod report;
 mod totals;
 
-pub use entry::{Entry, Frame, read_entry};
+pub use entry::{Entry, Frame, read_entry, read_rounds};
 pub use figures::{Correlation, Figures, Sums, Tally, sums_after};
 pub use limits::MAX_LINE_BYTES;
 pub use lines::{cut_bytes_line, end_line, line_of};
-pub use reading::{next_entry, read_byte};
+pub use reading::{LineBytes, next_line, read_byte};
 pub use report::{Outcome, Report, Step};
 pub use totals::Totals;

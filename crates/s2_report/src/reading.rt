@@ -1,16 +1,15 @@
 //! Reads a report, line by line.
 ghost use Rattle.std.specs.Prelude.{◌≡◌, ◌≢◌, ◌+◌, [], Err, IfOk};
 ghost use Rattle.s2_mode.specs.Counts.{CanCount, CountsFault};
-ghost use Rattle.s2_report.specs.Reading.{GivesByte, GivesLine, NextEntry, line_fault};
+ghost use Rattle.s2_report.specs.Reading.{GivesByte, GivesLine, NextLine, line_fault};
 
-use crate::entry::{Entry, read_entry};
 use crate::limits::MAX_LINE_BYTES;
 use arrayvec::ArrayVec;
 use s2_io::Fault;
 use s2_mode::{CountedRead, FaultText, ReadFault, read_full};
 
 /// The bytes of a line, with room for one too many.
-type LineBytes = ArrayVec<u8, 512>;
+pub type LineBytes = ArrayVec<u8, 512>;
 
 /// The next byte of a reader, or `None` at its end.
 pub fn read_byte<R: CountedRead>(reader: &mut R) -> Result<Option<u8>, ReadFault>
@@ -44,52 +43,34 @@ fn read_line<R: CountedRead>(reader: &mut R, line: &mut LineBytes) -> Result<boo
     Ok(false)
 }
 
-/// The fault of a line that is unreadable.
+/// The fault of a line that cannot be read.
 fn line_fault(number: u64) -> Fault<'static>
     ensures { result ≡ line_fault number }
 {
     Fault::about("report: ", FaultText::in_line("line ", number))
 }
 
-/// The next entry, read into an empty buffer.
-fn read_next<R: CountedRead>(
+/// Reads the next line of a report into an empty buffer, without its LF. False at the end of the report. The line has this number.
+/// `Read`: a read failed. Any other fault is that of the line: it has no LF, or more than [`MAX_LINE_BYTES`] bytes.
+pub fn next_line<R: CountedRead>(
     reader: &mut R,
     line: &mut LineBytes,
     number: u64,
-) -> Result<Option<Entry>, Fault<'static>>
+) -> Result<bool, Fault<'static>>
     requires reader { CanCount (R.count reader.old) }
     requires empty { line.old.items ≡ [] }
-    ensures next { NextEntry number (R.remaining reader.old) (R.remaining reader.new) result }
+    ensures line { NextLine number (R.remaining reader.old) (R.remaining reader.new) line.new.items result }
     ensures read { result ≡ Err Fault.Read → R.count reader.new ≡ R.count reader.old + 1 }
     ensures no_read { result ≢ Err Fault.Read → R.count reader.new ≡ R.count reader.old }
 {
     let Ok(ended) = read_line(reader, line) else {
         return Err(Fault::Read);
     };
-    if !ended {
-        return if line.is_empty() {
-            Ok(None)
-        } else {
-            Err(line_fault(number))
-        };
+    if ended {
+        return Ok(true);
     }
-    match read_entry(line.as_slice()) {
-        Some(entry) => Ok(Some(entry)),
-        None => Err(line_fault(number)),
+    if line.is_empty() {
+        return Ok(false);
     }
-}
-
-/// The entry of a report's next line, or `None` at its end. The line has this number. `Read`: a read failed. Any other fault
-/// is that of the line: it is unreadable ([`read_entry`]), or has no LF. It takes no memory.
-pub fn next_entry<R: CountedRead>(
-    reader: &mut R,
-    number: u64,
-) -> Result<Option<Entry>, Fault<'static>>
-    requires { CanCount (R.count reader.old) }
-    ensures next { NextEntry number (R.remaining reader.old) (R.remaining reader.new) result }
-    ensures read { result ≡ Err Fault.Read → R.count reader.new ≡ R.count reader.old + 1 }
-    ensures no_read { result ≢ Err Fault.Read → R.count reader.new ≡ R.count reader.old }
-{
-    let mut line = ArrayVec::new();
-    read_next(reader, &mut line, number)
+    Err(line_fault(number))
 }
