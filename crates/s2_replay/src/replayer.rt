@@ -302,7 +302,8 @@ impl Replayer {
 
     /// The totals so far.
     pub fn totals(&self) -> Totals
-        ensures { result ≡ self.now.follower.state.standing.totals }
+        ensures is { result ≡ self.now.follower.state.standing.totals }
+        ensures counted { result.frames ≤ max_symbols }
     {
         self.follower.totals()
     }

@@ -102,6 +102,7 @@ abbrev pub AnswersAs : {S : Type 0} → (takes fails : Taking S) → Rules → (
 AnswersAs takes fails rules old new sink_old sink_new before behind (Ok made) = StepAnswersWith takes fails rules old new sink_old sink_new before behind (Ok made.step)
 AnswersAs takes fails rules old new sink_old sink_new before behind (Err (faults.Stream fault)) =
     (failed : State) × StepAnswersWith takes fails rules old failed sink_old sink_new before behind (Err (fault_of fault))
+    × (fault ≡ streams.Read → (behind.given ≡ before.given) × (behind.out ≡ before.out))
 AnswersAs takes fails rules old new sink_old sink_new before behind (Err (faults.Record fault)) =
     (sink_new ≡ sink_old) × (behind.given ≡ before.given) × (behind.out ≡ before.out)
 

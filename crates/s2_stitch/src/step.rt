@@ -1,5 +1,5 @@
 //! One step of a stitched run, with its output.
-ghost use Rattle.std.specs.Prelude.{◌≡◌, IfOk, List, None, OnErr, OnOk, ℕ};
+ghost use Rattle.std.specs.Prelude.{◌≡◌, ◌≤◌, IfOk, List, None, OnErr, OnOk, ℕ};
 ghost use Rattle.std.specs.Io.KnownBytes.{Appends};
 ghost use Rattle.s2_mode.specs.Counts.{CanCount};
 ghost use Rattle.s2_mode.specs.Mode.{n_of};
@@ -7,6 +7,7 @@ ghost use Rattle.s2_mode.specs.Streams.{NoneFailed, OneFailed};
 ghost use Rattle.s2_mode.specs.Symbols.{symbols_of};
 ghost use Rattle.s2_report.specs.ReportLines.{step_line};
 ghost use Rattle.s2_receive.specs.Answers.{Between};
+ghost use Rattle.s2_receive.specs.Limits.{max_symbols};
 ghost use Rattle.s2_receive.specs.Receiving.{IsLive};
 ghost use Rattle.s2_receive.specs.ReceiverCore.{FailsIn};
 ghost use Rattle.s2_replay.specs.Frames.{terms_of};
@@ -129,6 +130,7 @@ pub(crate) fn stitch_step<
     ensures left { IfOk result (λ _. LeavesRecords records.old.bits records.old.held records.new.held (Q.remaining records.old.reader) (Q.remaining records.new.reader)) }
     ensures nears { IfOk result (λ made. Nears made.found stitcher.old.replayer.follower.state stitcher.new.replayer.follower.state) }
     ensures step { IfOk result (λ made. IsLastStep made.found made.step) }
+    ensures counted { IfOk result (λ _. stitcher.new.replayer.follower.state.standing.totals.frames ≤ max_symbols) }
     ensures none { IfOk result (λ _. stitcher.new.replayer.follower.found ≡ None) }
     ensures same { IsSameStitcher D.decide stitcher.old stitcher.new }
     ensures bits { records.new.bits ≡ records.old.bits }

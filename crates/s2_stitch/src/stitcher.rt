@@ -1,5 +1,5 @@
 //! A receiver whose decisions come from records, or from a decider.
-ghost use Rattle.std.specs.Prelude.{◌≡◌, IfOk, None, Some, length};
+ghost use Rattle.std.specs.Prelude.{◌≡◌, ◌≤◌, IfOk, None, Some, length};
 ghost use Rattle.s2_certfile.specs.Format.{file_of_bytes};
 ghost use Rattle.s2_mode.specs.Counts.{CanCount, CountsFault};
 ghost use Rattle.s2_mode.specs.Mode.{n_of, symbols_in};
@@ -263,7 +263,8 @@ impl<D: Decide> Stitcher<D> {
 
     /// The totals so far.
     pub fn totals(&self) -> Totals
-        ensures { result ≡ self.now.replayer.follower.state.standing.totals }
+        ensures is { result ≡ self.now.replayer.follower.state.standing.totals }
+        ensures counted { result.frames ≤ max_symbols }
     {
         self.replayer.totals()
     }

@@ -1,5 +1,42 @@
-use Rattle.std.proofs.Common.{◌≡◌, ◌∙◌, None, inr, rules, sym}
+use Rattle.std.proofs.Common.{◌≡◌, ◌∙◌, Some, None, Ok, Err, inl, inr, refl, rules, subst, sym}
+use Rattle.s2_replay.specs.Following.{SearchesOnce}
+use Rattle.s2_replay.proofs.FollowLemmas.{searches_more}
 use Rattle.s2_replay.proofs.replayer.find_next.Goals as goal
+
+pub returns-in-Some-clause-searches : goal.returns-in-Some-clause-searches
+returns-in-Some-clause-searches g c =
+    let (searches, are) = c.reading.invariant.searched in
+    let (bytes, last) = subst (λ n. SearchesOnce c.reading.follower c.read_on.new.follower (g.R.CountedRead.remaining c.reading.symbols) (g.R.CountedRead.remaining c.read_on.new.symbols) (Ok n)) c.in-Some.is c.in_ok-found.ensures.searched in
+    (record { searches = searches; mid = c.reading.follower; between = g.R.CountedRead.remaining c.reading.symbols; before = are; bytes = bytes; last = last }, c.in_ok-found.ensures.cause ∙ c.reading.invariant.reads)
+
+pub returns-in_err-found-clause-searches : goal.returns-in_err-found-clause-searches
+returns-in_err-found-clause-searches g c =
+    let (searches, are) = c.reading.invariant.searched in
+    let (same, failed) = c.in_err-found.ensures.searched in
+    record {
+      searches = searches;
+      mid = c.reading.follower;
+      between = g.R.CountedRead.remaining c.reading.symbols;
+      before = are;
+      few = c.room-room.ensures.held.0;
+      within = c.room-room.ensures.held.1;
+      cause = inl (failed, c.in_err-found.ensures.cause ∙ (λ i. c.reading.invariant.reads i + 1));
+    }
+
+pub returns-then-room-eq0-clause-searches : goal.returns-then-room-eq0-clause-searches
+returns-then-room-eq0-clause-searches g c =
+    let (searches, are) = c.reading.invariant.searched in
+    let none : _ ≡ None = c.in_default.is in
+    let (bytes, last) = subst (λ n. SearchesOnce c.reading.follower c.read_on.new.follower (g.R.CountedRead.remaining c.reading.symbols) (g.R.CountedRead.remaining c.read_on.new.symbols) (Ok n)) none c.in_ok-found.ensures.searched in
+    record {
+      searches = searches;
+      mid = c.reading.follower;
+      between = g.R.CountedRead.remaining c.reading.symbols;
+      before = are;
+      few = c.room-room.ensures.held.0;
+      within = c.room-room.ensures.held.1;
+      cause = inr (sym c.room-room.ensures.is ∙ c.if-room-eq0.true, c.in_ok-found.ensures.cause ∙ c.reading.invariant.reads, (c.read_on.new.follower, bytes, last));
+    }
 
 pub returns-then-room-eq0-clause-reads : goal.returns-then-room-eq0-clause-reads
 returns-then-room-eq0-clause-reads g c =

@@ -11,3 +11,6 @@ returns-clause-nearer g c = λ some. comes_nearer _ _ _ (subst (λ n. 0 < n) c.r
 pub returns-clause-stuck : goal.returns-clause-stuck
 returns-clause-stuck g c = λ none.
     empty_seek _ _ _ (search rules) (sym c.requires.room ∙ none) _ c.seek.ensures.seeks
+
+pub returns-clause-searched : goal.returns-clause-searched
+returns-clause-searched g c = (_, record { none = c.requires.none; few = search rules; read = c.in_ok-count.ensures.bytes; end = search rules; seeks = c.seek.ensures.seeks; bounded = c.seek.ensures.bounded })
