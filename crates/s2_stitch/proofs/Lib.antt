@@ -1,3 +1,7 @@
 pub mod RecordLemmas
 pub mod WalkLemmas
 pub mod UncertifiedLemmas
+pub mod SearchLemmas
+pub mod StandLemmas
+pub mod AnswerLemmas
+pub mod StitchedRuns
