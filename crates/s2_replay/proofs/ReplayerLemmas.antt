@@ -1,5 +1,5 @@
 -- A replayer's two halves.
-use Rattle.std.proofs.Common.{◌≡◌, ℕ, ◌*◌, ℤ, Bool, List, Option, Some, None, refl, sym, ap, subst, ◌∙◌}
+use Rattle.std.proofs.Common.{◌≡◌, ℕ, ◌*◌, ℤ, nat_lt, Bool, List, Option, Some, None, Result, Ok, Err, refl, sym, ap, subst, ◌∙◌}
 use Rattle.s2_mode.specs.Mode.{n_of, symbols_in}
 use Rattle.s2_mode.specs.declared.symbols.Symbol.{Symbol}
 use Rattle.s2_check.specs.Views.{View}
@@ -7,6 +7,8 @@ use Rattle.s2_check.specs.declared.verdict.Verdict.{Verdict}
 use Rattle.s2_plframe.specs.Turns.{Sought, sought_of}
 use Rattle.s2_report.specs.declared.report.Step.{Step}
 use Rattle.s2_receive.specs.Receiving.{Decision}
+use Rattle.s2_mode.specs.declared.counts.WriteFault.{WriteFault}
+use Rattle.s2_receive.specs.Sinks.{Taking}
 use Rattle.s2_receive.specs.Synchronization.{room_for}
 use Rattle.s2_receive.specs.declared.decider.Decided.{Decided}
 use Rattle.s2_receive.specs.declared.window.Next.{Next}
@@ -14,9 +16,9 @@ use Rattle.s2_receive.specs.declared.window.Next.TheVariants as next
 use Rattle.s2_message.specs.Decisions.{decision_with, message_of, soft_frame}
 use Rattle.s2_message.specs.Reading.{DecidesBy, FrameReader, IsSameReader}
 use Rattle.s2_receive.specs.Halves.{Follower, IsSameFollower, Says, Settles}
-use Rattle.s2_replay.specs.Following.{decision_given}
+use Rattle.s2_replay.specs.Following.{SettlesFor, decision_given}
 use Rattle.s2_replay.specs.Replay.{decision_on}
-use Rattle.s2_replay.specs.Replayers.{HasSoft, IfFrame, IsFrame, IsReplayer, IsSameReplayer}
+use Rattle.s2_replay.specs.Replayers.{HasSoft, IfFrame, IsFrame, IsReplayer, IsSameReplayer, Replayer, decision_for}
 
 -- what holds of a frame that was found
 pub if_frame : (P : Type 0) (n : Option Next) (found : Next) → n ≡ Some found → IsFrame found → IfFrame n P → P
@@ -79,3 +81,21 @@ module _ (old new : Follower) (reader reader' : FrameReader) (soft : List ℤ) (
 
 pub same_reader : (reader : FrameReader) → IsSameReader reader reader
 same_reader reader = record { mode = refl; number = refl; options = refl }
+
+-- ---- settled for a sink
+
+module _ {S : Type 0} (takes fails : Taking S) (old new : Follower) (k l : S) (found : Next) (d : Decision) (after_gap : Bool) (lent : Decision) (step : Step) (settles : Settles old new found d step) (lent_so : lent ≡ d) (gap : after_gap ≡ nat_lt old.state.standing.totals.places new.state.standing.totals.places) where
+  pub settles_taken : takes k l after_gap lent → SettlesFor takes fails old new k l found d (Ok step)
+  settles_taken took = record { step = step; settles = settles; takes_it = (refl, subst (λ b. takes k l b d) gap (subst (λ x. takes k l after_gap x) lent_so took)) }
+
+  pub settles_failed : {fault : WriteFault} → fails k l after_gap lent → SettlesFor takes fails old new k l found d (Err fault)
+  settles_failed failed = record { step = step; settles = settles; takes_it = subst (λ b. fails k l b d) gap (subst (λ x. fails k l after_gap x) lent_so failed) }
+
+-- the same of a replayer
+pub settled_into : {S : Type 0} (takes fails : Taking S) (was : Replayer) (old new : Follower) (reader : FrameReader) (soft : List ℤ) (bytes : List ℕ) (k l : S) (found : Next) (verdict : Verdict) (bits : List Bool) (certificate : Option View) (rounds : ℕ) (result : Result Step WriteFault)
+    → IsReplayer old reader soft bytes → (record { number = reader.number; options = reader.options; follower = old; soft = soft }) ≡ was
+    → SettlesFor takes fails old new k l found (decision_on reader.mode reader.number reader.options old.frame verdict bits certificate rounds) result → SettlesFor takes fails was.follower new k l found (decision_for was verdict bits certificate rounds) result
+settled_into takes fails was old new reader soft bytes k l found verdict bits certificate rounds result inv is settles =
+    let mode_is : old.sought.mode ≡ reader.mode = ap (λ (s : Sought). s.mode) inv.sought_is in
+    let one = subst (λ m. SettlesFor takes fails old new k l found (decision_on m reader.number reader.options old.frame verdict bits certificate rounds) result) (sym mode_is) settles in
+    subst (λ (r : Replayer). SettlesFor takes fails r.follower new k l found (decision_for r verdict bits certificate rounds) result) is one

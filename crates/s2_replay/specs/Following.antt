@@ -5,6 +5,7 @@ use Rattle.s2_mode.specs.Mode.{symbols_in}
 use Rattle.s2_mode.specs.declared.counts.ReadFault.{ReadFault}
 use Rattle.s2_mode.specs.declared.counts.WriteFault.{WriteFault}
 use Rattle.s2_check.specs.Views.{View}
+use Rattle.s2_check.specs.declared.verdict.Verdict.{Verdict}
 use Rattle.s2_report.specs.declared.report.Step.{Step}
 use Rattle.s2_receive.specs.Decider.{delivered_of}
 use Rattle.s2_receive.specs.declared.decider.Decided.{Decided}
@@ -72,6 +73,13 @@ SearchesOnce old new left left_new (Ok found) = (bytes : List ℕ) × IsSearch o
 SearchesOnce old new left left_new (Err fault) = (new ≡ old) × FailsRead (asked_of old) left left_new
 
 -- ---- settled for a sink
+
+-- decided bits that are given: their verdict, the rounds of min-sum, and their certificate
+pub record Given : Type 0 where
+  pub verdict : Verdict
+  pub rounds : ℕ
+  pub bits : List Bool
+  pub certificate : Option View
 
 -- a decision, from its soft values, bits and certificate, its message, its results, and the data field
 abbrev pub decision_given : List ℤ → List Bool → Option View → (message : List Bool) → Decided → (field : List ℕ) → Decision

@@ -17,6 +17,7 @@ use s2_message::FrameReader;
 use s2_mode::{Symbol, WriteFault};
 use s2_receive::{Decided, Follower, Frame, Next, Sink};
 use s2_report::Step;
+use std::marker::Model;
 
 /// Decided bits that are given: their verdict, the rounds of min-sum that led to them, and their certificate, if there is one.
 pub struct Given<'a> {
@@ -37,6 +38,14 @@ impl<'a> Drop for Given<'a> {
     }
 }
 
+impl<'a> Model for Given<'a> {
+    ghost use Rattle.s2_replay.specs.Following.{Given as GivenValue};
+
+    ghost Value = { GivenValue };
+
+    ghost view = { λ g. record { verdict = g.verdict; rounds = g.rounds; bits = g.word.now; certificate = g.certificate } };
+}
+
 impl<'a> Given<'a> {
     /// The frame of a decision by these bits.
     fn frame(
@@ -46,7 +55,7 @@ impl<'a> Given<'a> {
         decided: Decided,
         field: &'a [u8],
     ) -> Frame<'a>
-        ensures { result ≡ decision_given soft.now self.word.now self.certificate message.now decided field.now }
+        ensures { result ≡ decision_given soft.now self.entry.bits self.entry.certificate message.now decided field.now }
     {
         let Given {
             verdict: _,
@@ -79,9 +88,9 @@ fn settle_for<K: Sink>(
     requires frames { follower.old.sought.mode ≡ reader.old.mode }
     requires soft { HasSoft reader.old follower.old.frame soft.now }
     requires long { length soft.now ≡ n_of reader.old.mode }
-    requires word { length given.word.now ≡ n_of reader.old.mode }
+    requires word { length given.bits ≡ n_of reader.old.mode }
     ensures settles { SettlesFor K.takes K.fails follower.old follower.new sink.old sink.new found
-        (decision_on reader.old.mode reader.old.number reader.old.options follower.old.frame given.verdict given.word.now given.certificate given.rounds) result }
+        (decision_on reader.old.mode reader.old.number reader.old.options follower.old.frame given.entry.verdict given.entry.bits given.entry.certificate given.entry.rounds) result }
     ensures reader { IsSameReader reader.old reader.new }
     ensures cause { CountsFault (K.count sink.old) (K.count sink.new) result }
 {
@@ -129,9 +138,9 @@ impl Replayer {
         requires sink { CanCount (K.count sink.old) }
         requires found { self.old.follower.found ≡ Some found }
         requires frame { IsFrame found }
-        requires word { length given.word.now ≡ n_of self.old.follower.sought.mode }
+        requires word { length given.bits ≡ n_of self.old.follower.sought.mode }
         ensures settles { SettlesFor K.takes K.fails self.old.follower self.new.follower sink.old sink.new found
-            (decision_for self.old given.verdict given.word.now given.certificate given.rounds) result }
+            (decision_for self.old given.entry.verdict given.entry.bits given.entry.certificate given.entry.rounds) result }
         ensures same { IsSameReplayer self.old self.new }
         ensures cause { CountsFault (K.count sink.old) (K.count sink.new) result }
     {

@@ -1,5 +1,5 @@
 -- The results of a stitched step, which are the receiver's own if the records are true.
-use Rattle.std.proofs.Common.{◌≡◌, ◌≢◌, ◌⊎◌, ◌&&◌, inl, inr, ℕ, ◌+◌, ◌<◌, ◌≤◌, nat_lt, Bool, true, false, List, [], ◌∷◌, ◌++◌, length, Option, Some, None, Result, Ok, Err, refl, sym, ap, subst, ◌∙◌, arith}
+use Rattle.std.proofs.Common.{◌≡◌, ◌≢◌, ◌⊎◌, ◌&&◌, inl, inr, ℕ, ◌+◌, ◌<◌, ◌≤◌, nat_eq, nat_lt, Bool, true, false, List, [], ◌∷◌, ◌++◌, length, Option, Some, None, Result, Ok, Err, refl, sym, ap, subst, ◌∙◌, arith}
 use Rattle.std.specs.Io.KnownBytes.{Appends}
 use Rattle.s2_mode.specs.Mode.{symbols_in}
 use Rattle.s2_mode.specs.Streams.{NoneFailed, OneFailed, Streams}
@@ -17,6 +17,7 @@ use Rattle.s2_receive.specs.ReceiverCore.{FailsIn}
 use Rattle.s2_receive.specs.Receiving.{Decision, Handles, IsDecidedBy, IsLive, Standing, State, is_lost, rank}
 use Rattle.s2_receive.specs.Sinks.{FailsStep, StepAnswersWith, TakesStep, Taking}
 use Rattle.s2_receive.specs.Synchronization.{IsInFront, met_of, reached, window_after}
+use Rattle.s2_receive.specs.declared.gap.Gap.{Gap}
 use Rattle.s2_receive.specs.declared.report.Fault.TheVariants as told
 use Rattle.s2_receive.specs.declared.report.Phase.{Phase}
 use Rattle.s2_receive.specs.declared.report.Phase.TheVariants as phases
@@ -28,7 +29,10 @@ use Rattle.s2_replay.specs.Following.{AreSearches, FailsRead, FindsNext, IsSearc
 use Rattle.s2_replay.specs.Replay.{Terms}
 use Rattle.s2_replay.specs.Replayers.{IsFrame}
 use Rattle.s2_stitch.specs.Records.{Record}
-use Rattle.s2_stitch.specs.Running.{IsLastStep, MakesStep, Nears, Stands, has_gap}
+use Rattle.s2_stitch.specs.Running.{IsDecidedAt, IsLastStep, MakesNext, MakesStep, Nears, SettlesAs, Stands, has_gap}
+use Rattle.s2_stitch.specs.Stitchers.{held_at}
+use Rattle.s2_stitch.specs.declared.fault.StitchFault.{StitchFault}
+use Rattle.s2_stitch.specs.declared.fault.StitchFault.TheVariants as faults
 use Rattle.s2_stitch.specs.Stitching.{AreTrueLeft}
 use Rattle.s2_stitch.proofs.SearchLemmas.{finds_none, finds_so, same_self}
 use Rattle.s2_stitch.proofs.StandLemmas.{decided_true, nothing_read, stands_found, stands_settled}
@@ -108,10 +112,10 @@ module _ (old mid new : Follower) (left left_new : Option (List ℕ)) (found : N
       kept : finds.mid.state.phase ≡ old.state.phase
       kept = (searches_keep old finds.mid left finds.between finds.searches finds.before).1
 
-      by : (p : Phase) → finds.mid.state.phase ≡ p → (n : Next) → SeeksBy p finds.mid mid finds.bytes _ (Some n) → Placed n
+      by : (p : Phase) → finds.mid.state.phase ≡ p → (n : Next) → SeeksBy p finds.mid mid finds.bytes (nat_eq (length finds.bytes) (asked_of finds.mid)) (Some n) → Placed n
       by phases.Searching is (next.Frame at skipped) seeks = ap rank (sym kept ∙ is)
       by phases.Searching is (next.Cut at skipped count) seeks = ap rank (sym kept ∙ is)
-      by phases.Searching is (next.End at skipped) (takes, last) = ap reached (takes (λ symbols. false)).3
+      by phases.Searching is (next.End at skipped) (takes, last) = omega (arith, ap reached ((takes (λ symbols. false)).3))
       by phases.Closing is (next.End at skipped) (is_end, same) = let at_is : at ≡ reached finds.mid.state.window = cc in ap reached same ∙ sym at_is
       by phases.Closing is (next.Frame at skipped) (is_end, same) = cc
       by phases.Closing is (next.Cut at skipped count) (is_end, same) = cc
@@ -185,10 +189,46 @@ module _ {S : Type 0} (takes fails : Taking S) (count : S → ℕ) (t : Terms) (
   pub stopped : (d : Decision) → StopsSearching old before.taken behind.taken before.reads behind.reads → NoneFailed before.writes behind.writes before.prints behind.prints → l ≡ k
       → (failed : State) × StepAnswersWith takes fails (rules_with decide old) old.state failed k l before behind (Err told.Read)
   stopped d stops none kept =
-      let left_is = λ zero. left_so zero stops.cause in
+      let left_is = λ empty. left_so empty stops.cause in
       let seen = seen_with decide d stops.mid in
       ((failed_at seen).state, (stuck_with takes fails count (seen_with decide d old) seen before behind live k l (failed_at seen) (finds_none decide d old before.taken behind.taken before.reads behind.reads live stops left_is) refl refl none kept).live live)
     where
       left_so : asked_of stops.mid ≡ 0 → (FailsRead (asked_of stops.mid) stops.between behind.taken × (behind.reads ≡ before.reads + 1)) ⊎ ((asked_of stops.mid ≡ 0) × (behind.reads ≡ before.reads) × ((last : Follower) × (bytes : List ℕ) × IsSearch stops.mid last stops.between behind.taken bytes None)) → behind.taken ≡ stops.between
-      left_so zero (inl ((bytes, read, less), failed)) = absurd (omega (arith, less, zero))
-      left_so zero (inr (none, same, (last, bytes, is))) = nothing_read recording old stops.mid last before.taken stops.between behind.taken stops.searches bytes stops.before stands is none
+      left_so empty (inl ((bytes, read, less), failed)) = absurd (omega (arith, less, empty))
+      left_so empty (inr (none, same, (last, bytes, is))) = nothing_read recording old stops.mid last before.taken stops.between behind.taken stops.searches bytes stops.before stands is none
+
+-- ---- a step without its output
+
+module _ {S : Type 0} (takes fails : Taking S) (t : Terms) (decide : List Symbol → Decision) (old mid new : Follower) (left left_new : Option (List ℕ)) (n n' : ℕ) (held : Option Record) (k l : S) (reads : n' ≡ n) where
+  gap_kept : (found : Next) → FindsNext old mid left left_new found → nat_lt mid.state.standing.totals.places new.state.standing.totals.places ≡ has_gap old new
+  gap_kept found finds = ap (λ (s : Standing). nat_lt s.totals.places new.state.standing.totals.places) (found_standing old mid left left_new found finds)
+
+  -- a frame was handled
+  pub frame_made : (at : ℕ) (skipped : Gap) (step : Step) → FindsNext old mid left left_new (next.Frame at skipped) → SettlesAs takes fails t decide mid new k l (next.Frame at skipped) (held_at at held) (Ok step)
+      → MakesNext takes fails t decide old new left left_new n n' held k l (Ok (record { step = step; found = next.Frame at skipped }))
+  frame_made at skipped step finds (d, chosen, settles) =
+      let found = next.Frame at skipped in
+      let settles_so = subst (λ s. Settles mid new found d s) (sym settles.takes_it.0) settles.settles in
+      let took = subst (λ b. takes k l b d) (gap_kept found finds) settles.takes_it.1 in
+      (d, record { mid = mid; finds = finds; decided = chosen; settles = settles_so }, took_step old mid new left left_new found d step finds settles_so takes k l (has_gap old new) tt took, reads)
+
+  -- or not
+  pub frame_refused : (at : ℕ) (skipped : Gap) (fault : StitchFault) → FindsNext old mid left left_new (next.Frame at skipped) → SettlesAs takes fails t decide mid new k l (next.Frame at skipped) (held_at at held) (Err fault)
+      → MakesNext takes fails t decide old new left left_new n n' held k l (Err fault)
+  frame_refused at skipped (faults.Stream streams.Read) finds never = absurd never
+  frame_refused at skipped (faults.Stream streams.Write) finds (w, d, chosen, settles) =
+      let found = next.Frame at skipped in
+      let failed = subst (λ b. fails k l b d) (gap_kept found finds) settles.takes_it in
+      (d, found, settles.step, record { mid = mid; finds = finds; decided = chosen; settles = settles.settles }, failed_step old mid new left left_new found d settles.step finds settles.settles fails k l (has_gap old new) tt failed, reads)
+  frame_refused at skipped (faults.Record fault) finds kept = (kept, reads)
+
+  -- a cut frame, or the end
+  pub last_made : (found : Next) (d : Decision) (step : Step) → (IsFrame found → ⊥) → FindsNext old mid left left_new found → Settles mid new found d step → l ≡ k → MakesNext takes fails t decide old new left left_new n n' held k l (Ok (record { step = step; found = found }))
+  last_made found d step other finds settles kept =
+      let took = subst (λ x. TakesStep takes step k x (has_gap old new) d) (sym kept) (no_frame old mid new left left_new found d step finds settles takes k (has_gap old new) other) in
+      (d, record { mid = mid; finds = finds; decided = none found other; settles = settles }, took, reads)
+    where
+      none : (n : Next) → (IsFrame n → ⊥) → IsDecidedAt t decide n mid.frame held d
+      none (next.Frame at skipped) other = absurd (other tt)
+      none (next.Cut at skipped count) other = tt
+      none (next.End at skipped) other = tt

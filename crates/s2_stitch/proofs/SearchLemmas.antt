@@ -42,6 +42,12 @@ kept_without (next.Frame at skipped) d = tt
 kept_without (next.Cut at skipped count) d = refl
 kept_without (next.End at skipped) d = refl
 
+-- after searches in which nothing was found
+pub record IsWaiting (decide : List Symbol → Decision) (first new : Follower) (a c : Option (List ℕ)) : Type 0 where
+  pub same : IsSameFollower first new
+  pub waited : Waited (rules_with decide first) first.state new.state a c
+  pub live : IsLive new.state.phase
+
 -- a follower as a receiver with this decision
 module _ (decide : List Symbol → Decision) (d : Decision) where
   abbrev rule : Decision → List Symbol → Decision
@@ -56,12 +62,6 @@ module _ (decide : List Symbol → Decision) (d : Decision) where
   rules_same : (old new : Follower) → IsSameFollower old new → rules_with decide new ≡ rules_with decide old
   rules_same old new s = λ i. record { finds = found_as (s.sought i) (s.max_header_errors i); size = symbols_in (s.sought i).mode; resync = s.resync i; decide = decide; limit = s.limit i }
 
-  -- after searches in which nothing was found
-  record IsWaiting (first new : Follower) (a c : Option (List ℕ)) : Type 0 where
-    same : IsSameFollower first new
-    waited : Waited (rules_with decide first) first.state new.state a c
-    live : IsLive new.state.phase
-
   not_ended : (f : Follower) → IsLive f.state.phase → f.state.phase ≢ phases.Ended
   not_ended f live is = subst IsLive is live
 
@@ -70,14 +70,14 @@ module _ (decide : List Symbol → Decision) (d : Decision) where
       let phase : new.state.phase ≡ cur.state.phase = ap (λ (s : State). s.phase) one.seeks.state in
       (bytes, one.read, one.end, none_advances decide decide cur new bytes d None one.seeks (subst (λ n. reached new.state.window ≤ n) one.seeks.same.limit one.bounded) (λ is. absurd (not_ended cur live (sym phase ∙ is))) (λ other. refl))
 
-  pub searched : (first cur new : Follower) (a b c : Option (List ℕ)) (searches : List Search) → AreSearches cur b searches new c → IsWaiting first cur a b → IsWaiting first new a c
+  pub searched : (first cur new : Follower) (a b c : Option (List ℕ)) (searches : List Search) → AreSearches cur b searches new c → IsWaiting decide first cur a b → IsWaiting decide first new a c
   searched first cur new a b c [] (is, left) so =
-      subst (λ l. IsWaiting first new a l) (sym left) (subst (λ f. IsWaiting first f a b) (sym is) so)
+      subst (λ l. IsWaiting decide first new a l) (sym left) (subst (λ f. IsWaiting decide first f a b) (sym is) so)
   searched first cur new a b c (s ∷ later) (one, rest) so =
       let on = waits_more rule last_one (receiver first) (receiver cur) (receiver s.new) a b s.left (rules_same first cur so.same) so.waited refl so.live (searched_reads cur s.new b s.left s.bytes so.live one) in
       searched first s.new new a s.left c later rest (record { same = same_on first cur s.new so.same one.seeks.same; waited = on.0; live = on.2 })
 
-  pub waiting_at : (first : Follower) (a : Option (List ℕ)) → IsLive first.state.phase → IsWaiting first first a a
+  pub waiting_at : (first : Follower) (a : Option (List ℕ)) → IsLive first.state.phase → IsWaiting decide first first a a
   waiting_at first a live = record { same = same_self first; waited = waited_none (rules_with decide first) first.state a; live = live }
 
   -- the next thing is found and handled
@@ -91,11 +91,8 @@ module _ (decide : List Symbol → Decision) (d : Decision) where
       let front = subst (λ m. IsInFront m (Some found) mid.state.window mid.frame) (sym (ap (λ (s : Sought). symbols_in s.mode) last.seeks.same.sought)) last.seeks.front in
       let place : reached new.state.window ≡ reached mid.state.window = ap reached settles.window ∙ settled_reaches _ (symbols_in mid.sought.mode) found mid.state.window mid.frame (omega (arith, symbols_least mid.sought.mode)) front in
       let within : reached new.state.window ≤ cur.limit = subst (λ l. reached new.state.window ≤ l) last.seeks.same.limit (subst (λ p. p ≤ mid.limit) (sym place) last.bounded) in
-      let advances = found_advances decide decide cur mid new last_bytes found d d step last.few last.seeks decided (kept_without found d) settles within in
+      let advances = found_advances decide decide cur mid new finds.bytes found d d step last.few last.seeks decided (kept_without found d) settles within in
       steps_now rule last_one (receiver first) (receiver cur) (receiver new) a finds.between c (rules_same first cur so.same) so.waited refl so.live step n n' (finds.bytes, last.read, last.end, advances) count
-    where
-      abbrev last_bytes : List ℕ
-      last_bytes = finds.bytes
 
   -- nothing is found, because a read failed, or the limit was reached
   pub finds_none : (first : Follower) (a c : Option (List ℕ)) (n n' : ℕ) → IsLive first.state.phase → (stops : StopsSearching first a c n n') → ((asked_of stops.mid ≡ 0) → c ≡ stops.between)
@@ -105,7 +102,7 @@ module _ (decide : List Symbol → Decision) (d : Decision) where
       abbrev cur : Follower
       cur = stops.mid
 
-      so : IsWaiting first cur a stops.between
+      so : IsWaiting decide first cur a stops.between
       so = searched first first cur a a stops.between stops.searches stops.before (waiting_at first a live)
 
       -- nothing was found without any bytes, so that it searches
@@ -121,6 +118,6 @@ module _ (decide : List Symbol → Decision) (d : Decision) where
       by : (FailsRead (asked_of cur) stops.between c × (n' ≡ n + 1)) ⊎ ((asked_of cur ≡ 0) × (n' ≡ n) × ((last : Follower) × (bytes : List ℕ) × IsSearch cur last stops.between c bytes None)) → FindsNone (seen_with decide d first) (seen_with decide d cur) a c n n'
       by (inl ((bytes, read, less), failed)) =
           fails_now rule last_one (receiver first) (receiver cur) (receiver cur) a stops.between c (rules_same first cur so.same) so.waited refl so.live stops.few stops.within n n' fault (refl, (bytes, read, less)) failed
-      by (inr (zero, same, (last, bytes, is))) =
-          subst (λ l. FindsNone (seen_with decide d first) (seen_with decide d cur) a l n n') (sym (none zero))
-          (full_now rule last_one (receiver first) (receiver cur) (receiver cur) a stops.between stops.between (rules_same first cur so.same) so.waited refl so.live n n' stops.few stops.within (searching cur.state.phase refl so.live last bytes _ is.seeks.seeks) zero same)
+      by (inr (empty, same, (last, bytes, is))) =
+          subst (λ l. FindsNone (seen_with decide d first) (seen_with decide d cur) a l n n') (sym (none empty))
+          (full_now rule last_one (receiver first) (receiver cur) (receiver cur) a stops.between stops.between (rules_same first cur so.same) so.waited refl so.live n n' stops.few stops.within (searching cur.state.phase refl so.live last bytes _ is.seeks.seeks) empty same)

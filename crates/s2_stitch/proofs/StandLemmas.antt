@@ -30,6 +30,10 @@ use Rattle.s2_stitch.specs.Stitchers.{held_at}
 use Rattle.s2_stitch.specs.Stitching.{AreTrueLeft, IsChosen, IsTrueRecord, decision_by, frame_at}
 use Rattle.s2_stitch.specs.Walking.{AreLeft, LeavesRecords}
 
+no_bytes : (bytes : List ℕ) → length bytes ≤ 0 → bytes ≡ []
+no_bytes [] few = refl
+no_bytes (b ∷ bytes) few = absurd (omega (arith, few))
+
 -- no bytes, no symbols
 none_in : (bytes : List ℕ) → length bytes ≤ 0 → symbols_of bytes ≡ []
 none_in [] few = refl
@@ -43,8 +47,8 @@ module _ (old new : Follower) (bytes : List ℕ) (found : Option Next) (few : le
 
   -- no bytes are requested
   at_rest : length bytes ≤ 0 → new.state.window ≡ old.state.window → HoldsLast 0 (came ++ symbols_of bytes) new.state.window
-  at_rest no_bytes same =
-      subst (λ l. HoldsLast 0 l new.state.window) (sym (ap (λ l. came ++ l) (none_in bytes no_bytes) ∙ append-nil came)) (subst (HoldsLast 0 came) (sym same) last)
+  at_rest short same =
+      subst (λ l. HoldsLast 0 l new.state.window) (sym (ap (λ l. came ++ l) (none_in bytes short) ∙ append-nil came)) (subst (HoldsLast 0 came) (sym same) last)
 
   pub last_so : (phase : Phase) → old.state.phase ≡ phase → (whole : Bool) → SeeksBy phase old new bytes whole found → HoldsLast 0 (came ++ symbols_of bytes) new.state.window
   last_so phases.Searching is whole seeks = last-more 0 came (symbols_of bytes) old.state.window new.state.window last seeks.1
@@ -58,8 +62,8 @@ module _ (recording : List ℕ) where
   stands_one old new (Some left) None bytes found one stands = absurd one.read
   stands_one old new (Some left) (Some left_new) bytes found one (came, all, last) =
       let (n, four) = wants_fours old in
-      let next : symbols_of left ≡ symbols_of bytes ++ symbols_of left_new = yields (Some left) (Some left_new) bytes n one.read (λ other. one.end (λ e. other (e ∙ four))) in
-      (came ++ symbols_of bytes, (all ∙ ap (λ l. came ++ l) next ∙ sym (append_assoc came (symbols_of bytes) (symbols_of left_new)), last_so old new bytes found one.few came last old.state.phase refl _ one.seeks.seeks))
+      let coming_so : symbols_of left ≡ symbols_of bytes ++ symbols_of left_new = yields (Some left) (Some left_new) bytes n one.read (λ other. one.end (λ e. other (e ∙ four))) in
+      (came ++ symbols_of bytes, (all ∙ ap (λ l. came ++ l) coming_so ∙ sym (append_assoc came (symbols_of bytes) (symbols_of left_new)), last_so old new bytes found one.few came last old.state.phase refl _ one.seeks.seeks))
 
   stands_on : (old new : Follower) (left left_new : Option (List ℕ)) (searches : List Search) → AreSearches old left searches new left_new → Stands recording left old → Stands recording left_new new
   stands_on old new left left_new [] (is, same) stands = subst (λ l. Stands recording l new) (sym same) (subst (Stands recording left) (sym is) stands)
@@ -74,11 +78,7 @@ module _ (recording : List ℕ) where
   nothing_read old mid last left between left_new searches bytes before stands one none = known between left_new (stands_on old mid left between searches before stands) one.read
     where
       empty : bytes ≡ []
-      empty = none_of bytes (subst (λ n. length bytes ≤ n) none one.few)
-        where
-          none_of : (bytes : List ℕ) → length bytes ≤ 0 → bytes ≡ []
-          none_of [] few = refl
-          none_of (b ∷ more) few = absurd (omega (arith, few))
+      empty = no_bytes bytes (subst (λ n. length bytes ≤ n) none one.few)
 
       known : (between left_new : Option (List ℕ)) → Stands recording between mid → Consumes between left_new bytes → left_new ≡ between
       known None left_new stands read = absurd stands

@@ -1,8 +1,10 @@
 -- A walk over records.
-use Rattle.std.proofs.Common.{ℕ, ◌<◌, ◌≡◌, List, [], ◌∷◌, ◌++◌, append_assoc, Option, Some, None, Ok, refl, sym, ap, subst, ◌∙◌}
+use Rattle.std.proofs.Common.{ℕ, ◌<◌, ◌≡◌, ◌≢◌, if◌then◌else◌, List, [], ◌∷◌, ◌++◌, append_assoc, Option, Some, None, Ok, refl, sym, ap, subst, ◌∙◌}
+use Rattle.std.proofs.lemmas.Bool.{eq-eqb, ne_eqb}
 use Rattle.s2_stitch.specs.Reading.{ReadsRecord}
 use Rattle.s2_stitch.specs.Records.{AreAllRecords, Record, record_at}
-use Rattle.s2_stitch.specs.Walking.{AreBefore, AreLeft, IsAtHand, WalksOn}
+use Rattle.s2_stitch.specs.Stitchers.{held_at}
+use Rattle.s2_stitch.specs.Walking.{AreAllLeft, AreBefore, AreLeft, IsAtHand, WalksOn}
 use Rattle.s2_stitch.proofs.RecordLemmas.{not_read, read_left}
 
 before_both : (at : ℕ) (one two : List Record) → AreBefore at one → AreBefore at two → AreBefore at (one ++ two)
@@ -43,3 +45,23 @@ walks_one n at r before (Some s) (Some bytes) (Some left) (read, long) = on
 pub at_hand : (n : ℕ) (next : Option Record) (old new : Option (List ℕ)) → ReadsRecord n old new (Ok next) → IsAtHand n next
 at_hand n None old new reads = tt
 at_hand n (Some r) old new reads = reads.1
+
+-- the first record that is read is the one at hand
+pub first_left : (n : ℕ) (held : Option Record) (old new : Option (List ℕ)) → ReadsRecord n old new (Ok held) → (records : List Record) → AreAllLeft n old records → AreLeft n held new records
+first_left n held None new reads records all = absurd all
+first_left n None (Some bytes) None reads records all = absurd reads.0
+first_left n (Some r) (Some bytes) None reads records all = absurd reads.0
+first_left n None (Some bytes) (Some left) (read, end) [] all = (refl, end)
+first_left n None (Some bytes) (Some left) (read, end) (first ∷ later) (rest, read_so, more) = absurd (not_read n first rest (ap (record_at n) (sym (read ∙ end)) ∙ read_so))
+first_left n (Some r) (Some bytes) (Some left) (read, long) [] all = absurd (not_read n r left (ap (record_at n) (sym all) ∙ read))
+first_left n (Some r) (Some bytes) (Some left) (read, long) (first ∷ later) (rest, read_so, more) =
+    let (same, lefts) = read_left n bytes first r rest left read_so read in
+    (same, subst (λ l. AreAllRecords n later l) lefts more)
+
+-- ---- the record at a position
+
+pub held_here : (r : Record) (at : ℕ) → r.at ≡ at → held_at at (Some r) ≡ Some r
+held_here r at same = ap (λ b. if b then Some r else None) (eq-eqb r.at at same)
+
+pub not_here : (r : Record) (at : ℕ) → r.at ≢ at → held_at at (Some r) ≡ None
+not_here r at other = ap (λ b. if b then Some r else None) (ne_eqb r.at at other)

@@ -9,6 +9,7 @@ use Rattle.s2_certfile.specs.declared.fault.CertFault.{CertFault}
 use Rattle.s2_check.specs.CertificateFiles.{Suits, view_of}
 use Rattle.s2_check.specs.Views.{View}
 use Rattle.s2_receive.specs.Receiving.{Decision}
+use Rattle.s2_replay.specs.Following.{Given}
 use Rattle.s2_replay.specs.Replay.{Terms, decision_on}
 use Rattle.s2_stitch.specs.Records.{Record}
 use Rattle.s2_stitch.specs.Walking.{AreLeft}
@@ -22,6 +23,10 @@ file_in (Err fault) = None
 abbrev pub certificate_of : Rows → Option File → Option View
 certificate_of rows None = None
 certificate_of rows (Some file) = Some (view_of rows file)
+
+-- the bits that a record gives, with this certificate
+abbrev pub given_of : Record → Option View → Given
+given_of r certificate = record { verdict = r.verdict; rounds = r.rounds; bits = r.bits; certificate = certificate }
 
 -- the decision of a record on a frame's symbols
 abbrev pub decision_by : Terms → List Symbol → Record → Decision

@@ -41,6 +41,3 @@ pub use stitcher::Stitcher;
 pub use uncertified::Uncertified;
 pub use walk::walk_to;
 pub use write::record_into;
-
-#[test]
-fn nothing() {}

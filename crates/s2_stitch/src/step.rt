@@ -1,5 +1,5 @@
 //! One step of a stitched run, with its output.
-ghost use Rattle.std.specs.Prelude.{◌≡◌, ◌≤◌, IfOk, List, None, OnErr, OnOk, ℕ};
+ghost use Rattle.std.specs.Prelude.{◌≡◌, ◌≤◌, IfOk, List, None, OnErr, OnOk, Some, ℕ};
 ghost use Rattle.std.specs.Io.KnownBytes.{Appends};
 ghost use Rattle.s2_mode.specs.Counts.{CanCount};
 ghost use Rattle.s2_mode.specs.Mode.{n_of};
@@ -11,8 +11,9 @@ ghost use Rattle.s2_receive.specs.Limits.{max_symbols};
 ghost use Rattle.s2_receive.specs.Receiving.{IsLive};
 ghost use Rattle.s2_receive.specs.ReceiverCore.{FailsIn};
 ghost use Rattle.s2_replay.specs.Frames.{terms_of};
-ghost use Rattle.s2_stitch.specs.Running.{AnswersAs, CountsRecords, CountsSink, IsLastStep, MakesNext, Nears, OnlyFaults, Stands};
-ghost use Rattle.s2_stitch.specs.Stitchers.{IsSameStitcher, rules_by};
+ghost use Rattle.s2_replay.specs.Replayers.{IsFrame};
+ghost use Rattle.s2_stitch.specs.Running.{AnswersAs, CountsRecords, CountsSink, IsLastStep, MakesNext, Nears, OnlyFaults, SettlesAs, Stands};
+ghost use Rattle.s2_stitch.specs.Stitchers.{IsSameStitcher, held_at, rules_by};
 ghost use Rattle.s2_stitch.specs.Stitching.{AreTrueLeft};
 ghost use Rattle.s2_stitch.specs.Walking.{LeavesRecords};
 
@@ -52,6 +53,60 @@ fn write_step<P: CountedWrite, W: CountedWrite>(
     write_full(report, line_of(step, totals).as_bytes())
 }
 
+/// Handles a frame that was found at this position, by the record at hand, if that has its position; else by the decider.
+fn settle_found<D: Decide, Q: CountedRead, K: Sink>(
+    alloc: Global,
+    matrix: &Matrix,
+    stitcher: &mut Stitcher<D>,
+    records: &RecordReader<Q>,
+    found: Next,
+    at: u64,
+    sink: &mut K,
+) -> Result<Step, StitchFault>
+    requires sink { CanCount (K.count sink.old) }
+    requires found { stitcher.old.replayer.follower.found ≡ Some found }
+    requires frame { IsFrame found }
+    requires bits { records.now.bits ≡ n_of stitcher.old.replayer.follower.sought.mode }
+    ensures settles { SettlesAs K.takes K.fails (terms_of matrix.now stitcher.old.replayer) (D.decide stitcher.old.decider) stitcher.old.replayer.follower stitcher.new.replayer.follower
+        sink.old sink.new found (held_at at records.now.held) result }
+    ensures same { IsSameStitcher D.decide stitcher.old stitcher.new }
+    ensures counts { CountsSink (K.count sink.old) (K.count sink.new) result }
+{
+    match records.at(at) {
+        Some(record) => stitcher.settle_recorded(alloc, matrix, found, record, sink),
+        None => stitcher.settle_decided(found, sink),
+    }
+}
+
+/// Handles a frame that was found at this position. Records before it are passed.
+fn make_frame<D: Decide, Q: CountedRead, K: Sink>(
+    alloc: Global,
+    matrix: &Matrix,
+    stitcher: &mut Stitcher<D>,
+    records: &mut RecordReader<Q>,
+    found: Next,
+    at: u64,
+    sink: &mut K,
+) -> Result<Step, StitchFault>
+    requires records { CanCount (Q.count records.old.reader) }
+    requires sink { CanCount (K.count sink.old) }
+    requires found { stitcher.old.replayer.follower.found ≡ Some found }
+    requires frame { IsFrame found }
+    requires bits { records.old.bits ≡ n_of stitcher.old.replayer.follower.sought.mode }
+    ensures settles { SettlesAs K.takes K.fails (terms_of matrix.now stitcher.old.replayer) (D.decide stitcher.old.decider) stitcher.old.replayer.follower stitcher.new.replayer.follower
+        sink.old sink.new found (held_at at records.new.held) result }
+    ensures left { IfOk result (λ _. LeavesRecords records.old.bits records.old.held records.new.held (Q.remaining records.old.reader) (Q.remaining records.new.reader)) }
+    ensures same { IsSameStitcher D.decide stitcher.old stitcher.new }
+    ensures bits { records.new.bits ≡ records.old.bits }
+    ensures counts { CountsSink (K.count sink.old) (K.count sink.new) result }
+    ensures records { CountsRecords (Q.count records.old.reader) (Q.count records.new.reader) result }
+{
+    match records.walk(alloc, at) {
+        Ok(()) => settle_found(alloc, matrix, stitcher, records, found, at, sink),
+        Err(fault) => Err(StitchFault::Record(fault)),
+    }
+}
+
 /// Makes the next step, without its output. A frame is decided by the record that has its position, or by the decider.
 fn make_next<D: Decide, Q: CountedRead, R: CountedRead, K: Sink>(
     alloc: Global,
@@ -69,7 +124,6 @@ fn make_next<D: Decide, Q: CountedRead, R: CountedRead, K: Sink>(
     ensures makes { MakesNext K.takes K.fails (terms_of matrix.now stitcher.old.replayer) (D.decide stitcher.old.decider) stitcher.old.replayer.follower stitcher.new.replayer.follower
         (R.remaining symbols.old) (R.remaining symbols.new) (R.count symbols.old) (R.count symbols.new) records.new.held sink.old sink.new result }
     ensures left { IfOk result (λ _. LeavesRecords records.old.bits records.old.held records.new.held (Q.remaining records.old.reader) (Q.remaining records.new.reader)) }
-    ensures none { IfOk result (λ _. stitcher.new.replayer.follower.found ≡ None) }
     ensures same { IsSameStitcher D.decide stitcher.old stitcher.new }
     ensures bits { records.new.bits ≡ records.old.bits }
     ensures counts { CountsSink (K.count sink.old) (K.count sink.new) result }
@@ -80,13 +134,7 @@ fn make_next<D: Decide, Q: CountedRead, R: CountedRead, K: Sink>(
     };
     match found {
         Next::Frame { at, .. } => {
-            if let Err(fault) = records.walk(alloc, at) {
-                return Err(StitchFault::Record(fault));
-            }
-            let step = match records.at(at) {
-                Some(record) => stitcher.settle_recorded(alloc, matrix, found, record, sink)?,
-                None => stitcher.settle_decided(found, sink)?,
-            };
+            let step = make_frame(alloc, matrix, stitcher, records, found, at, sink)?;
             Ok(Made { step, found })
         }
         Next::Cut { .. } | Next::End { .. } => Ok(Made {

@@ -15,7 +15,7 @@ ghost use Rattle.s2_replay.specs.Running.{found_of};
 ghost use Rattle.s2_check.specs.declared.verdict.Verdict.TheVariants.{Broken};
 ghost use Rattle.s2_stitch.specs.Running.{CountsSink, SettlesAs, sink_fault};
 ghost use Rattle.s2_stitch.specs.Stitchers.{IsSameStitcher};
-ghost use Rattle.s2_stitch.specs.Stitching.{IsChosen, file_in};
+ghost use Rattle.s2_stitch.specs.Stitching.{IsChosen, file_in, given_of};
 
 use crate::fault::StitchFault;
 use crate::read::RecordFault;
@@ -45,8 +45,7 @@ fn certificate_in(alloc: Global, bytes: &[u8]) -> Result<Option<Certificate>, Al
 
 /// The bits of a record, with this certificate.
 fn given_by<'a>(record: &'a Record, certificate: Option<CertView<'a>>) -> Given<'a>
-    ensures decision { (result.verdict ≡ record.now.verdict) × (result.rounds ≡ record.now.rounds) × (result.word.now ≡ record.now.bits) }
-    ensures certificate { result.certificate ≡ certificate }
+    ensures { result ≡ given_of record.now certificate.entry }
 {
     Given {
         verdict: record.verdict,
