@@ -220,7 +220,7 @@ module _ {S : Type 0} (takes fails : Taking S) (t : Terms) (decide : List Symbol
       let found = next.Frame at skipped in
       let failed = subst (λ b. fails k l b d) (gap_kept found finds) settles.takes_it in
       (d, found, settles.step, record { mid = mid; finds = finds; decided = chosen; settles = settles.settles }, failed_step old mid new left left_new found d settles.step finds settles.settles fails k l (has_gap old new) tt failed, reads)
-  frame_refused at skipped (faults.Record fault) finds kept = (kept, reads)
+  frame_refused at skipped (faults.Record fault) finds (is, kept) = (kept, reads)
 
   -- a cut frame, or the end
   pub last_made : (found : Next) (d : Decision) (step : Step) → (IsFrame found → ⊥) → FindsNext old mid left left_new found → Settles mid new found d step → l ≡ k → MakesNext takes fails t decide old new left left_new n n' held k l (Ok (record { step = step; found = found }))

@@ -1,22 +1,36 @@
 -- A stitched run, step by step.
-use Rattle.std.proofs.Common.{◌≡◌, ℕ, Bool, List, [], ◌∷◌, ◌++◌, append_assoc, Option, Some, None, Ok, Err, refl, sym, ap, subst, ◌∙◌}
+use Rattle.std.proofs.Common.{◌≡◌, ◌≢◌, ℕ, ◌+◌, ◌<◌, Bool, true, inr, List, [], ◌∷◌, ◌++◌, append_assoc, Option, Some, None, IfSome, Err, refl, sym, ap, subst, ◌∙◌}
 use Rattle.s2_mode.specs.Mode.{symbols_in}
-use Rattle.s2_mode.specs.Streams.{Streams}
+use Rattle.s2_mode.specs.Streams.{NoneFailed, Streams}
+use Rattle.s2_mode.specs.Symbols.{symbols_of}
 use Rattle.s2_mode.specs.declared.symbols.Symbol.{Symbol}
 use Rattle.s2_rows.specs.Rows.{Rows}
-use Rattle.s2_receive.specs.Halves.{IsSameFollower}
-use Rattle.s2_receive.specs.Receiving.{Decision, Rules, State}
+use Rattle.s2_mode.specs.declared.stream_fault.StreamFault.TheVariants as streams
+use Rattle.s2_report.specs.declared.report.Step.{Step}
+use Rattle.s2_report.specs.declared.report.Step.TheVariants as steps
+use Rattle.s2_check.specs.declared.verdict.Verdict.TheVariants.{Broken}
+use Rattle.s2_receive.specs.Halves.{Follower, rules_with}
+use Rattle.s2_receive.specs.Receiving.{Decision, IsLive, Rules, State, begun, rank, taken}
+use Rattle.s2_receive.specs.Synchronization.{HoldsLast}
+use Rattle.s2_receive.specs.declared.window.Next.{Next}
+use Rattle.s2_receive.specs.declared.window.Next.TheVariants as next
 use Rattle.s2_receive.specs.Sinks.{Taking}
 use Rattle.s2_receive.specs.Windows.{found_as}
 use Rattle.s2_receive.proofs.HalfLemmas.{same_on}
-use Rattle.s2_receive.proofs.RunLemmas.{Came}
+use Rattle.s2_receive.proofs.RunLemmas.{Came, breaks_off}
 use Rattle.s2_replay.specs.Frames.{terms_of}
+use Rattle.s2_replay.specs.Replay.{Terms, claimed_decision}
 use Rattle.s2_replay.specs.Replayers.{IsSameReplayer, Replayer}
 use Rattle.s2_stitch.specs.Records.{Record}
-use Rattle.s2_stitch.specs.Running.{StopsAtRecord}
+use Rattle.s2_stitch.specs.Running.{AnswersAs, CountsSink, MakesNext, OnlyFaults, UnlessRecord, IsLastStep, Nears, RunsAs, Stands, StopsAtRecord, place_of}
+use Rattle.s2_stitch.specs.declared.fault.StitchFault.{StitchFault}
+use Rattle.s2_stitch.specs.declared.fault.StitchFault.TheVariants as faults
 use Rattle.s2_stitch.specs.Stitchers.{IsSameStitcher, Stitcher, rules_by}
 use Rattle.s2_stitch.specs.Stitching.{AreTrueLeft}
 use Rattle.s2_stitch.specs.Walking.{LeavesRecords, WalksOn}
+use Rattle.s2_stitch.specs.declared.step.Made.{Made}
+use Rattle.s2_stitch.proofs.AnswerLemmas.{stopped, untaken}
+use Rattle.s2_stitch.proofs.StandLemmas.{still_true}
 
 -- ---- what stays the same
 
@@ -80,3 +94,67 @@ leaves_walked n at held next_one old new walks = λ records are. (let (passed, l
 pub stops_at : {S : Type 0} (takes : Taking S) (rules : Rules) (s t : State) (a b c : Streams) (k l m : S) (certified : Bool) → Came rules takes s t a b k l certified → m ≡ l → c.given ≡ b.given → c.out ≡ b.out → StopsAtRecord takes rules s k m a c
 stops_at takes rules s t a b c k l m certified (met, processed, all, took) same given out =
     subst (λ x. StopsAtRecord takes rules s k x a c) (sym same) (record { met = met; mid = t; between = b; processed = processed; takes_met = took; packets = given; lines = out })
+
+-- ---- the loop
+
+pub if_some : {A : Type 0} (x : Option A) (P : A → Type 0) → ((a : A) → x ≡ Some a → P a) → IfSome x P
+if_some None P f = tt
+if_some (Some a) P f = f a refl
+
+-- a new follower stands at the beginning
+pub begins_at : (recording : List ℕ) (left : Option (List ℕ)) (f : Follower) → left ≡ Some recording → f.state ≡ begun → Stands recording left f
+begins_at recording left f known is = subst (λ l. Stands recording l f) (sym known) ([], (refl, subst (λ (s : State). HoldsLast 0 [] s.window) (sym is) (record { front = []; all = refl; place = refl })))
+
+-- records that were true for it are true now
+pub true_now : {D : Type 0} (decide : D → List Symbol → Decision) (rows : Rows) (old new : Stitcher D) (recording : List Symbol) (n n' : ℕ) (held next_one : Option Record) (bytes left : Option (List ℕ)) → IsSameStitcher decide old new → n' ≡ n
+    → LeavesRecords n held next_one bytes left → AreTrueLeft (terms_of rows old.replayer) (decide old.decider) recording n held bytes → AreTrueLeft (terms_of rows new.replayer) (decide new.decider) recording n' next_one left
+true_now decide rows old new recording n n' held next_one bytes left same bits leaves all =
+    subst (λ k. AreTrueLeft (terms_of rows new.replayer) (decide new.decider) recording k next_one left) (sym bits)
+    (true_kept decide rows old new recording n next_one left same (still_true (terms_of rows old.replayer) (decide old.decider) recording n held next_one bytes left leaves all))
+
+-- at the end as many symbols were taken as its position says; before it more can be met
+pub ends_so : (found : Next) (step : Step) (old new : State) → IsLastStep found step → Nears found old new → step ≡ steps.End → place_of found ≡ taken new
+ends_so (next.Frame at skipped) step old new last nears end = absurd (last end)
+ends_so (next.Cut at skipped count) step old new last nears end = absurd (last end)
+ends_so (next.End at skipped) step old new last nears end = nears
+
+pub goes_on_so : (found : Next) (step : Step) (old new : State) → IsLastStep found step → Nears found old new → step ≢ steps.End → IsLive new.phase × (old.standing.totals.frames + rank old.phase < new.standing.totals.frames + rank new.phase)
+goes_on_so (next.Frame at skipped) step old new last nears other = nears
+goes_on_so (next.Cut at skipped count) step old new last nears other = nears
+goes_on_so (next.End at skipped) step old new last nears other = absurd (other last)
+
+-- a fault
+pub runs_off : {S : Type 0} (takes fails : Taking S) (rules rules' : Rules) (s t u : State) (a b c : Streams) (k l m : S) → rules' ≡ rules → (certified : Bool) (fault : StitchFault) → Came rules takes s t a b k l certified → AnswersAs takes fails rules' t u l m b c (Err fault) → b.reads ≡ a.reads
+    → RunsAs takes fails rules s k m a c (Err fault)
+runs_off takes fails rules rules' s t u a b c k l m same certified (faults.Stream streams.Read) came (failed, answers, unwritten) reads =
+    (failed, breaks_off rules takes fails failed c m same certified streams.Read came answers reads (λ e. unwritten refl))
+runs_off takes fails rules rules' s t u a b c k l m same certified (faults.Stream streams.Write) came (failed, answers, unwritten) reads =
+    (failed, breaks_off rules takes fails failed c m same certified streams.Write came answers reads (λ e. cc))
+runs_off takes fails rules rules' s t u a b c k l m same certified (faults.Record fault) came (kept, given, out) reads = stops_at takes rules s t a b c k l m certified came kept given out
+
+-- ---- a step without output that had a fault
+
+module _ {S : Type 0} (takes fails : Taking S) (count : S → ℕ) (t : Terms) (decide : List Symbol → Decision) (recording : List ℕ) (n : ℕ) (old new : Follower) (before behind : Streams) (held next_one : Option Record) (bytes left : Option (List ℕ)) (k l : S)
+    (live : IsLive old.state.phase) (mode : old.sought.mode ≡ t.mode) (stands : Stands recording before.taken old) (all : AreTrueLeft t decide (symbols_of recording) n held bytes)
+    (given : behind.given ≡ before.given) (out : behind.out ≡ before.out) (none : NoneFailed before.writes behind.writes before.prints behind.prints) where
+  pub faulted : (fault : StitchFault) → MakesNext takes fails t decide old new before.taken behind.taken before.reads behind.reads next_one k l (Err fault) → CountsSink {T = Made} (count k) (count l) (Err fault)
+      → UnlessRecord {T = Made} (Err fault) (LeavesRecords n held next_one bytes left) → AnswersAs takes fails (rules_with decide old) old.state new.state k l before behind (Err fault)
+  faulted (faults.Stream streams.Read) (stops, kept) counted leaves =
+      let now = still_true t decide (symbols_of recording) n held next_one bytes left leaves all in
+      let (failed, answers) = stopped takes fails count t decide recording n old before behind next_one left k l live mode stands now (claimed_decision Broken true) stops none kept in
+      (failed, answers, λ e. (given, out))
+  faulted (faults.Stream streams.Write) (d, found, step, makes, refused, reads) counted leaves =
+      let now = still_true t decide (symbols_of recording) n held next_one bytes left leaves all in
+      let (failed, answers) = untaken takes fails count t decide recording n old before behind next_one left k l live mode stands now new d found step makes reads given out none refused counted in
+      (failed, answers, λ e. cc)
+  faulted (faults.Record fault) (kept, reads) counted leaves = (kept, given, out)
+
+-- what was counted
+pub counts_off : {S : Type 0} (takes fails : Taking S) (t : Terms) (decide : List Symbol → Decision) (old new : Follower) (before behind : Streams) (held : Option Record) (k l : S) (n n' : ℕ) (fault : StitchFault)
+    → MakesNext takes fails t decide old new before.taken behind.taken before.reads behind.reads held k l (Err fault) → CountsSink {T = Made} n n' (Err fault) → NoneFailed before.writes behind.writes before.prints behind.prints → OnlyFaults {T = Made} n n' before behind (Err fault)
+counts_off takes fails t decide old new before behind held k l n n' (faults.Stream streams.Read) (stops, kept) counted none =
+    record { no_read = λ other. absurd (other refl); write_reported = λ x. cc; no_write = λ other. (none, counted) }
+counts_off takes fails t decide old new before behind held k l n n' (faults.Stream streams.Write) (d, found, step, makes, refused, reads) counted none =
+    record { no_read = λ other. reads; write_reported = λ x. inr (none, counted); no_write = λ other. absurd (other refl) }
+counts_off takes fails t decide old new before behind held k l n n' (faults.Record fault) (kept, reads) counted none =
+    record { no_read = λ other. reads; write_reported = λ x. cc; no_write = λ other. (none, counted) }

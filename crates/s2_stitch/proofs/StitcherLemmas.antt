@@ -16,7 +16,9 @@ use Rattle.s2_replay.specs.Frames.{terms_of}
 use Rattle.s2_replay.specs.Replay.{Terms}
 use Rattle.s2_replay.specs.Replayers.{Replayer, decision_for}
 use Rattle.s2_stitch.specs.Records.{Record}
-use Rattle.s2_stitch.specs.Running.{CountsSink, SettlesAs, sink_fault}
+use Rattle.s2_stitch.specs.Running.{CountsRecords, CountsSink, SettlesAs, UnlessRecord, sink_fault}
+use Rattle.s2_stitch.specs.declared.fault.StitchFault.{StitchFault}
+use Rattle.s2_stitch.specs.declared.fault.StitchFault.TheVariants as faults
 use Rattle.s2_stitch.specs.Stitching.{IsChosen, certificate_of, decision_by, file_in, given_of}
 
 -- the bits that a record gives lead to its decision
@@ -36,3 +38,16 @@ settles_as takes fails t decide old new k l found one (Err fault) (d, chosen, se
 pub counts_as : (old new : ℕ) (result : Result Step WriteFault) → CountsFault old new result → CountsSink old new (sink_fault result)
 counts_as old new (Ok step) counts = counts
 counts_as old new (Err fault) counts = counts
+
+-- records were not read
+pub records_kept : {S : Type 0} (takes fails : Taking S) (t : Terms) (decide : List Symbol → Decision) (old new : Follower) (k l : S) (found : Next) (one : Option Record) (result : Result Step StitchFault) (n n' : ℕ)
+    → SettlesAs takes fails t decide old new k l found one result → n' ≡ n → CountsRecords n n' result
+records_kept takes fails t decide old new k l found one (Ok step) n n' settles same = same
+records_kept takes fails t decide old new k l found one (Err (faults.Stream fault)) n n' settles same = same
+records_kept takes fails t decide old new k l found one (Err (faults.Record fault)) n n' (is, kept) same = subst (λ f. CountsRecords {T = Step} n n' (Err (faults.Record f))) (sym is) same
+
+-- a fact that does not depend on the result
+pub unless_record : {T : Type 0} {X : Type 0} (r : Result T StitchFault) → X → UnlessRecord r X
+unless_record (Ok a) x = x
+unless_record (Err (faults.Stream fault)) x = x
+unless_record (Err (faults.Record fault)) x = tt

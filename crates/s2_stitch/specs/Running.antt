@@ -24,6 +24,7 @@ use Rattle.s2_stitch.specs.Records.{Record}
 use Rattle.s2_stitch.specs.Stitchers.{held_at}
 use Rattle.s2_stitch.specs.Stitching.{IsChosen}
 use Rattle.s2_stitch.specs.declared.fault.StitchFault.{StitchFault}
+use Rattle.s2_stitch.specs.declared.read.RecordFault.TheVariants as record_faults
 use Rattle.s2_stitch.specs.declared.fault.StitchFault.TheVariants as faults
 use Rattle.s2_stitch.specs.declared.step.Made.{Made}
 
@@ -52,7 +53,7 @@ SettlesAs takes fails t decide old new sink_old sink_new found one (Ok step) = (
 SettlesAs takes fails t decide old new sink_old sink_new found one (Err (faults.Stream streams.Read)) = ⊥
 SettlesAs takes fails t decide old new sink_old sink_new found one (Err (faults.Stream streams.Write)) =
     (fault : WriteFault) × (d : Decision) × IsChosen t decide old.frame one d × SettlesFor takes fails old new sink_old sink_new found d (Err fault)
-SettlesAs takes fails t decide old new sink_old sink_new found one (Err (faults.Record fault)) = sink_new ≡ sink_old
+SettlesAs takes fails t decide old new sink_old sink_new found one (Err (faults.Record fault)) = (fault ≡ record_faults.NoMemory) × (sink_new ≡ sink_old)
 
 -- only a failed call of a sink is counted
 abbrev pub CountsSink : {T : Type 0} → (old new : ℕ) → Result T StitchFault → Type 0
@@ -66,6 +67,12 @@ abbrev pub CountsRecords : {T : Type 0} → (old new : ℕ) → Result T StitchF
 CountsRecords old new (Ok value) = new ≡ old
 CountsRecords old new (Err (faults.Stream fault)) = new ≡ old
 CountsRecords old new (Err (faults.Record fault)) = CountsRead {A = ⊤} old new (Err fault)
+
+-- a fact that holds unless a record could not be read
+abbrev pub UnlessRecord : {T : Type 0} → Result T StitchFault → Type 0 → Type 0
+UnlessRecord (Ok value) holds = holds
+UnlessRecord (Err (faults.Stream fault)) holds = holds
+UnlessRecord (Err (faults.Record fault)) holds = ⊤
 
 -- whether symbols were skipped from one follower to another
 abbrev pub has_gap : (old new : Follower) → Bool
@@ -91,6 +98,12 @@ Stands recording (Some left) f = (came : List Symbol) × (symbols_of recording �
 abbrev pub Nears : Next → (old new : State) → Type 0
 Nears (next.End at skipped) old new = at ≡ taken new
 Nears found old new = IsLive new.phase × (old.standing.totals.frames + rank old.phase < new.standing.totals.frames + rank new.phase)
+
+-- the position of a thing that was found
+abbrev pub place_of : Next → ℕ
+place_of (next.Frame at skipped) = at
+place_of (next.Cut at skipped count) = at
+place_of (next.End at skipped) = at
 
 -- the step is the last one exactly at the end
 abbrev pub IsLastStep : Next → Step → Type 0

@@ -6,7 +6,7 @@ ghost use Rattle.s2_mode.specs.Symbols.{symbols_of};
 ghost use Rattle.s2_receive.specs.Answers.{Between};
 ghost use Rattle.s2_receive.specs.Receiving.{begun, is_certified_step};
 ghost use Rattle.s2_replay.specs.Frames.{terms_of};
-ghost use Rattle.s2_stitch.specs.Running.{CountsRecords, OnlyFaults, RunsAs};
+ghost use Rattle.s2_stitch.specs.Running.{CountsRecords, OnlyFaults, RunsAs, place_of};
 ghost use Rattle.s2_stitch.specs.Stitchers.{rules_by};
 ghost use Rattle.s2_stitch.specs.Stitching.{AreTrueLeft};
 
@@ -31,6 +31,17 @@ fn is_certified_step(step: Step) -> bool
         },
         Step::Cut { .. } => false,
         Step::End => true,
+    }
+}
+
+/// The position of a thing that was found.
+fn place_of(found: Next) -> u64
+    ensures { result ≡ place_of found }
+{
+    match found {
+        Next::Frame { at, .. } => at,
+        Next::Cut { at, .. } => at,
+        Next::End { at, .. } => at,
     }
 }
 
@@ -72,17 +83,22 @@ pub fn stitch_all<
 {
     let mut all_certified = true;
     'steps: loop {
-        let made = stitch_step(
+        match stitch_step(
             alloc, matrix, stitcher, records, symbols, sink, packets, report,
-        )?;
-        if let Next::End { at, .. } = made.found {
-            let totals = stitcher.totals();
-            return Ok(Received {
-                totals,
-                all_certified,
-                symbols: at,
-            });
+        ) {
+            Ok(made) => {
+                if made.step == Step::End {
+                    let totals = stitcher.totals();
+                    let symbols = place_of(made.found);
+                    return Ok(Received {
+                        totals,
+                        all_certified,
+                        symbols,
+                    });
+                }
+                all_certified &= is_certified_step(made.step);
+            }
+            Err(fault) => return Err(fault),
         }
-        all_certified &= is_certified_step(made.step);
     }
 }

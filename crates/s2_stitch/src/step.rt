@@ -12,7 +12,7 @@ ghost use Rattle.s2_receive.specs.Receiving.{IsLive};
 ghost use Rattle.s2_receive.specs.ReceiverCore.{FailsIn};
 ghost use Rattle.s2_replay.specs.Frames.{terms_of};
 ghost use Rattle.s2_replay.specs.Replayers.{IsFrame};
-ghost use Rattle.s2_stitch.specs.Running.{AnswersAs, CountsRecords, CountsSink, IsLastStep, MakesNext, Nears, OnlyFaults, SettlesAs, Stands};
+ghost use Rattle.s2_stitch.specs.Running.{AnswersAs, CountsRecords, CountsSink, IsLastStep, MakesNext, Nears, OnlyFaults, SettlesAs, Stands, UnlessRecord};
 ghost use Rattle.s2_stitch.specs.Stitchers.{IsSameStitcher, held_at, rules_by};
 ghost use Rattle.s2_stitch.specs.Stitching.{AreTrueLeft};
 ghost use Rattle.s2_stitch.specs.Walking.{LeavesRecords};
@@ -95,7 +95,7 @@ fn make_frame<D: Decide, Q: CountedRead, K: Sink>(
     requires bits { records.old.bits ≡ n_of stitcher.old.replayer.follower.sought.mode }
     ensures settles { SettlesAs K.takes K.fails (terms_of matrix.now stitcher.old.replayer) (D.decide stitcher.old.decider) stitcher.old.replayer.follower stitcher.new.replayer.follower
         sink.old sink.new found (held_at at records.new.held) result }
-    ensures left { IfOk result (λ _. LeavesRecords records.old.bits records.old.held records.new.held (Q.remaining records.old.reader) (Q.remaining records.new.reader)) }
+    ensures left { UnlessRecord result (LeavesRecords records.old.bits records.old.held records.new.held (Q.remaining records.old.reader) (Q.remaining records.new.reader)) }
     ensures same { IsSameStitcher D.decide stitcher.old stitcher.new }
     ensures bits { records.new.bits ≡ records.old.bits }
     ensures counts { CountsSink (K.count sink.old) (K.count sink.new) result }
@@ -123,7 +123,7 @@ fn make_next<D: Decide, Q: CountedRead, R: CountedRead, K: Sink>(
     requires bits { records.old.bits ≡ n_of stitcher.old.replayer.follower.sought.mode }
     ensures makes { MakesNext K.takes K.fails (terms_of matrix.now stitcher.old.replayer) (D.decide stitcher.old.decider) stitcher.old.replayer.follower stitcher.new.replayer.follower
         (R.remaining symbols.old) (R.remaining symbols.new) (R.count symbols.old) (R.count symbols.new) records.new.held sink.old sink.new result }
-    ensures left { IfOk result (λ _. LeavesRecords records.old.bits records.old.held records.new.held (Q.remaining records.old.reader) (Q.remaining records.new.reader)) }
+    ensures left { UnlessRecord result (LeavesRecords records.old.bits records.old.held records.new.held (Q.remaining records.old.reader) (Q.remaining records.new.reader)) }
     ensures same { IsSameStitcher D.decide stitcher.old stitcher.new }
     ensures bits { records.new.bits ≡ records.old.bits }
     ensures counts { CountsSink (K.count sink.old) (K.count sink.new) result }
@@ -175,7 +175,7 @@ pub(crate) fn stitch_step<
         → Between (AnswersAs K.takes K.fails (rules_by D.decide stitcher.old) stitcher.old.replayer.follower.state stitcher.new.replayer.follower.state sink.old sink.new)
             R.remaining R.count P.contents P.count W.contents W.count symbols.old packets.old report.old symbols.new packets.new report.new result }
     ensures stands { IfOk result (λ _. (recording : List ℕ) → Stands recording (R.remaining symbols.old) stitcher.old.replayer.follower → Stands recording (R.remaining symbols.new) stitcher.new.replayer.follower) }
-    ensures left { IfOk result (λ _. LeavesRecords records.old.bits records.old.held records.new.held (Q.remaining records.old.reader) (Q.remaining records.new.reader)) }
+    ensures left { UnlessRecord result (LeavesRecords records.old.bits records.old.held records.new.held (Q.remaining records.old.reader) (Q.remaining records.new.reader)) }
     ensures nears { IfOk result (λ made. Nears made.found stitcher.old.replayer.follower.state stitcher.new.replayer.follower.state) }
     ensures step { IfOk result (λ made. IsLastStep made.found made.step) }
     ensures counted { IfOk result (λ _. stitcher.new.replayer.follower.state.standing.totals.frames ≤ max_symbols) }

@@ -1,4 +1,5 @@
-use Rattle.std.proofs.Common.{◌≡◌, ◌∙◌, Some, None, Ok, Err, inl, inr, refl, rules, subst, sym}
+use Rattle.std.proofs.Common.{◌≡◌, ◌+◌, ◌∙◌, Some, None, Ok, Err, inl, inr, refl, rules, subst, sym}
+use Rattle.s2_receive.proofs.HalfLemmas.{same_on}
 use Rattle.s2_replay.specs.Following.{SearchesOnce}
 use Rattle.s2_replay.proofs.FollowLemmas.{searches_more}
 use Rattle.s2_replay.proofs.replayer.find_next.Goals as goal
@@ -43,3 +44,22 @@ returns-then-room-eq0-clause-reads g c =
     let none : _ ≡ None = c.in_default.is in
     let seeks = rw none at c.in_ok-found.ensures.stuck (search rules) in
     inr (c.in_ok-found.ensures.cause ∙ c.reading.invariant.reads, (c.reading.follower, sym c.room-room.ensures.is ∙ c.if-room-eq0.true, seeks))
+
+pub reading-preserved : goal.reading-preserved
+reading-preserved g c =
+    let so = c.reading.invariant in
+    let e = c.in_ok-found.ensures in
+    let (searches, are) = so.searched in
+    let none : _ ≡ None = c.in_default.is in
+    let (bytes, last) = subst (λ n. SearchesOnce c.reading.follower c.read_on.new.follower (g.R.CountedRead.remaining c.reading.symbols) (g.R.CountedRead.remaining c.read_on.new.symbols) (Ok n)) none e.searched in
+    record {
+      searched = searches_more c.args.follower.now c.reading.follower c.read_on.new.follower (g.R.CountedRead.remaining c.args.symbols.now) (g.R.CountedRead.remaining c.reading.symbols) (g.R.CountedRead.remaining c.read_on.new.symbols) searches bytes are last;
+      goes_on = λ t whole decisions lines packets before. e.goes_on t whole decisions lines packets (so.goes_on t whole decisions lines packets before);
+      none = search (rules, none);
+      same = same_on c.args.follower.now c.reading.follower c.read_on.new.follower so.same e.same;
+      kept = e.kept ∙ so.kept;
+      reader = record { mode = e.reader.mode ∙ so.reader.mode; number = e.reader.number ∙ so.reader.number; options = e.reader.options ∙ so.reader.options };
+      long = e.long ∙ so.long;
+      room = search rules;
+      reads = e.cause ∙ so.reads;
+    }
