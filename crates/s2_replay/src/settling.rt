@@ -104,8 +104,10 @@ fn settle_for<K: Sink>(
     );
     let step = follower.settle(found, decided, reader.field());
     let frame = given.frame(soft, reader.message(), decided, reader.field());
-    sink.take(follower.totals().places > places, &frame)?;
-    Ok(step)
+    match sink.take(follower.totals().places > places, &frame) {
+        Ok(()) => Ok(step),
+        Err(fault) => Err(fault),
+    }
 }
 
 impl Replayer {

@@ -27,7 +27,7 @@ use Rattle.s2_receive.proofs.HalfLemmas.{same_on}
 use Rattle.s2_receive.proofs.NextLemmas.{broke_with, refused, stuck_with, wrote_with}
 use Rattle.s2_replay.specs.Following.{AreSearches, FailsRead, FindsNext, IsSearch, Search, StopsSearching}
 use Rattle.s2_replay.specs.Replay.{Terms}
-use Rattle.s2_replay.specs.Replayers.{IsFrame}
+use Rattle.s2_replay.specs.Replayers.{IsFrame, IsFrameAt}
 use Rattle.s2_stitch.specs.Records.{Record}
 use Rattle.s2_stitch.specs.Running.{IsDecidedAt, IsLastStep, MakesNext, MakesStep, Nears, SettlesAs, Stands, has_gap}
 use Rattle.s2_stitch.specs.Stitchers.{held_at}
@@ -221,6 +221,20 @@ module _ {S : Type 0} (takes fails : Taking S) (t : Terms) (decide : List Symbol
       let failed = subst (λ b. fails k l b d) (gap_kept found finds) settles.takes_it in
       (d, found, settles.step, record { mid = mid; finds = finds; decided = chosen; settles = settles.settles }, failed_step old mid new left left_new found d settles.step finds settles.settles fails k l (has_gap old new) tt failed, reads)
   frame_refused at skipped (faults.Record fault) finds (is, kept) = (kept, reads)
+
+  pub frame_found : (found : Next) (at : ℕ) → IsFrameAt found at → (step : Step) → FindsNext old mid left left_new found → SettlesAs takes fails t decide mid new k l found (held_at at held) (Ok step)
+      → MakesNext takes fails t decide old new left left_new n n' held k l (Ok (record { step = step; found = found }))
+  frame_found (next.Frame place skipped) at is step finds settles =
+      frame_made place skipped step finds (subst (λ a. SettlesAs takes fails t decide mid new k l (next.Frame place skipped) (held_at a held) (Ok step)) is settles)
+  frame_found (next.Cut place skipped count) at is step finds settles = absurd is
+  frame_found (next.End place skipped) at is step finds settles = absurd is
+
+  pub fault_found : (found : Next) (at : ℕ) → IsFrameAt found at → (fault : StitchFault) → FindsNext old mid left left_new found → SettlesAs takes fails t decide mid new k l found (held_at at held) (Err fault)
+      → MakesNext takes fails t decide old new left left_new n n' held k l (Err fault)
+  fault_found (next.Frame place skipped) at is fault finds settles =
+      frame_refused place skipped fault finds (subst (λ a. SettlesAs takes fails t decide mid new k l (next.Frame place skipped) (held_at a held) (Err fault)) is settles)
+  fault_found (next.Cut place skipped count) at is fault finds settles = absurd is
+  fault_found (next.End place skipped) at is fault finds settles = absurd is
 
   -- a cut frame, or the end
   pub last_made : (found : Next) (d : Decision) (step : Step) → (IsFrame found → ⊥) → FindsNext old mid left left_new found → Settles mid new found d step → l ≡ k → MakesNext takes fails t decide old new left left_new n n' held k l (Ok (record { step = step; found = found }))

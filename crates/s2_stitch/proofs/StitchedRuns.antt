@@ -1,5 +1,5 @@
 -- A stitched run, step by step.
-use Rattle.std.proofs.Common.{◌≡◌, ◌≢◌, ℕ, ◌+◌, ◌<◌, Bool, true, inr, List, [], ◌∷◌, ◌++◌, append_assoc, Option, Some, None, IfSome, Err, refl, sym, ap, subst, ◌∙◌}
+use Rattle.std.proofs.Common.{◌≡◌, ◌≢◌, ℕ, ◌+◌, ◌<◌, Bool, true, inr, List, [], ◌∷◌, ◌++◌, append_assoc, Option, Some, None, IfSome, Result, Err, refl, sym, ap, subst, ◌∙◌}
 use Rattle.s2_mode.specs.Mode.{symbols_in}
 use Rattle.s2_mode.specs.Streams.{NoneFailed, Streams}
 use Rattle.s2_mode.specs.Symbols.{symbols_of}
@@ -22,7 +22,7 @@ use Rattle.s2_replay.specs.Frames.{terms_of}
 use Rattle.s2_replay.specs.Replay.{Terms, claimed_decision}
 use Rattle.s2_replay.specs.Replayers.{IsSameReplayer, Replayer}
 use Rattle.s2_stitch.specs.Records.{Record}
-use Rattle.s2_stitch.specs.Running.{AnswersAs, CountsSink, MakesNext, OnlyFaults, UnlessRecord, IsLastStep, Nears, RunsAs, Stands, StopsAtRecord, place_of}
+use Rattle.s2_stitch.specs.Running.{AnswersAs, CountsSink, MakesNext, OnlyFaults, SettlesAs, UnlessRecord, IsLastStep, Nears, RunsAs, Stands, StopsAtRecord, place_of}
 use Rattle.s2_stitch.specs.declared.fault.StitchFault.{StitchFault}
 use Rattle.s2_stitch.specs.declared.fault.StitchFault.TheVariants as faults
 use Rattle.s2_stitch.specs.Stitchers.{IsSameStitcher, Stitcher, rules_by}
@@ -73,6 +73,13 @@ module _ {D : Type 0} (decide : D → List Symbol → Decision) where
   true_kept rows old new recording n held bytes same all =
       subst (λ t. AreTrueLeft t (decide new.decider) recording n held bytes) (sym (terms_kept rows old.replayer new.replayer same.replayer))
       (subst (λ r. AreTrueLeft (terms_of rows old.replayer) r recording n held bytes) (sym same.rule) all)
+
+-- a frame that was settled by its terms later was settled by them before
+pub settles_kept : {D S : Type 0} (decide : D → List Symbol → Decision) (rows : Rows) (old mid : Stitcher D) → IsSameStitcher decide old mid → (takes fails : Taking S) (f g : Follower) (k l : S) (found : Next) (one : Option Record) (result : Result Step StitchFault)
+    → SettlesAs takes fails (terms_of rows mid.replayer) (decide mid.decider) f g k l found one result → SettlesAs takes fails (terms_of rows old.replayer) (decide old.decider) f g k l found one result
+settles_kept decide rows old mid same takes fails f g k l found one result settles =
+    subst (λ t. SettlesAs takes fails t (decide old.decider) f g k l found one result) (terms_kept rows old.replayer mid.replayer same.replayer)
+    (subst (λ r. SettlesAs takes fails (terms_of rows mid.replayer) r f g k l found one result) same.rule settles)
 
 -- ---- records that are left
 

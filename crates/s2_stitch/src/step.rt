@@ -134,10 +134,16 @@ fn make_next<D: Decide, Q: CountedRead, R: CountedRead, K: Sink>(
     };
     match found {
         Next::Frame { at, .. } => {
-            let step = make_frame(alloc, matrix, stitcher, records, found, at, sink)?;
-            Ok(Made { step, found })
+            match make_frame(alloc, matrix, stitcher, records, found, at, sink) {
+                Ok(step) => Ok(Made { step, found }),
+                Err(fault) => Err(fault),
+            }
         }
-        Next::Cut { .. } | Next::End { .. } => Ok(Made {
+        Next::Cut { .. } => Ok(Made {
+            step: stitcher.settle_last(found),
+            found,
+        }),
+        Next::End { .. } => Ok(Made {
             step: stitcher.settle_last(found),
             found,
         }),
@@ -186,15 +192,19 @@ pub(crate) fn stitch_step<
         R.remaining R.count P.contents P.count W.contents W.count symbols.old packets.old report.old symbols.new packets.new report.new result }
     ensures records { CountsRecords (Q.count records.old.reader) (Q.count records.new.reader) result }
 {
-    let made = make_next(alloc, matrix, stitcher, records, symbols, sink)?;
-    match write_step(
-        stitcher.packets(),
-        made.step,
-        stitcher.totals(),
-        packets,
-        report,
-    ) {
-        Ok(()) => Ok(made),
-        Err(_) => Err(StitchFault::Stream(StreamFault::Write)),
+    match make_next(alloc, matrix, stitcher, records, symbols, sink) {
+        Ok(made) => {
+            match write_step(
+                stitcher.packets(),
+                made.step,
+                stitcher.totals(),
+                packets,
+                report,
+            ) {
+                Ok(()) => Ok(made),
+                Err(_) => Err(StitchFault::Stream(StreamFault::Write)),
+            }
+        }
+        Err(fault) => Err(fault),
     }
 }

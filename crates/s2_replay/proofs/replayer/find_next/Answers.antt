@@ -14,7 +14,9 @@ pub returns-in_err-found-clause-searches : goal.returns-in_err-found-clause-sear
 returns-in_err-found-clause-searches g c =
     let (searches, are) = c.reading.invariant.searched in
     let (same, failed) = c.in_err-found.ensures.searched in
-    record {
+    let fault = c.in_err-found.field-0.0 in
+    let is : c.from_residual.result ≡ Err fault = search rules in
+    rw is (record {
       searches = searches;
       mid = c.reading.follower;
       between = g.R.CountedRead.remaining c.reading.symbols;
@@ -22,7 +24,7 @@ returns-in_err-found-clause-searches g c =
       few = c.room-room.ensures.held.0;
       within = c.room-room.ensures.held.1;
       cause = inl (failed, c.in_err-found.ensures.cause ∙ (λ i. c.reading.invariant.reads i + 1));
-    }
+    })
 
 pub returns-then-room-eq0-clause-searches : goal.returns-then-room-eq0-clause-searches
 returns-then-room-eq0-clause-searches g c =
@@ -55,7 +57,7 @@ reading-preserved g c =
     record {
       searched = searches_more c.args.follower.now c.reading.follower c.read_on.new.follower (g.R.CountedRead.remaining c.args.symbols.now) (g.R.CountedRead.remaining c.reading.symbols) (g.R.CountedRead.remaining c.read_on.new.symbols) searches bytes are last;
       goes_on = λ t whole decisions lines packets before. e.goes_on t whole decisions lines packets (so.goes_on t whole decisions lines packets before);
-      none = search (rules, none);
+      none = search rules;
       same = same_on c.args.follower.now c.reading.follower c.read_on.new.follower so.same e.same;
       kept = e.kept ∙ so.kept;
       reader = record { mode = e.reader.mode ∙ so.reader.mode; number = e.reader.number ∙ so.reader.number; options = e.reader.options ∙ so.reader.options };
