@@ -27,22 +27,19 @@ module _ (finds : Bool → List Symbol → Found) (lost : List Symbol → Bool) 
   there at (suc inside) behind gap (symbol ∷ symbols) place skipped own has = one_on size at symbol symbols place own (there (at + 1) inside true gap symbols place skipped own has)
   there at zero behind gap (symbol ∷ symbols) place skipped own has = by (begins (finds behind) (symbol ∷ symbols)) has
     where
-      abbrev all : List Symbol
-      all = symbol ∷ symbols
-
-      here : (b : Bool) → nat_le size (length all) ≡ b → Contains (if b then frame at gap (take size all) ∷ met_from finds lost size (at + 1) (rest_of finds lost size all) true no_gap symbols else cut at gap (length all) ∷ (ended no_gap ∷ [])) (frame place skipped own) → IsThere size at all place own
+      here : (b : Bool) → nat_le size (length (symbol ∷ symbols)) ≡ b → Contains (if b then frame at gap (take size (symbol ∷ symbols)) ∷ met_from finds lost size (at + 1) (rest_of finds lost size (symbol ∷ symbols)) true no_gap symbols else cut at gap (length (symbol ∷ symbols)) ∷ (ended no_gap ∷ [])) (frame place skipped own) → IsThere size at (symbol ∷ symbols) place own
       here true long (inl is) =
-          let enough : size ≤ length all = leb-true size (length all) long in
+          let enough : size ≤ length (symbol ∷ symbols) = leb-true size (length (symbol ∷ symbols)) long in
           let at_is : at ≡ place = cc in
-          let own_is : take size all ≡ own = cc in
+          let own_is : take size (symbol ∷ symbols) ≡ own = cc in
           record { k = 0; place_is = omega (arith, at_is); within = enough; own_are = sym own_is }
-      here true long (inr later) = one_on size at symbol symbols place own (there (at + 1) (rest_of finds lost size all) true no_gap symbols place skipped own later)
+      here true long (inr later) = one_on size at symbol symbols place own (there (at + 1) (rest_of finds lost size (symbol ∷ symbols)) true no_gap symbols place skipped own later)
       here false long (inl is) = cc
       here false long (inr (inl is)) = cc
       here false long (inr (inr never)) = absurd never
 
-      by : (f : Found) → Contains (by_found f (if nat_le size (length all) then frame at gap (take size all) ∷ met_from finds lost size (at + 1) (rest_of finds lost size all) true no_gap symbols else cut at gap (length all) ∷ (ended no_gap ∷ [])) (met_from finds lost size (at + 1) (dummy_symbols - 1) true gap symbols) (met_from finds lost size (at + 1) 0 false (extended gap at 1) symbols)) (frame place skipped own) → IsThere size at all place own
-      by founds.Coded has = here (nat_le size (length all)) refl has
+      by : (f : Found) → Contains (by_found f (if nat_le size (length (symbol ∷ symbols)) then frame at gap (take size (symbol ∷ symbols)) ∷ met_from finds lost size (at + 1) (rest_of finds lost size (symbol ∷ symbols)) true no_gap symbols else cut at gap (length (symbol ∷ symbols)) ∷ (ended no_gap ∷ [])) (met_from finds lost size (at + 1) (dummy_symbols - 1) true gap symbols) (met_from finds lost size (at + 1) 0 false (extended gap at 1) symbols)) (frame place skipped own) → IsThere size at (symbol ∷ symbols) place own
+      by founds.Coded has = here (nat_le size (length (symbol ∷ symbols))) refl has
       by founds.Dummy has = one_on size at symbol symbols place own (there (at + 1) (dummy_symbols - 1) true gap symbols place skipped own has)
       by founds.Nothing has = one_on size at symbol symbols place own (there (at + 1) 0 false (extended gap at 1) symbols place skipped own has)
 

@@ -99,25 +99,22 @@ module _ (decide : List Symbol → Decision) (d : Decision) where
       → FindsNone (seen_with decide d first) (seen_with decide d stops.mid) a c n n'
   finds_none first a c n n' live stops none = by stops.cause
     where
-      abbrev cur : Follower
-      cur = stops.mid
-
-      so : IsWaiting decide first cur a stops.between
-      so = searched first first cur a a stops.between stops.searches stops.before (waiting_at first a live)
+      so : IsWaiting decide first stops.mid a stops.between
+      so = searched first first stops.mid a a stops.between stops.searches stops.before (waiting_at first a live)
 
       -- nothing was found without any bytes, so that it searches
-      searching : (phase : Phase) → cur.state.phase ≡ phase → IsLive phase → (last : Follower) (bytes : List ℕ) (whole : Bool) → SeeksBy phase cur last bytes whole None → cur.state.phase ≡ phases.Searching
+      searching : (phase : Phase) → stops.mid.state.phase ≡ phase → IsLive phase → (last : Follower) (bytes : List ℕ) (whole : Bool) → SeeksBy phase stops.mid last bytes whole None → stops.mid.state.phase ≡ phases.Searching
       searching phases.Searching is live last bytes whole seeks = is
       searching phases.Closing is live last bytes whole seeks = cc
       searching phases.Ended is live last bytes whole seeks = absurd live
       searching phases.Failed is live last bytes whole seeks = absurd live
 
       fault : ReadFault
-      fault = record { }
+      fault = record {}
 
-      by : (FailsRead (asked_of cur) stops.between c × (n' ≡ n + 1)) ⊎ ((asked_of cur ≡ 0) × (n' ≡ n) × ((last : Follower) × (bytes : List ℕ) × IsSearch cur last stops.between c bytes None)) → FindsNone (seen_with decide d first) (seen_with decide d cur) a c n n'
+      by : (FailsRead (asked_of stops.mid) stops.between c × (n' ≡ n + 1)) ⊎ ((asked_of stops.mid ≡ 0) × (n' ≡ n) × ((last : Follower) × (bytes : List ℕ) × IsSearch stops.mid last stops.between c bytes None)) → FindsNone (seen_with decide d first) (seen_with decide d stops.mid) a c n n'
       by (inl ((bytes, read, less), failed)) =
-          fails_now rule last_one (receiver first) (receiver cur) (receiver cur) a stops.between c (rules_same first cur so.same) so.waited refl so.live stops.few stops.within n n' fault (refl, (bytes, read, less)) failed
+          fails_now rule last_one (receiver first) (receiver stops.mid) (receiver stops.mid) a stops.between c (rules_same first stops.mid so.same) so.waited refl so.live stops.few stops.within n n' fault (refl, (bytes, read, less)) failed
       by (inr (empty, same, (last, bytes, is))) =
-          subst (λ l. FindsNone (seen_with decide d first) (seen_with decide d cur) a l n n') (sym (none empty))
-          (full_now rule last_one (receiver first) (receiver cur) (receiver cur) a stops.between stops.between (rules_same first cur so.same) so.waited refl so.live n n' stops.few stops.within (searching cur.state.phase refl so.live last bytes _ is.seeks.seeks) empty same)
+          subst (λ l. FindsNone (seen_with decide d first) (seen_with decide d stops.mid) a l n n') (sym (none empty))
+          (full_now rule last_one (receiver first) (receiver stops.mid) (receiver stops.mid) a stops.between stops.between (rules_same first stops.mid so.same) so.waited refl so.live n n' stops.few stops.within (searching stops.mid.state.phase refl so.live last bytes _ is.seeks.seeks) empty same)

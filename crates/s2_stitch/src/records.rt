@@ -80,13 +80,7 @@ impl<Q: CountedRead> RecordReader<Q> {
         ensures none { result ≡ None → held_at at self.now.held ≡ None }
     {
         match &self.held {
-            Some(record) => {
-                if record.at == at {
-                    Some(record)
-                } else {
-                    None
-                }
-            }
+            Some(record) => { if record.at == at { Some(record) } else { None } }
             None => None,
         }
     }

@@ -76,7 +76,7 @@ pub fn stitch_all<
     ensures runs { IfSome (R.remaining symbols.old) (λ recording.
         AreTrueLeft (terms_of matrix.now stitcher.old.replayer) (D.decide stitcher.old.decider) (symbols_of recording) records.old.bits records.old.held (Q.remaining records.old.reader)
         → Between (RunsAs K.takes K.fails (rules_by D.decide stitcher.old) stitcher.old.replayer.follower.state sink.old sink.new)
-            R.remaining R.count P.contents P.count W.contents W.count symbols.old packets.old report.old symbols.new packets.new report.new result) }
+        R.remaining R.count P.contents P.count W.contents W.count symbols.old packets.old report.old symbols.new packets.new report.new result) }
     ensures counts { Between (OnlyFaults (K.count sink.old) (K.count sink.new))
         R.remaining R.count P.contents P.count W.contents W.count symbols.old packets.old report.old symbols.new packets.new report.new result }
     ensures records { CountsRecords (Q.count records.old.reader) (Q.count records.new.reader) result }

@@ -179,7 +179,7 @@ pub(crate) fn stitch_step<
     ensures answers { (recording : List ℕ) → Stands recording (R.remaining symbols.old) stitcher.old.replayer.follower
         → AreTrueLeft (terms_of matrix.now stitcher.old.replayer) (D.decide stitcher.old.decider) (symbols_of recording) records.old.bits records.old.held (Q.remaining records.old.reader)
         → Between (AnswersAs K.takes K.fails (rules_by D.decide stitcher.old) stitcher.old.replayer.follower.state stitcher.new.replayer.follower.state sink.old sink.new)
-            R.remaining R.count P.contents P.count W.contents W.count symbols.old packets.old report.old symbols.new packets.new report.new result }
+        R.remaining R.count P.contents P.count W.contents W.count symbols.old packets.old report.old symbols.new packets.new report.new result }
     ensures stands { IfOk result (λ _. (recording : List ℕ) → Stands recording (R.remaining symbols.old) stitcher.old.replayer.follower → Stands recording (R.remaining symbols.new) stitcher.new.replayer.follower) }
     ensures left { UnlessRecord result (LeavesRecords records.old.bits records.old.held records.new.held (Q.remaining records.old.reader) (Q.remaining records.new.reader)) }
     ensures nears { IfOk result (λ made. Nears made.found stitcher.old.replayer.follower.state stitcher.new.replayer.follower.state) }

@@ -238,12 +238,7 @@ impl<D: Decide> Stitcher<D> {
         ensures same { IsSameStitcher D.decide self.old self.new }
         ensures counts { CountsSink (K.count sink.old) (K.count sink.new) result }
     {
-        sink_fault(settle_decided(
-            &mut self.replayer,
-            &mut self.decider,
-            found,
-            sink,
-        ))
+        sink_fault(settle_decided(&mut self.replayer, &mut self.decider, found, sink))
     }
 
     /// Handles a cut frame, or the end.
