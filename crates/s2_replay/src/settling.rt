@@ -104,10 +104,8 @@ fn settle_for<K: Sink>(
     );
     let step = follower.settle(found, decided, reader.field());
     let frame = given.frame(soft, reader.message(), decided, reader.field());
-    match sink.take(follower.totals().places > places, &frame) {
-        Ok(()) => Ok(step),
-        Err(fault) => Err(fault),
-    }
+    sink.take(follower.totals().places > places, &frame)?;
+    Ok(step)
 }
 
 impl Replayer {

@@ -74,10 +74,8 @@ fn settle_decided<D: Decide, K: Sink>(
     let places = replayer.totals().places;
     decider.decide(replayer.frame());
     let step = replayer.settle_decided(found, decider.decided(), decider.field());
-    match sink.take(replayer.totals().places > places, &decider.frame()) {
-        Ok(()) => Ok(step),
-        Err(fault) => Err(fault),
-    }
+    sink.take(replayer.totals().places > places, &decider.frame())?;
+    Ok(step)
 }
 
 /// Handles a frame that was found by its record, whose certificate is in this file if it has one, and lends it to a sink. If the
