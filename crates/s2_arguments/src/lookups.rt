@@ -1,10 +1,14 @@
 //! Looks up commands and options in the table.
+ghost use Rattle.std.specs.Prelude.{◌≡◌, IfSome, None};
+
 use crate::arguments::ArgumentKind;
 use crate::table::{CommandHelp, Section, arguments_in, commands, sections_of};
 use clap::builder::ValueParser;
 
 /// The command of this name.
-pub fn command_named(name: &str) -> Option<CommandHelp> {
+pub fn command_named(name: &str) -> Option<CommandHelp>
+    ensures { IfSome result (λ entry. entry.name.now ≡ name.now) }
+{
     for entry in commands() {
         if entry.name == name {
             return Some(*entry);
@@ -14,7 +18,9 @@ pub fn command_named(name: &str) -> Option<CommandHelp> {
 }
 
 /// The parser of an option's value, for example of `--number`. It is any text if there is no such option.
-pub fn parser_of(command: Option<CommandHelp>, option: &str) -> ValueParser<'static> {
+pub fn parser_of(command: Option<CommandHelp>, option: &str) -> ValueParser<'static>
+    ensures { command ≡ None → result ≡ ValueParser.String }
+{
     let Some(entry) = command else {
         return ValueParser::String;
     };

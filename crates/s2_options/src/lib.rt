@@ -1,9 +1,7 @@
 //! Options of the command line in the types of the stages.
 //!
-//! The parser of `s2_words` has tested every number: its ranges are those of these types, as constants prove. So only a mode
+//! The parser of `s2_arguments` has tested every number: its ranges are those of these types, as constants prove. So only a mode
 //! or a shape can be missing: not each MODCOD has short frames.
-//!
-//! This is plain code.
 //!
 //! ```text
 //! let setup = setup_of(words.link).ok_or(Unserved::NoMode)?;

@@ -1,4 +1,7 @@
 //! Usage errors. Each is one line with the mistake, the accepted values, and the command that prints the help.
+ghost use Rattle.std.specs.Prelude.{IfOk, OnOk};
+ghost use Rattle.s2_usage.specs.Errors.{EndsIfFault, EndsWithLf, IsUsageError};
+
 use crate::misuse::{Misuse, misuse_of};
 use crate::unread::Unread;
 use clap::Error;
@@ -24,11 +27,14 @@ fn push_all(text: &mut String, parts: &[&str]) -> Result<(), AllocError> {
 }
 
 /// Appends the end of a line: the command that prints the help of a command or of the program.
-fn push_way(text: &mut String, command: Option<CommandHelp>) -> Result<(), AllocError> {
+fn push_way(text: &mut String, command: Option<CommandHelp>) -> Result<(), AllocError>
+    ensures { OnOk result (EndsWithLf text.new.bytes.items) }
+{
     match command {
-        Some(entry) => push_all(text, &["; see s2 ", entry.name, " --help\n"]),
-        None => text.push_str("; see s2 --help\n"),
+        Some(entry) => push_all(text, &["; see s2 ", entry.name, " --help"])?,
+        None => text.push_str("; see s2 --help")?,
     }
+    text.push_str("\n")
 }
 
 /// Appends an argument. If it is empty or has spaces or control characters, it is quoted and escaped.
@@ -198,7 +204,9 @@ fn fault_line(
     arguments: &[String],
     kind: ErrorKind,
     told: &str,
-) -> Result<String, AllocError> {
+) -> Result<String, AllocError>
+    ensures { IfOk result (λ text. EndsWithLf text.bytes.items) }
+{
     let mut text = String::from_str(alloc, "s2: ")?;
     push_fault(alloc, &mut text, arguments, kind, told)?;
     push_way(&mut text, command_in(arguments))?;
@@ -210,7 +218,9 @@ pub(crate) fn unread_of(
     alloc: Global,
     arguments: &[String],
     error: Error,
-) -> Result<Unread, AllocError> {
+) -> Result<Unread, AllocError>
+    ensures { IfOk result EndsIfFault }
+{
     match error.kind() {
         ErrorKind::OutOfMemory => Ok(Unread::NoMemory),
         ErrorKind::DisplayHelp | ErrorKind::DisplayVersion => Ok(Unread::Asked(error)),
@@ -234,7 +244,9 @@ pub fn refused_value(
     alloc: Global,
     refused: Refused<'_>,
     see: &[&str],
-) -> Result<Unread, AllocError> {
+) -> Result<Unread, AllocError>
+    ensures { IfOk result IsUsageError }
+{
     let mut text = String::from_str(alloc, "s2: ")?;
     push_refused(&mut text, refused.option, refused.value)?;
     push_all(&mut text, &[refused.accepted, "; see s2 "])?;
@@ -244,7 +256,9 @@ pub fn refused_value(
 }
 
 /// The usage error of arguments from which no request can be made.
-pub fn not_understood(alloc: Global) -> Result<Unread, AllocError> {
+pub fn not_understood(alloc: Global) -> Result<Unread, AllocError>
+    ensures { IfOk result IsUsageError }
+{
     let mut text = String::from_str(alloc, "s2: ")?;
     text.push_str(NOT_UNDERSTOOD)?;
     push_way(&mut text, None)?;
@@ -252,7 +266,9 @@ pub fn not_understood(alloc: Global) -> Result<Unread, AllocError> {
 }
 
 /// The usage error of an argument that is not text.
-pub fn not_text(alloc: Global, argument: &str) -> Result<Unread, AllocError> {
+pub fn not_text(alloc: Global, argument: &str) -> Result<Unread, AllocError>
+    ensures { IfOk result IsUsageError }
+{
     let mut text = String::from_str(alloc, "s2: ")?;
     push_said(&mut text, argument, " is not valid UTF-8")?;
     push_way(&mut text, None)?;
