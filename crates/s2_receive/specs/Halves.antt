@@ -180,14 +180,26 @@ ahead rules f None coming = left_by (record rules { resync = false }) f.state.ph
 ahead rules f (Some found) coming =
     met_of found f.frame ∷ met_then rules.finds (λ symbols. false) rules.size found (window_after (λ symbols. false) rules.size (Some found) f.state.window) coming
 
+-- A run over a recording with these decisions, lines and packets after those so far has those first, and then goes on from this follower
+pub record GoesOnFrom (Shows : List Symbol → Decision → Type 0) (rules : Rules) (recording coming : List Symbol) (f : Follower) (lines : List (List ℕ)) (packets : List ℕ) (more : List Decision) (all_lines : List (List ℕ)) (all_given : List ℕ) : Type 0 where
+  pub later : List (List ℕ)
+  pub rest : List ℕ
+  pub lines_are : all_lines ≡ lines ++ later
+  pub packets_are : all_given ≡ packets ++ rest
+  pub runs : RunsBy Shows rules recording f.state.standing (ahead rules f f.found coming) more later rest
+
 -- What a follower has run so far, by these decisions, with these lines and packets, in the symbols that it has taken. More
--- symbols may come (`more_come`), or none. With each run that follows it is a run over the recording
+-- symbols may come (`more_come`), or none. With each run that follows it is a run over the recording, and each run over the
+-- recording that begins with these decisions is one of these
 pub record RunSoFar (Shows : List Symbol → Decision → Type 0) (decide : List Symbol → Decision) (taken : List Symbol) (more_come : Bool) (f : Follower) (decisions : List Decision) (lines : List (List ℕ)) (packets : List ℕ) : Type 0 where
   pub last : HoldsLast 0 taken f.state.window
   pub front : IsInFront (symbols_in f.sought.mode) f.found f.state.window f.frame
   pub goes_on : (coming : List Symbol) → Follows more_come coming → (more : List Decision) (later : List (List ℕ)) (rest : List ℕ)
       → RunsBy Shows (rules_with decide f) (taken ++ coming) f.state.standing (ahead (rules_with decide f) f f.found coming) more later rest
       → IsRunBy Shows (rules_with decide f) (taken ++ coming) (decisions ++ more) (lines ++ later) (packets ++ rest)
+  pub only : (coming : List Symbol) → Follows more_come coming → (more : List Decision) (all_lines : List (List ℕ)) (all_given : List ℕ)
+      → IsRunBy Shows (rules_with decide f) (taken ++ coming) (decisions ++ more) all_lines all_given
+      → GoesOnFrom Shows (rules_with decide f) (taken ++ coming) coming f lines packets more all_lines all_given
 
 -- a new follower has run nothing
 abbrev pub RunBeginsLaw : (Shows : List Symbol → Decision → Type 0) → Type 0

@@ -3,7 +3,7 @@ use Rattle.std.specs.Prelude.{◌≡◌, ◌↔◌, ℕ, ℤ, Bool, true, false,
 use Rattle.s2_rows.specs.Rows.{Rows}
 use Rattle.s2_certfile.specs.File.{File}
 use Rattle.s2_certfile.specs.Format.{file_of_bytes}
-use Rattle.s2_check.specs.CertificateFiles.{view_of}
+use Rattle.s2_check.specs.CertificateFiles.{Suits, view_of}
 use Rattle.s2_check.specs.Cost.{cost}
 use Rattle.s2_check.specs.Views.{View}
 use Rattle.s2_check.specs.declared.verdict.Verdict.{Verdict}
@@ -42,9 +42,9 @@ terms_of rows r = record {
 abbrev pub HoldsSoft : Replayer → Type 0
 HoldsSoft r = r.soft ≡ soft_frame r.follower.sought.mode r.number r.options r.follower.frame
 
--- what shows a decision: the certificate in these bytes, or no certificate
+-- what shows a decision: the certificate in these bytes, which has the shape of the rows; or no certificate
 abbrev pub IsShownBy : Rows → Decision → (block : Option (List ℕ)) → Type 0
-IsShownBy rows d (Some block) = (file : File) × (file_of_bytes block ≡ Ok file) × (d.certificate ≡ Some (view_of rows file))
+IsShownBy rows d (Some block) = (file : File) × (file_of_bytes block ≡ Ok file) × Suits rows file × (d.certificate ≡ Some (view_of rows file))
 IsShownBy rows d None = d.certificate ≡ None
 
 -- the cost of the bits of a certificate, if there is one

@@ -7,3 +7,4 @@ pub mod Replayers
 pub mod Auditing
 pub mod Frames
 pub mod Laws
+pub mod Expected

@@ -1,4 +1,5 @@
 //! Laws about replays.
+ghost use Rattle.s2_replay.specs.Expected.{CertifiedLaw, ExpectsLastLaw, ExpectsLaw, RefusedLaw, SameBlockLaw, SameDecisionLaw, SettledLaw};
 ghost use Rattle.s2_replay.specs.Laws.{AuditBeginsLaw, AuditOverLaw, OwnReportLaw, TellsClaimLaw, TellsCutLaw, TellsEndLaw, TellsFrameLaw};
 
 /// The report of a receiver is accepted if each of its decisions is borne out: the receiver's own lines and packets are those of a
@@ -18,4 +19,16 @@ pub fn audits()
     ensures over { AuditOverLaw }
     ensures cut { TellsCutLaw }
     ensures end { TellsEndLaw }
+{}
+
+/// No other report would be accepted. What is the receiver's own and begins with what was audited so far goes on with what is found
+/// next, and the evidence of a frame determines the decision on it.
+pub fn expects()
+    ensures frame { ExpectsLaw }
+    ensures last { ExpectsLastLaw }
+    ensures settled { SettledLaw }
+    ensures certified { CertifiedLaw }
+    ensures same { SameDecisionLaw }
+    ensures refused { RefusedLaw }
+    ensures block { SameBlockLaw }
 {}
