@@ -1,28 +1,29 @@
 -- An audit, turn by turn.
 use Rattle.std.proofs.Common.{◌≡◌, ℕ, ◌+◌, ◌-◌, ◌*◌, ◌^◌, ◌<◌, ◌≤◌, min, ◌&&◌, nat_eq, Bool, true, false, List, [], ◌∷◌, ◌++◌, Option, Some, None, is_some, Result, Ok, Err, length, refl, sym, ap, subst, ◌∙◌, append-nil, append_assoc, length-append, arith, ne_eqb, inl, inr}
-use Rattle.std.specs.Prelude.{if◌then◌else◌}
+use Rattle.std.specs.Prelude.{not, if◌then◌else◌}
 use Rattle.std.specs.List.{flat_map, count_by}
 use Rattle.std.specs.Io.KnownBytes.{Appends, Consumes}
 use Rattle.std.proofs.KnownBytes.{Appends-nil, Appends-trans, Consumes-nil, Consumes-trans}
 use Rattle.std.proofs.lemmas.List.{length-map, map_push}
 use Rattle.std.proofs.lemmas.List.Concat.{flat_map-append}
-use Rattle.std.proofs.lemmas.List.Elements.{All-nil, All-push}
+use Rattle.std.proofs.lemmas.List.Elements.{All-head, All-nil, All-push}
 use Rattle.std.proofs.lemmas.List.Sums.{sum_by_push, count_by-le-length}
 use Rattle.s2_bbframe.specs.Limits.{packet_bytes}
 use Rattle.s2_mode.specs.Mode.{n_of}
+use Rattle.s2_mode.specs.Symbols.{symbols_of}
 use Rattle.s2_mode.specs.Pieces.{AppendsPart}
 use Rattle.s2_check.specs.Views.{View}
 use Rattle.s2_io.specs.declared.exit.Exit.{Exit}
 use Rattle.s2_io.specs.declared.exit.Exit.TheVariants as exits
 use Rattle.s2_io.specs.declared.fault.Fault.{Fault}
 use Rattle.s2_io.specs.declared.fault.Fault.TheVariants as faults
-use Rattle.s2_report.specs.Entries.{text_of}
+use Rattle.s2_report.specs.Entries.{IsLine, text_of}
 use Rattle.s2_report.specs.declared.entry.Entry.TheVariants as entries
 use Rattle.s2_receive.specs.Halves.{Follower}
-use Rattle.s2_receive.specs.Receiving.{begun}
+use Rattle.s2_receive.specs.Receiving.{Decision, begun}
 use Rattle.s2_replay.specs.Auditing.{AuditedFrames, AuditedSoFar}
 use Rattle.s2_replay.specs.Frames.{cost_of}
-use Rattle.s2_replay.specs.Replay.{Terms, is_known}
+use Rattle.s2_replay.specs.Replay.{IsReplay, Terms, is_known}
 use Rattle.s2_replay.proofs.AuditLemmas.{audited_none, frames_over}
 use Rattle.s2_audit.specs.Audits.{AuditsAll, EndsWith, FailsAfter, ReachesLimit, place_after}
 use Rattle.s2_audit.specs.Differences.{Differs, DiffersIf, Fails, LeavesOver, rests_of}
@@ -30,8 +31,9 @@ use Rattle.s2_audit.specs.Evidences.{Evidence, IsGiven, ReadsIf, bytes_of}
 use Rattle.s2_audit.specs.Limits.{max_lines}
 use Rattle.s2_audit.specs.Lines.{cost_text, difference_line, end_line}
 use Rattle.s2_audit.specs.Steps.{AllOver, EndIs, IsPlaced, OutcomeIs, PrintsOf, PrintsTurn, RestTurn, StandsAfter, StepIs, TurnIs, place_behind, place_for, standing_after, turn_text}
-use Rattle.s2_audit.specs.Turns.{Audited, BeginWith, Ends, IsShown, IsTold, OnlyLine, RanSoFar, Reads, Replayed, Shown, TellsCut, TellsEnd, TellsLine, all_known, counted, counts_of, decisions_of, is_most_likely, is_sole, is_unchecked, lines_of, told_by, told_line, told_lines}
+use Rattle.s2_audit.specs.Turns.{AreFirst, Audited, BeginWith, HasLeft, IsLastLine, IsRight, MayGoOn, OfAllLeft, Remains, Ends, IsShown, IsTold, OnlyLine, RanSoFar, Reads, Replayed, Shown, TellsCut, TellsEnd, TellsLine, all_known, counted, counts_of, decisions_of, is_most_likely, is_sole, lines_of, told_by, told_line, told_lines}
 use Rattle.s2_audit.specs.declared.counts.Counts.{Counts}
+use Rattle.s2_audit.proofs.OnlyLemmas.{given_same, left_frame, left_line, never, no_more}
 use Rattle.s2_audit.specs.declared.difference.Difference.{Difference}
 use Rattle.s2_audit.specs.declared.difference.Difference.TheVariants as differences
 use Rattle.s2_audit.specs.declared.place.Place.{Place}
@@ -54,11 +56,11 @@ counts_push frames s = λ i. record {
   frames = count_push (λ (x : Shown). true) frames s i;
   sole = count_push (λ (x : Shown). is_sole x.decision.verdict) frames s i;
   most_likely = count_push (λ (x : Shown). is_most_likely x.decision.verdict) frames s i;
-  unchecked = count_push (λ (x : Shown). is_unchecked (is_known x.decision)) frames s i;
+  unchecked = count_push (λ (x : Shown). not (is_known x.decision)) frames s i;
 }
 
 -- all bits are known if those so far and those of the next frame are
-known_more : (n : ℕ) (known : Bool) → (nat_eq n 0 && known) ≡ nat_eq (n + (if is_unchecked known then 1 else 0)) 0
+known_more : (n : ℕ) (known : Bool) → (nat_eq n 0 && known) ≡ nat_eq (n + (if not known then 1 else 0)) 0
 known_more n true = and_true (nat_eq n 0) ∙ ap (λ k. nat_eq k 0) (omega arith)
   where
     and_true : (b : Bool) → (b && true) ≡ b
@@ -106,15 +108,10 @@ reads_none : (a : Option (Option (List ℕ))) → ReadsIf a a []
 reads_none None = refl
 reads_none (Some a) = Consumes-nil a
 
-given_same : (a b : Option (Option (List ℕ))) (xs : List ℕ) → ReadsIf a b xs → is_some b ≡ is_some a
-given_same None None xs h = refl
-given_same None (Some b) xs h = cc
-given_same (Some a) None xs h = absurd h
-given_same (Some a) (Some b) xs h = refl
-
 reads_nothing : (t : Terms) (e : Ends) → Reads t e e [] [] []
 reads_nothing t e = record {
   report = Consumes-nil e.report;
+  whole = All-nil IsLine;
   each = All-nil (IsShown t (is_some e.evidence.codewords));
   certificates = Consumes-nil e.evidence.certificates;
   codewords = reads_none e.evidence.codewords;
@@ -125,10 +122,13 @@ module _ (t : Terms) (old mid new : Ends) (frames : List Shown) (lines : List (L
   reads_frame : (f f' : Follower) (s : Shown) → TellsLine t mid new f f' s → ReadsIf mid.packets new.packets f'.packets → Reads t old new (frames ++ s ∷ []) (lines ++ s.line ∷ []) (packets ++ f'.packets)
   reads_frame f f' s tells more = record {
     report = subst (Consumes old.report new.report) (sym (text_push lines s.line)) (Consumes-trans old.report mid.report new.report (text_of lines) (s.line ++ 10 ∷ []) reads.report tells.report);
+    whole = All-push IsLine lines s.line reads.whole tells.whole;
     each = All-push (IsShown t (is_some old.evidence.codewords)) frames s reads.each (record {
       certificate = tells.certificate;
+      sized = tells.takes.sized;
       codeword = subst (λ b. IsGiven (n_of t.mode) b s.packed) (given_same old.evidence.codewords mid.evidence.codewords (flat_map (λ (x : Shown). bytes_of x.packed) frames) reads.codewords) tells.takes.codeword.1;
       word = tells.word;
+      unknown = tells.unknown;
     });
     certificates = subst (Consumes old.evidence.certificates new.evidence.certificates) (sym (flat_push (λ (x : Shown). bytes_of x.block) frames s))
         (Consumes-trans old.evidence.certificates mid.evidence.certificates new.evidence.certificates (flat_map (λ (x : Shown). bytes_of x.block) frames) (bytes_of s.block) reads.certificates tells.takes.certificate);
@@ -140,6 +140,7 @@ module _ (t : Terms) (old mid new : Ends) (frames : List Shown) (lines : List (L
   reads_line : (line : List ℕ) → OnlyLine mid new line → Reads t old new frames (lines ++ line ∷ []) packets
   reads_line line only = record {
     report = subst (Consumes old.report new.report) (sym (text_push lines line)) (Consumes-trans old.report mid.report new.report (text_of lines) (line ++ 10 ∷ []) reads.report only.report);
+    whole = All-push IsLine lines line reads.whole only.whole;
     each = reads.each;
     certificates = subst (λ (e : Evidence). Consumes old.evidence.certificates e.certificates (flat_map (λ (x : Shown). bytes_of x.block) frames)) (sym only.evidence) reads.certificates;
     codewords = subst (λ (e : Evidence). ReadsIf old.evidence.codewords e.codewords (flat_map (λ (x : Shown). bytes_of x.packed) frames)) (sym only.evidence) reads.codewords;
@@ -150,6 +151,7 @@ module _ (t : Terms) (old mid new : Ends) (frames : List Shown) (lines : List (L
   reads_over : AllOver (rests_of mid) (rests_of new) → Reads t old new frames lines packets
   reads_over over = record {
     report = subst (Consumes old.report new.report) (append-nil (text_of lines)) (Consumes-trans old.report mid.report new.report (text_of lines) [] reads.report over.report.0);
+    whole = reads.whole;
     each = reads.each;
     certificates = subst (Consumes old.evidence.certificates new.evidence.certificates) (append-nil _) (Consumes-trans old.evidence.certificates mid.evidence.certificates new.evidence.certificates (flat_map (λ (x : Shown). bytes_of x.block) frames) [] reads.certificates over.certificates.0);
     codewords = subst (ReadsIf old.evidence.codewords new.evidence.codewords) (append-nil _) (reads_if old.evidence.codewords mid.evidence.codewords new.evidence.codewords (flat_map (λ (x : Shown). bytes_of x.packed) frames) [] reads.codewords over.codewords.0);
@@ -198,6 +200,99 @@ module _ (t : Terms) (old mid new : Ends) (f f' : Follower) (frames : List Shown
     reads = reads_line t old mid new frames lines packets a.reads line tells.only;
   }
 
+-- ---- what files as they should be have left
+
+-- at the beginning all of it
+first_remains : (t : Terms) (e : Ends) (f : Follower) → f.state ≡ begun → f.found ≡ None → (recording : List ℕ) (all : List Shown) (lines : List (List ℕ)) (given : List ℕ) → IsRight t e recording all lines given
+    → Remains t recording e f true [] [] [] all lines given
+first_remains t e f state none recording all lines given right = record {
+  so_far = inl (subst (λ left. AuditedSoFar t (Some recording) left f true [] [] []) (sym right.symbols) (audited_none t (Some recording) f state none));
+  replay = right.replay;
+  left = right.left;
+  all_known = refl;
+  no_figures = right.no_figures;
+}
+
+-- after the line of the end nothing
+left_end : (t : Terms) (mid new : Ends) (f : Follower) (line : List ℕ) → OfAllLeft t mid f (IsLastLine line) → OnlyLine mid new line
+    → (recording : List ℕ) (known : Bool) (decisions : List Decision) (lines : List (List ℕ)) (packets : List ℕ) (more : List Shown) (later : List (List ℕ)) (rest : List ℕ)
+    → Remains t recording mid f known decisions lines packets more later rest → HasLeft t new [] [] []
+left_end t mid new f line next only recording known decisions lines packets more later rest r =
+    let (none, last, no_packet) = next recording known decisions lines packets more later rest r in
+    let one = subst (λ ms. HasLeft t mid ms later rest) none r.left in
+    let two = subst (λ ls. HasLeft t mid [] ls rest) last one in
+    left_line t mid new line [] [] (subst (λ ps. HasLeft t mid [] (line ∷ []) ps) no_packet two) only
+
+module _ (t : Terms) (old mid new : Ends) (f f' : Follower) (frames : List Shown) (lines : List (List ℕ)) (packets : List ℕ) (first : AreFirst t old mid f frames lines packets) where
+  abbrev known : Bool
+  known = all_known (counts_of frames)
+
+  abbrev ds : List Decision
+  ds = decisions_of frames
+
+  -- after a frame the others
+  first_frame : (s : Shown) → TellsLine t mid new f f' s → ReadsIf mid.packets new.packets f'.packets → AreFirst t old new f' (frames ++ s ∷ []) (lines ++ s.line ∷ []) (packets ++ f'.packets)
+  first_frame s tells reads recording all all_lines given right =
+      let (more, later, rest, r) = first recording all all_lines given right in
+      let b = tells.only recording known ds lines packets more later rest r in
+      let left_ms = subst (λ ms. HasLeft t mid ms later rest) b.frames_are r.left in
+      let left_ls = subst (λ ls. HasLeft t mid (s ∷ b.frames) ls rest) b.lines_are left_ms in
+      let left = subst (λ ps. HasLeft t mid (s ∷ b.frames) (s.line ∷ b.lines) ps) b.packets_are left_ls in
+      let s_known : is_known s.decision ≡ true = All-head (λ (x : Shown). is_known x.decision ≡ true) s b.frames left.known in
+      let decisions_are : ds ++ decisions_of more ≡ decisions_of (frames ++ s ∷ []) ++ decisions_of b.frames =
+      ap (λ ms. ds ++ decisions_of ms) b.frames_are ∙ sym (append_assoc ds (s.decision ∷ []) (decisions_of b.frames)) ∙ ap (λ x. x ++ decisions_of b.frames) (decisions_push frames s) in
+      let lines_are : lines ++ later ≡ (lines ++ s.line ∷ []) ++ b.lines = ap (λ l. lines ++ l) b.lines_are ∙ sym (append_assoc lines (s.line ∷ []) b.lines) in
+      let packets_are : packets ++ rest ≡ (packets ++ f'.packets) ++ b.packets = ap (λ l. packets ++ l) b.packets_are ∙ sym (append_assoc packets f'.packets b.packets) in
+      let replay_ds = subst (λ x. IsReplay t (symbols_of recording) x (lines ++ later) (packets ++ rest)) decisions_are r.replay in
+      let replay_ls = subst (λ x. IsReplay t (symbols_of recording) (decisions_of (frames ++ s ∷ []) ++ decisions_of b.frames) x (packets ++ rest)) lines_are replay_ds in (
+        b.frames,
+        b.lines,
+        b.packets,
+        record {
+          so_far = inl (told more b.frames b.frames_are later r.so_far);
+          replay = subst (λ x. IsReplay t (symbols_of recording) (decisions_of (frames ++ s ∷ []) ++ decisions_of b.frames) ((lines ++ s.line ∷ []) ++ b.lines) x) packets_are replay_ls;
+          left = left_frame t mid new s b.frames b.lines f'.packets b.packets left tells.report tells.takes reads;
+          all_known = sym (known_push frames s) ∙ and_true known (is_known s.decision) r.all_known s_known;
+          no_figures = r.no_figures;
+        },
+      )
+    where
+      and_true : (x y : Bool) → x ≡ true → y ≡ true → (x && y) ≡ true
+      and_true true y p q = q
+      and_true false y p q = p
+
+      told : (more later_frames : List Shown) → more ≡ s ∷ later_frames → (later : List (List ℕ)) → MayGoOn t recording mid.symbols f known ds lines packets more later
+          → AuditedSoFar t (Some recording) new.symbols f' (all_known (counts_of (frames ++ s ∷ []))) (decisions_of (frames ++ s ∷ [])) (lines ++ s.line ∷ []) (packets ++ f'.packets)
+      told more later_frames is later (inr (ended, none, last)) = absurd (cc)
+      told more later_frames is later (inl so_far) =
+          let one = tells.goes (Some recording) known ds lines packets so_far in
+          let two = subst (λ k. AuditedSoFar t (Some recording) new.symbols f' k (ds ++ s.decision ∷ []) (lines ++ s.line ∷ []) (packets ++ f'.packets)) (known_push frames s) one in
+          subst (λ x. AuditedSoFar t (Some recording) new.symbols f' (all_known (counts_of (frames ++ s ∷ []))) x (lines ++ s.line ∷ []) (packets ++ f'.packets)) (decisions_push frames s) two
+
+  -- after a cut frame the line of the end
+  first_cut : (line : List ℕ) → TellsCut t mid new f f' known line → AreFirst t old new f' frames (lines ++ line ∷ []) packets
+  first_cut line tells recording all all_lines given right =
+      let (more, later, rest, r) = first recording all all_lines given right in
+      let (none, (last, two)) = tells.next recording known ds lines packets more later rest r in
+      let left = subst (λ ls. HasLeft t mid [] ls rest) two (subst (λ ms. HasLeft t mid ms later rest) none r.left) in
+      let lines_are : lines ++ later ≡ (lines ++ line ∷ []) ++ last ∷ [] = ap (λ l. lines ++ l) two ∙ sym (append_assoc lines (line ∷ []) (last ∷ [])) in
+      let replay = subst (λ ms. IsReplay t (symbols_of recording) (ds ++ decisions_of ms) (lines ++ later) (packets ++ rest)) none r.replay in (
+        [],
+        last ∷ [],
+        rest,
+        record {
+          so_far = inr (tells.goes (Some recording) ds lines packets (ended more later r.so_far), refl, (last, refl));
+          replay = subst (λ x. IsReplay t (symbols_of recording) (ds ++ []) x (packets ++ rest)) lines_are replay;
+          left = left_line t mid new line (last ∷ []) rest left tells.only;
+          all_known = r.all_known;
+          no_figures = r.no_figures;
+        },
+      )
+    where
+      ended : (more : List Shown) (later : List (List ℕ)) → MayGoOn t recording mid.symbols f known ds lines packets more later → AuditedFrames t (Some recording) mid.symbols f known ds lines packets
+      ended more later (inl so_far) = frames_over t (Some recording) mid.symbols f known ds lines packets so_far
+      ended more later (inr (frames', none, last)) = frames'
+
 -- ---- turns
 
 -- so many lines were audited, and this is where the audit stands
@@ -206,6 +301,7 @@ pub record Progress (t : Terms) (n : ℕ) (old new : Ends) (f : Follower) (s : S
   pub lines : List (List ℕ)
   pub packets : List ℕ
   pub audited : Audited t old new f frames lines packets
+  pub first : AreFirst t old new f frames lines packets
   pub number : length lines ≡ n
   pub counts : s.counts ≡ counts_of frames
   pub bytes : s.bytes ≡ min (length packets) (2 ^ 64 - 1)
@@ -217,6 +313,7 @@ begins t e f s o state none is = record {
   lines = [];
   packets = [];
   audited = record { ran = inl (refl, audited_none t e.symbols f state none); begin = ([], refl); reads = reads_nothing t e };
+  first = λ recording all all_lines given right. (all, all_lines, given, first_remains t e f state none recording all all_lines given right);
   number = refl;
   counts = ap (λ (x : Standing). x.counts) is;
   bytes = ap (λ (x : Standing). x.bytes) is ∙ omega arith;
@@ -248,6 +345,7 @@ module _ (t : Terms) (n : ℕ) (old mid new : Ends) (f f' : Follower) (s : Stand
         lines = p.lines ++ x.line ∷ [];
         packets = p.packets ++ f'.packets;
         audited = audited_frame t old mid new f f' p.frames p.lines p.packets p.audited x tells reads;
+        first = first_frame t old mid new f f' p.frames p.lines p.packets p.first x tells reads;
         number = length-append p.lines (x.line ∷ []) ∙ ap (λ k. k + 1) p.number;
         counts = ap (λ (y : Standing). y.counts) stands ∙ verdict ∙ sym (counts_push p.frames x);
         bytes = ap (λ (y : Standing). y.bytes) stands ∙ bytes_are;
@@ -264,6 +362,7 @@ module _ (t : Terms) (n : ℕ) (old mid new : Ends) (f f' : Follower) (s : Stand
     lines = p.lines ++ line ∷ [];
     packets = p.packets;
     audited = audited_cut t old mid new f f' p.frames p.lines p.packets p.audited line (subst (λ k. TellsCut t mid new f f' k line) known_is tells);
+    first = first_cut t old mid new f f' p.frames p.lines p.packets p.first line (subst (λ k. TellsCut t mid new f f' k line) known_is tells);
     number = length-append p.lines (line ∷ []) ∙ ap (λ k. k + 1) p.number;
     counts = ap (λ (y : Standing). y.counts) stands ∙ p.counts;
     bytes = ap (λ (y : Standing). y.bytes) stands ∙ p.bytes;
@@ -306,6 +405,9 @@ module _ (t : Terms) (n : ℕ) (old mid new : Ends) (f f' : Follower) (s : Stand
           differs = inr (whole, subst (λ q. LeavesOver (rests_of h.mid) (rests_of new) q difference) behind h.rest);
         },
         refl,
+        λ recording all all_lines given right.
+            (let (more, later, rest, r) = p.first recording all all_lines given right in
+            no_more t h.mid new (place_behind (place_for n s)) difference (left_end t mid h.mid f h.line h.tells.next h.tells.only recording (all_known (counts_of p.frames)) (decisions_of p.frames) p.lines p.packets more later rest r) h.rest),
       )
 
   -- or something differs before
@@ -321,6 +423,9 @@ module _ (t : Terms) (n : ℕ) (old mid new : Ends) (f f' : Follower) (s : Stand
       differs = inl (f, f', p.audited, subst (λ q. Differs t mid new f f' q difference) place_is h, refl);
     },
     refl,
+    λ recording all all_lines given right.
+        (let (more, later, rest, r) = p.first recording all all_lines given right in
+        never t recording mid new f f' (all_known (counts_of p.frames)) (decisions_of p.frames) p.lines p.packets more later rest r (place_for n s) known_is difference h),
   )
 
   differs : (difference : Difference) → OutcomeIs t mid new f f' (place_for n s) (Ok (turns.Differs difference)) → EndsWith t old new exits.No (told_lines p.frames ++ difference_line f'.packets difference)
@@ -452,7 +557,7 @@ few_counts t n old new f s o o' p few =
     let an : (counts_of p.frames).frames ≤ length p.frames = count_by-le-length (λ (x : Shown). true) p.frames in
     let bn : (counts_of p.frames).sole ≤ length p.frames = count_by-le-length (λ (x : Shown). is_sole x.decision.verdict) p.frames in
     let cn : (counts_of p.frames).most_likely ≤ length p.frames = count_by-le-length (λ (x : Shown). is_most_likely x.decision.verdict) p.frames in
-    let dn : (counts_of p.frames).unchecked ≤ length p.frames = count_by-le-length (λ (x : Shown). is_unchecked (is_known x.decision)) p.frames in
+    let dn : (counts_of p.frames).unchecked ≤ length p.frames = count_by-le-length (λ (x : Shown). not (is_known x.decision)) p.frames in
     let long : length p.lines ≡ n = p.number in
     let less : n < 1099511627776 = few in
     (omega (arith, a, an, all, same, long, less), omega (arith, b, bn, all, same, long, less), omega (arith, c, cn, all, same, long, less), omega (arith, d, dn, all, same, long, less))

@@ -1,5 +1,5 @@
 -- The audit of a frame by its certificate, beside its record of the codeword.
-use Rattle.std.proofs.Common.{◌≡◌, ◌≢◌, ℕ, Bool, true, false, List, Option, Some, None, Ok, refl, sym, subst, ◌∙◌}
+use Rattle.std.proofs.Common.{◌≡◌, ◌≢◌, ℕ, Bool, true, false, List, length, Option, Some, None, Ok, refl, sym, ap, subst, ◌∙◌}
 use Rattle.s2_bits.specs.Bits.{bits_of_bytes}
 use Rattle.s2_mode.specs.Mode.{n_of}
 use Rattle.s2_rows.specs.Rows.{Rows}
@@ -9,6 +9,7 @@ use Rattle.s2_receive.specs.declared.window.Next.{Next}
 use Rattle.s2_replay.specs.Frames.{AuditsFrame, terms_of}
 use Rattle.s2_replay.specs.Replayers.{Replayer}
 use Rattle.s2_replay.specs.declared.frames.Audited.{Audited}
+use Rattle.s2_audit.specs.Limits.{certificate_bytes}
 use Rattle.s2_replay.specs.declared.frames.Audited.TheVariants as audits
 use Rattle.s2_audit.specs.Evidences.{Evidence, IsWordOf, Takes, TakesCodeword, TakesRecord}
 use Rattle.s2_audit.specs.FrameAnswers.{Answers, AnswersWith, ByBlock, FrameAuditor, HasOtherWord, IsSettled, terms_by}
@@ -23,17 +24,17 @@ module _ (a new : FrameAuditor) (found : Next) (verdict : Verdict) (line : List 
   AuditsBy audited = AuditsFrame (terms_by a) a.replayer.follower new.replayer.follower found (Some block) a.replayer.soft new.word line audited
 
   -- with the record of a codeword, or without one
-  module _ (packed : Option (List ℕ)) (takes : Takes (n_of a.replayer.follower.sought.mode) before after (Some block) packed) where
+  module _ (packed : Option (List ℕ)) (takes : Takes a.replayer.follower.sought.mode before after (Some block) packed) where
     judged_as : (audited : Audited) → AuditsBy audited → (IsSettled audited → IsWordOf packed new.word) → Answers a new found verdict line before after (Ok (answers.Judged audited))
-    judged_as (audits.Told v c) h is = (Some block, packed, new.word, takes, is tt, h)
-    judged_as (audits.Differs step) h is = (Some block, packed, new.word, takes, is tt, h)
+    judged_as (audits.Told v c) h is = (Some block, packed, new.word, takes, is tt, certified, tt, h)
+    judged_as (audits.Differs step) h is = (Some block, packed, new.word, takes, is tt, certified, tt, h)
     judged_as (audits.Refused refusal) h is = by_packed packed takes
       where
-        by_packed : (x : Option (List ℕ)) → Takes (n_of a.replayer.follower.sought.mode) before after (Some block) x → Answers a new found verdict line before after (Ok (answers.Judged (audits.Refused refusal)))
-        by_packed None takes' = (Some block, None, new.word, takes', tt, h)
-        by_packed (Some bytes) takes' = (Some block, Some bytes, bits_of_bytes bytes, takes', refl, h)
+        by_packed : (x : Option (List ℕ)) → Takes a.replayer.follower.sought.mode before after (Some block) x → Answers a new found verdict line before after (Ok (answers.Judged (audits.Refused refusal)))
+        by_packed None takes' = (Some block, None, new.word, takes', tt, certified, tt, h)
+        by_packed (Some bytes) takes' = (Some block, Some bytes, bits_of_bytes bytes, takes', refl, certified, tt, h)
 
-  other_word : (audited : Audited) (bytes : List ℕ) → Takes (n_of a.replayer.follower.sought.mode) before after (Some block) (Some bytes) → AuditsBy audited → IsSettled audited → new.word ≢ bits_of_bytes bytes
+  other_word : (audited : Audited) (bytes : List ℕ) → Takes a.replayer.follower.sought.mode before after (Some block) (Some bytes) → AuditsBy audited → IsSettled audited → new.word ≢ bits_of_bytes bytes
       → HasOtherWord (terms_by a) before after a.replayer.follower.frame
   other_word (audits.Told v c) bytes takes (d, step, settles, (v_is, bits, cost_is), own) settled other =
       record { d = d; block = block; packed = bytes; borne = settles.borne; shown = settles.shown; takes = takes; other = λ e. other (sym bits ∙ e) }
@@ -54,8 +55,11 @@ answers_certified old mid new found verdict line before after size recorded audi
         let one = subst (λ (r : Replayer). AuditsFrame (terms_of mid.rows r) r.follower new.replayer.follower found (Some block) r.soft new.word line audited) replayer audits' in
         subst (λ (m : Rows). AuditsFrame (terms_of m old.replayer) old.replayer.follower new.replayer.follower found (Some block) old.replayer.soft new.word line audited) rows one
 
-    taken : (packed : Option (List ℕ)) → TakesCodeword (n_of old.replayer.follower.sought.mode) before.codewords after.codewords packed → Takes (n_of old.replayer.follower.sought.mode) before after (Some block) packed
-    taken packed takes' = record { certificate = read; codeword = takes' }
+    sized : length block ≡ certificate_bytes old.replayer.follower.sought.mode
+    sized = long ∙ ap (λ (r : Replayer). certificate_bytes r.follower.sought.mode) replayer
+
+    taken : (packed : Option (List ℕ)) → TakesCodeword (n_of old.replayer.follower.sought.mode) before.codewords after.codewords packed → Takes old.replayer.follower.sought.mode before after (Some block) packed
+    taken packed takes' = record { certificate = read; sized = sized; codeword = takes' }
 
     by_recorded : (r : Recorded) → TakesRecord (n_of old.replayer.follower.sought.mode) size before.codewords after.codewords mid.recorded (Ok r) → (r ≡ records.Missing → ⊥)
         → AnswersWith new.word new.recorded r audited answer → Answers old new found verdict line before after (Ok answer)

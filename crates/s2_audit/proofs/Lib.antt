@@ -1,4 +1,5 @@
 pub mod FrameLemmas
+pub mod OnlyLemmas
 pub mod TurnLemmas
 pub mod PrintLemmas
 pub mod AuditLemmas

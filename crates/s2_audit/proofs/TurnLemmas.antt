@@ -2,7 +2,7 @@
 use Rattle.std.proofs.Common.{◌≡◌, ◌⊎◌, ℕ, ◌&&◌, ℤ, Bool, true, false, if◌then◌else◌, List, [], ◌∷◌, ◌++◌, Option, Some, None, is_some, Result, Ok, Err, refl, sym, subst, ◌∙◌, inl, inr}
 use Rattle.std.specs.Io.KnownBytes.{Consumes}
 use Rattle.std.proofs.KnownBytes.{Consumes-nil}
-use Rattle.s2_mode.specs.Mode.{n_of}
+use Rattle.s2_mode.specs.Mode.{Mode, n_of}
 use Rattle.s2_check.specs.Verdicts.{is_certified}
 use Rattle.s2_check.specs.declared.verdict.Verdict.{Verdict}
 use Rattle.s2_check.specs.declared.verdict.Verdict.TheVariants.{Broken}
@@ -34,8 +34,8 @@ use Rattle.s2_replay.specs.declared.frames.Audited.TheVariants as audits
 use Rattle.s2_replay.specs.declared.frames.AuditedClaim.{AuditedClaim}
 use Rattle.s2_replay.specs.declared.frames.AuditedLast.{AuditedLast}
 use Rattle.s2_replay.proofs.Told.{tells_claim, tells_cut, tells_end, tells_frame}
-use Rattle.s2_audit.specs.Differences.{ClaimsOther, Differs, DiffersIf, Fails, GivesLine, LacksAt, Meets, ReadsLine}
-use Rattle.s2_audit.specs.Evidences.{Evidence, IsWordOf, ReadsIf, Takes, TakesCodeword, reason_for}
+use Rattle.s2_audit.specs.Differences.{ClaimsOther, Differs, DiffersIf, Fails, GivesLine, HasOtherLine, IsOtherLine, LacksAt, Meets, ReadsLine}
+use Rattle.s2_audit.specs.Evidences.{Evidence, IsUnknownIf, IsWordOf, ReadsIf, Takes, TakesCodeword, reason_for}
 use Rattle.s2_audit.specs.FrameAnswers.{Answers, FrameAuditor, terms_by}
 use Rattle.s2_audit.specs.Steps.{ComparesIf, ComparesTurn, Judges, JudgesFrame, JudgesLast, TurnBy, TurnIs, no_frame_at, other_last, told_last, turn_by}
 use Rattle.s2_audit.specs.Turns.{Ends, IsTold, OnlyLine, Shown, TellsLine}
@@ -48,6 +48,7 @@ use Rattle.s2_audit.specs.declared.place.Place.{Place}
 use Rattle.s2_audit.specs.declared.turn.Told.{Told}
 use Rattle.s2_audit.specs.declared.turn.Turn.{Turn}
 use Rattle.s2_audit.specs.declared.turn.Turn.TheVariants as turns
+use Rattle.s2_audit.proofs.OnlyLemmas.{begins_by, cut_line, last_line, no_claim_of}
 
 -- a turn, but for the packets of a frame
 abbrev pub JudgedIs : Terms → (old new : Ends) → (f f' : Follower) → Place → Result Turn Fault → Type 0
@@ -84,7 +85,7 @@ module _ (old new : Ends) (f : Follower) (am an : FrameAuditor) (line : List ℕ
   abbrev f' : Follower
   f' = an.replayer.follower
 
-  module _ (at : ℕ) (skipped : Gap) (meets : Meets old new f mid (next.Frame at skipped) line entry) (closing : EndsAfterCut f.state.phase (Some (next.Frame at skipped))) (soft : HoldsSoft am.replayer) where
+  module _ (at : ℕ) (skipped : Gap) (meets : Meets t old new f mid (next.Frame at skipped) line entry) (closing : EndsAfterCut f.state.phase (Some (next.Frame at skipped))) (soft : HoldsSoft am.replayer) where
     abbrev found : Next
     found = next.Frame at skipped
 
@@ -93,10 +94,12 @@ module _ (old new : Ends) (f : Follower) (am an : FrameAuditor) (line : List ℕ
 
     -- a frame is told by its evidence
     told_evidence : (frame : Frame) (block packed : Option (List ℕ)) (word : List Bool) (verdict : Verdict) (paid : Option ℤ) → entry ≡ Some (entries.Frame frame)
-        → Takes (n_of t.mode) old.evidence new.evidence block packed → IsWordOf packed word → AuditsFrame t mid f' found block am.replayer.soft word line (audits.Told verdict paid)
+        → Takes t.mode old.evidence new.evidence block packed → IsWordOf packed word → is_certified frame.verdict ≡ is_some block → IsUnknownIf block packed word
+        → AuditsFrame t mid f' found block am.replayer.soft word line (audits.Told verdict paid)
         → JudgedIs t old new f f' p (Ok (turns.Frame (record { frame = frame; verdict = verdict; cost = paid; known = true })))
-    told_evidence frame block packed word verdict paid says takes is_word (d, step, settles, (v_is, bits, cost_is), own) =
-        let gives = subst (λ e. GivesLine old.report new.report line e) says meets.gives in (
+    told_evidence frame block packed word verdict paid says takes is_word certified unknown (d, step, settles, (v_is, bits, cost_is), own) =
+        let meets_frame = subst (λ e. Meets t old new f mid found line e) says meets in
+        let gives = meets_frame.gives in (
           record { decision = d; line = line; block = block; packed = packed },
           record {
             goes = λ whole known decisions lines packets so_far.
@@ -108,6 +111,10 @@ module _ (old new : Ends) (f : Follower) (am an : FrameAuditor) (line : List ℕ
             takes = takes;
             certificate = settles.shown;
             word = word_is packed word d.bits bits is_word;
+            unknown = subst (IsUnknownIf block packed) (sym bits) unknown;
+            whole = gives.0;
+            only = λ recording known decisions lines packets more later rest r.
+                begins_by t recording old new f mid f' line known decisions lines packets more later rest r at skipped frame meets_frame block packed takes certified d step (word_is packed word d.bits bits is_word) (subst (IsUnknownIf block packed) (sym bits) unknown) settles;
           },
           record { verdict = v_is; known = settles.known; paid = cost_is; entry = gives.2 },
         )
@@ -117,8 +124,9 @@ module _ (old new : Ends) (f : Follower) (am an : FrameAuditor) (line : List ℕ
         → AuditsClaim mid f' found frame.verdict line claim → claim.told ≡ true → JudgedIs t old new f f' p (Ok (turns.Frame (record { frame = frame; verdict = frame.verdict; cost = None; known = false })))
     told_claim frame claim says uncertified none same audits' told =
         let d = claimed_decision frame.verdict claim.lost in
-        let gives = subst (λ e. GivesLine old.report new.report line e) says meets.gives in
-        let takes_old : Takes (n_of t.mode) old.evidence old.evidence None None = takes_none (n_of t.mode) old.evidence none in (
+        let meets_frame = subst (λ e. Meets t old new f mid found line e) says meets in
+        let gives = meets_frame.gives in
+        let takes_old : Takes t.mode old.evidence old.evidence None None = takes_none t.mode old.evidence none in (
           record { decision = d; line = line; block = None; packed = None },
           record {
             goes = λ whole known decisions lines packets so_far.
@@ -127,17 +135,20 @@ module _ (old new : Ends) (f : Follower) (am an : FrameAuditor) (line : List ℕ
             not_closing = frame_open;
             none = audits'.settles.none;
             report = gives.1;
-            takes = subst (λ e. Takes (n_of t.mode) old.evidence e None None) (sym same) takes_old;
+            takes = subst (λ e. Takes t.mode old.evidence e None None) (sym same) takes_old;
             certificate = refl;
             word = tt;
+            unknown = refl;
+            whole = gives.0;
+            only = λ recording known decisions lines packets more later rest r. absurd (no_claim_of t recording old new f mid f' line known decisions lines packets more later rest r at skipped frame meets_frame uncertified none);
           },
           record { verdict = refl; known = refl; paid = refl; entry = gives.2 },
         )
       where
-        takes_none : (n : ℕ) (e : Evidence) → e.codewords ≡ None → Takes n e e None None
-        takes_none n e none = record { certificate = Consumes-nil e.certificates; codeword = without e.codewords none }
+        takes_none : (m : Mode) (e : Evidence) → e.codewords ≡ None → Takes m e e None None
+        takes_none m e none = record { certificate = Consumes-nil e.certificates; sized = tt; codeword = without e.codewords none }
           where
-            without : (w : Option (Option (List ℕ))) → w ≡ None → TakesCodeword n w w None
+            without : (w : Option (Option (List ℕ))) → w ≡ None → TakesCodeword (n_of m) w w None
             without None is = (refl, refl)
             without (Some left) is = cc
 
@@ -146,16 +157,16 @@ module _ (old new : Ends) (f : Follower) (am an : FrameAuditor) (line : List ℕ
     lacks frame reason says h = (mid, found, line, entry, meets, (refl, refl, subst (λ e. LacksAt t old new mid found e reason) (sym says) h))
 
     refuses : (frame : Frame) (refusal : Refusal) (block packed : Option (List ℕ)) (word : List Bool) → entry ≡ Some (entries.Frame frame)
-        → Takes (n_of t.mode) old.evidence new.evidence block packed → AuditsFrame t mid f' found block am.replayer.soft word line (audits.Refused refusal)
+        → Takes t.mode old.evidence new.evidence block packed → is_certified frame.verdict ≡ is_some block → AuditsFrame t mid f' found block am.replayer.soft word line (audits.Refused refusal)
         → Differs t old new f f' p (differences.Frame p.frame at (reason_for refusal))
-    refuses frame refusal None packed word says takes h = absurd h
-    refuses frame refusals.OtherValues (Some block) packed word says takes (shows, same) =
-        lacks frame reasons.OtherValues says (refusals.OtherValues, block, packed, refl, takes, subst (λ xs. Shows t.rows xs [] block (shown.Refused refusals.OtherValues)) soft shows)
-    refuses frame refusals.NotAccepted (Some block) packed word says takes (shows, same) =
-        lacks frame reasons.NotAccepted says (refusals.NotAccepted, block, packed, refl, takes, subst (λ xs. Shows t.rows xs [] block (shown.Refused refusals.NotAccepted)) soft shows)
+    refuses frame refusal None packed word says takes certified h = absurd h
+    refuses frame refusals.OtherValues (Some block) packed word says takes certified (shows, same) =
+        lacks frame reasons.OtherValues says (certified, refusals.OtherValues, block, packed, refl, takes, subst (λ xs. Shows t.rows xs [] block (shown.Refused refusals.OtherValues)) soft shows)
+    refuses frame refusals.NotAccepted (Some block) packed word says takes certified (shows, same) =
+        lacks frame reasons.NotAccepted says (certified, refusals.NotAccepted, block, packed, refl, takes, subst (λ xs. Shows t.rows xs [] block (shown.Refused refusals.NotAccepted)) soft shows)
 
     -- the report has no line of it
-    no_frame : ClaimsOther mid f' found line entry → Differs t old new f f' p (differences.NoFrame p.line p.frame at)
+    no_frame : ClaimsOther mid f' found old.evidence.codewords line entry → Differs t old new f f' p (differences.NoFrame p.line p.frame at)
     no_frame h = (mid, found, line, entry, meets, (refl, refl, refl, h))
 
     claimed : (frame : Frame) (claim : AuditedClaim) → entry ≡ Some (entries.Frame frame) → is_certified frame.verdict ≡ false → old.evidence.codewords ≡ None → new.evidence ≡ old.evidence
@@ -163,7 +174,7 @@ module _ (old new : Ends) (f : Follower) (am an : FrameAuditor) (line : List ℕ
         → JudgedIs t old new f f' p (Ok (if b then turns.Frame (record { frame = frame; verdict = frame.verdict; cost = None; known = false }) else no_frame_at p at))
     claimed frame claim says uncertified none same audits' true told = told_claim frame claim says uncertified none same audits' told
     claimed frame claim says uncertified none same audits' false told =
-        no_frame (subst (λ e. ClaimsOther mid f' found line e) (sym says) (uncertified, (claim, audits', λ yes. (let never : true ≡ false = sym yes ∙ told in absurd (cc)))))
+        no_frame (subst (λ e. ClaimsOther mid f' found old.evidence.codewords line e) (sym says) (uncertified, none, (claim, audits', λ yes. (let never : true ≡ false = sym yes ∙ told in absurd (cc)))))
 
     -- by its answer
     answered : (frame : Frame) (answer : FrameAnswer) → entry ≡ Some (entries.Frame frame) → Answers am an found frame.verdict line old.evidence new.evidence (Ok answer)
@@ -171,10 +182,22 @@ module _ (old new : Ends) (f : Follower) (am an : FrameAuditor) (line : List ℕ
     answered frame answers.NoCodeword says h = lacks frame reasons.NoCodeword says h.0
     answered frame answers.NoCertificate says (certified, ends, takes) = lacks frame reasons.NoCertificate says (certified, ends.0, ends.1)
     answered frame answers.OtherWord says h = lacks frame reasons.OtherWord says h
-    answered frame (answers.Judged (audits.Refused refusal)) says (block, packed, word, takes, is_word, h) = refuses frame refusal block packed word says takes h
-    answered frame (answers.Judged (audits.Differs step)) says (block, packed, word, takes, is_word, (d, settles, bits, other)) =
-        (mid, found, line, entry, meets, (refl, refl, inl (record { d = d; block = block; settles = settles; other = other })))
-    answered frame (answers.Judged (audits.Told verdict paid)) says (block, packed, word, takes, is_word, h) = told_evidence frame block packed word verdict paid says takes is_word h
+    answered frame (answers.Judged (audits.Refused refusal)) says (block, packed, word, takes, is_word, certified, unknown, h) = refuses frame refusal block packed word says takes certified h
+    answered frame (answers.Judged (audits.Differs step)) says (block, packed, word, takes, is_word, certified, unknown, (d, settles, bits, other)) =
+        let differs : HasOtherLine t mid f' found frame.verdict line old.evidence new.evidence step = record {
+          is = tt;
+          d = d;
+          block = block;
+          packed = packed;
+          takes = takes;
+          certified = certified;
+          word = word_is packed word d.bits bits is_word;
+          unknown = subst (IsUnknownIf block packed) (sym bits) unknown;
+          settles = settles;
+          other = other;
+        } in
+        (mid, found, line, entry, meets, (refl, refl, inl (subst (λ e. IsOtherLine t mid f' found line e old.evidence new.evidence step) (sym says) differs)))
+    answered frame (answers.Judged (audits.Told verdict paid)) says (block, packed, word, takes, is_word, certified, unknown, h) = told_evidence frame block packed word verdict paid says takes is_word certified unknown h
     answered frame (answers.Claimed claim) says (uncertified, none, same, h) = claimed frame claim says uncertified none same h claim.told refl
 
     answer_fails : (frame : Frame) (fault : Fault) → Answers am an found frame.verdict line old.evidence new.evidence (Err fault) → Fails t p.line old new fault
@@ -196,8 +219,8 @@ module _ (old new : Ends) (f : Follower) (am an : FrameAuditor) (line : List ℕ
     pub frame_judged : (result : Result Turn Fault) → JudgesFrame am an found at entry line p old.evidence new.evidence result → JudgedIs t old new f f' p result
     frame_judged result h = by_entry entry refl h
       where
-        other : (e : Option Entry) → entry ≡ e → ClaimsOther mid f' found line e → result ≡ Ok (no_frame_at p at) → JudgedIs t old new f f' p result
-        other e is claims made = subst (JudgedIs t old new f f' p) (sym made) (no_frame (subst (λ x. ClaimsOther mid f' found line x) (sym is) claims))
+        other : (e : Option Entry) → entry ≡ e → ClaimsOther mid f' found old.evidence.codewords line e → result ≡ Ok (no_frame_at p at) → JudgedIs t old new f f' p result
+        other e is claims made = subst (JudgedIs t old new f f' p) (sym made) (no_frame (subst (λ x. ClaimsOther mid f' found old.evidence.codewords line x) (sym is) claims))
 
         by_entry : (e : Option Entry) → entry ≡ e → JudgesFrame am an found at e line p old.evidence new.evidence result → JudgedIs t old new f f' p result
         by_entry (Some (entries.Frame frame)) is (answer, audits', by) = by_answer frame answer result is audits' by
@@ -208,13 +231,13 @@ module _ (old new : Ends) (f : Follower) (am an : FrameAuditor) (line : List ℕ
 
   module _ (same : new.evidence ≡ old.evidence) (kept : new.packets ≡ old.packets) where
     -- its line is another one, or missing
-    other_line : (found : Next) (last : AuditedLast) → (IsFrame found → ⊥) → Meets old new f mid found line entry → AuditsLast mid f' found p.known line last
+    other_line : (found : Next) (last : AuditedLast) → (IsFrame found → ⊥) → Meets t old new f mid found line entry → AuditsLast mid f' found p.known line last
         → ((entry ≡ None) ⊎ ¬ IsLastOf found p.known last.step f'.state.standing.totals line)
         → Differs t old new f f' p (differences.Line p.line last.step f'.state.standing.totals)
     other_line found last never meets audits' differs =
         (mid, found, line, entry, meets, (refl, refl, inr (record { last = never; settles = audits'.settles; other = differs })))
 
-    other_end : (at : ℕ) (skipped : Gap) (last : AuditedLast) → Meets old new f mid (next.End at skipped) line entry → AuditsLast mid f' (next.End at skipped) p.known line last
+    other_end : (at : ℕ) (skipped : Gap) (last : AuditedLast) → Meets t old new f mid (next.End at skipped) line entry → AuditsLast mid f' (next.End at skipped) p.known line last
         → ((entry ≡ None) ⊎ ¬ IsLastOf (next.End at skipped) p.known last.step f'.state.standing.totals line) → (k : Bool) → p.known ≡ k
         → JudgedIs t old new f f' p (Ok (turns.Differs (if k then differences.Line p.line last.step f'.state.standing.totals else differences.Count p.line f'.state.standing.totals.frames)))
     other_end at skipped last meets audits' differs true is = other_line (next.End at skipped) last (λ x. x) meets audits' differs
@@ -244,9 +267,9 @@ module _ (old new : Ends) (f : Follower) (am an : FrameAuditor) (line : List ℕ
     cut_closes at skipped count d step settles = (settles.handles (rules_for t) [] tt).phase
 
     only_line : (e : Entry) → entry ≡ Some e → GivesLine old.report new.report line entry → OnlyLine old new line
-    only_line e is gives = record { report = (subst (λ x. GivesLine old.report new.report line x) is gives).1; evidence = same; packets = kept }
+    only_line e is gives = let there = subst (λ x. GivesLine old.report new.report line x) is gives in record { report = there.1; whole = there.0; evidence = same; packets = kept }
 
-    told_cut : (at : ℕ) (skipped : Gap) (count : ℕ) (last : AuditedLast) (e : Entry) → entry ≡ Some e → Meets old new f mid (next.Cut at skipped count) line entry
+    told_cut : (at : ℕ) (skipped : Gap) (count : ℕ) (last : AuditedLast) (e : Entry) → entry ≡ Some e → Meets t old new f mid (next.Cut at skipped count) line entry
         → AuditsLast mid f' (next.Cut at skipped count) p.known line last → last.told ≡ true → JudgedIs t old new f f' p (Ok turns.Cut)
     told_cut at skipped count last e is meets audits' told = (
       line,
@@ -256,10 +279,12 @@ module _ (old new : Ends) (f : Follower) (am an : FrameAuditor) (line : List ℕ
         closes = cut_closes at skipped count (claimed_decision Broken true) last.step audits'.settles;
         none = audits'.settles.none;
         only = only_line e is meets.gives;
+        next = λ recording known decisions lines packets more later rest r.
+            cut_line t recording old new f mid f' line known decisions lines packets more later rest r at skipped count e (subst (λ x. Meets t old new f mid (next.Cut at skipped count) line x) is meets);
       },
     )
 
-    told_end : (at : ℕ) (skipped : Gap) (last : AuditedLast) (e : Entry) → entry ≡ Some e → IsBy t f' → Meets old new f mid (next.End at skipped) line entry
+    told_end : (at : ℕ) (skipped : Gap) (last : AuditedLast) (e : Entry) → entry ≡ Some e → IsBy t f' → Meets t old new f mid (next.End at skipped) line entry
         → AuditsLast mid f' (next.End at skipped) p.known line last → last.told ≡ true → JudgedIs t old new f f' p (Ok turns.End)
     told_end at skipped last e is by meets audits' told = (
       line,
@@ -267,13 +292,15 @@ module _ (old new : Ends) (f : Follower) (am an : FrameAuditor) (line : List ℕ
         goes = λ whole decisions lines packets so_far.
             tells_end t whole old.symbols new.symbols f mid f' p.known decisions lines packets at skipped line last so_far meets.goes meets.found_is by audits' told;
         only = only_line e is meets.gives;
+        next = λ recording known decisions lines packets more later rest r.
+            last_line t recording old new f mid f' line known decisions lines packets more later rest r at skipped e (subst (λ x. Meets t old new f mid (next.End at skipped) line x) is meets);
       },
     )
 
     not_told : (found : Next) (last : AuditedLast) → AuditsLast mid f' found p.known line last → last.told ≡ false → ¬ IsLastOf found p.known last.step f'.state.standing.totals line
     not_told found last audits' is = λ so. (let never : true ≡ false = sym (audits'.told.1 so) ∙ is in absurd (cc))
 
-    pub cut_judged : (at : ℕ) (skipped : Gap) (count : ℕ) (turn : Turn) → Meets old new f mid (next.Cut at skipped count) line entry → JudgesLast am an (next.Cut at skipped count) entry line p turn
+    pub cut_judged : (at : ℕ) (skipped : Gap) (count : ℕ) (turn : Turn) → Meets t old new f mid (next.Cut at skipped count) line entry → JudgesLast am an (next.Cut at skipped count) entry line p turn
         → JudgedIs t old new f f' p (Ok turn)
     cut_judged at skipped count turn meets (last, audits', made) = subst (λ x. JudgedIs t old new f f' p (Ok x)) (sym made) (by_entry entry refl last.told refl)
       where
@@ -286,7 +313,7 @@ module _ (old new : Ends) (f : Follower) (am an : FrameAuditor) (line : List ℕ
         by_entry (Some e) is true told = told_cut at skipped count last e is meets audits' told
         by_entry (Some e) is false told = other_line found last (λ x. x) meets audits' (inr (not_told found last audits' told))
 
-    pub end_judged : (at : ℕ) (skipped : Gap) (turn : Turn) → IsBy t f' → Meets old new f mid (next.End at skipped) line entry → JudgesLast am an (next.End at skipped) entry line p turn
+    pub end_judged : (at : ℕ) (skipped : Gap) (turn : Turn) → IsBy t f' → Meets t old new f mid (next.End at skipped) line entry → JudgesLast am an (next.End at skipped) entry line p turn
         → JudgedIs t old new f f' p (Ok turn)
     end_judged at skipped turn by meets (last, audits', made) = subst (λ x. JudgedIs t old new f f' p (Ok x)) (sym made) (by_entry entry refl last.told refl)
       where
@@ -302,7 +329,7 @@ module _ (old new : Ends) (f : Follower) (am an : FrameAuditor) (line : List ℕ
   -- ---- any of them
 
   pub judged : (found : Next) (result : Result Turn Fault) → EndsAfterCut f.state.phase (Some found) → IfFrame (Some found) (HoldsSoft am.replayer) → IsBy t f' → new.packets ≡ old.packets
-      → Meets old new f mid found line entry → Judges am an found entry line p old.evidence new.evidence result → JudgedIs t old new f f' p result
+      → Meets t old new f mid found line entry → Judges am an found entry line p old.evidence new.evidence result → JudgedIs t old new f f' p result
   judged (next.Frame at skipped) result closing soft by kept meets h = frame_judged at skipped meets closing soft result h
   judged (next.Cut at skipped count) result closing soft by kept meets (same, (turn, is, h)) = subst (JudgedIs t old new f f' p) (sym is) (cut_judged same kept at skipped count turn meets h)
   judged (next.End at skipped) result closing soft by kept meets (same, (turn, is, h)) = subst (JudgedIs t old new f f' p) (sym is) (end_judged same kept at skipped turn by meets h)
@@ -322,9 +349,12 @@ compared t old mid new f f' p told result kept symbols report evidence (s, tells
       not_closing = tells.not_closing;
       none = tells.none;
       report = subst (λ x. Consumes old.report x (s.line ++ 10 ∷ [])) (sym report) tells.report;
-      takes = subst (λ e. Takes (n_of t.mode) old.evidence e s.block s.packed) (sym evidence) tells.takes;
+      takes = subst (λ e. Takes t.mode old.evidence e s.block s.packed) (sym evidence) tells.takes;
       certificate = tells.certificate;
       word = tells.word;
+      unknown = tells.unknown;
+      whole = tells.whole;
+      only = tells.only;
     }
 
     by_result : (r : Result Turn Fault) → ComparesIf f'.packets mid.packets new.packets told p r → TurnIs t old new f f' p r
@@ -413,12 +443,12 @@ same_by t old new same by = record {
 -- ---- the next thing as a whole
 
 module _ (t : Terms) (old mid : Ends) (f : Follower) (am an : FrameAuditor) (line : List ℕ) (entry : Option Entry) (p : Place) (found : Next) (result : Result Turn Fault) where
-  pub judged_by : terms_by am ≡ t → EndsAfterCut f.state.phase (Some found) → IfFrame (Some found) (HoldsSoft am.replayer) → IsBy t an.replayer.follower → mid.packets ≡ old.packets
+  pub judged_by : terms_by am ≡ t → IsBy t am.replayer.follower → EndsAfterCut f.state.phase (Some found) → IfFrame (Some found) (HoldsSoft am.replayer) → IsBy t an.replayer.follower → mid.packets ≡ old.packets
       → GoesOn f am.replayer.follower old.symbols mid.symbols → am.replayer.follower.found ≡ Some found → ReadsLine p.line old.report mid.report line (Ok entry)
       → Judges am an found entry line p old.evidence mid.evidence result → JudgedIs t old mid f an.replayer.follower p result
-  judged_by terms closing soft by kept goes found_is reads h =
+  judged_by terms by_found closing soft by kept goes found_is reads h =
       subst (λ x. JudgedIs x old mid f an.replayer.follower p result) terms
-      (judged old mid f am an line entry p found result closing soft (subst (λ x. IsBy x an.replayer.follower) (sym terms) by) kept (record { goes = goes; found_is = found_is; gives = reads }) h)
+      (judged old mid f am an line entry p found result closing soft (subst (λ x. IsBy x an.replayer.follower) (sym terms) by) kept (record { by = subst (λ x. IsBy x am.replayer.follower) (sym terms) by_found; goes = goes; found_is = found_is; gives = reads }) h)
 
 -- a fault of the evidence
 pub judge_fails : (t : Terms) (old new : Ends) (f f' : Follower) (p : Place) (fault : Fault) → JudgedIs t old new f f' p (Err fault) → TurnIs t old new f f' p (Err fault)

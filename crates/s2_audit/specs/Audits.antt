@@ -13,7 +13,7 @@ use Rattle.s2_replay.specs.Running.{IsStuck}
 use Rattle.s2_audit.specs.Differences.{Differs, Fails, LeavesOver, rests_of}
 use Rattle.s2_audit.specs.Limits.{max_lines}
 use Rattle.s2_audit.specs.Lines.{difference_line, end_line}
-use Rattle.s2_audit.specs.Turns.{Audited, Ends, IsFine, Replayed, Shown, all_known, counts_of, told_lines}
+use Rattle.s2_audit.specs.Turns.{AreWrong, Audited, Ends, IsFine, Replayed, Shown, all_known, counts_of, told_lines}
 use Rattle.s2_audit.specs.declared.difference.Difference.{Difference}
 use Rattle.s2_audit.specs.declared.place.Place.{Place}
 
@@ -33,12 +33,13 @@ pub record Stops (t : Terms) (old new : Ends) (frames : List Shown) (difference 
       ⊎ (Replayed t old between frames lines packets × LeavesOver (rests_of between) (rests_of new) (place_after frames lines packets) difference)
 
 -- The audit ends with this exit, and with this text. Exit 0: all is fine, and the text has the lines of the frames and the counts. Exit
--- 2: it has the lines of the frames before the first difference, and the line of the difference
+-- 2: it has the lines of the frames before the first difference, and the line of the difference; and the files are not as they should
+-- be
 abbrev pub EndsWith : Terms → (old new : Ends) → Exit → (text : List ℕ) → Type 0
 EndsWith t old new exits.Fine text =
     (frames : List Shown) × (lines : List (List ℕ)) × (packets : List ℕ) × IsFine t old new frames lines packets × (text ≡ told_lines frames ++ end_line (counts_of frames))
 EndsWith t old new exits.No text =
-    (frames : List Shown) × (difference : Difference) × (packets : List ℕ) × Stops t old new frames difference packets × (text ≡ told_lines frames ++ difference_line packets difference)
+    (frames : List Shown) × (difference : Difference) × (packets : List ℕ) × Stops t old new frames difference packets × (text ≡ told_lines frames ++ difference_line packets difference) × AreWrong t old
 EndsWith t old new exits.Fault text = ⊥
 
 -- this text was to be printed: at an end, or after some frames

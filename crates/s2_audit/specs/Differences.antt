@@ -1,5 +1,5 @@
 -- The first difference between the files of an audit and what the receiver's loop expects (own).
-use Rattle.std.specs.Prelude.{◌≡◌, ◌⊎◌, ℕ, ◌+◌, ◌-◌, ◌*◌, ◌^◌, ◌/◌, ◌<◌, min, Bool, true, false, IsTrue, List, [], ◌∷◌, ◌++◌, length, Option, Some, None, option_map, Result, Ok, Err, ⊤}
+use Rattle.std.specs.Prelude.{◌≡◌, ◌⊎◌, ℕ, ◌+◌, ◌-◌, ◌*◌, ◌^◌, ◌/◌, ◌<◌, min, Bool, true, false, IsTrue, List, [], ◌∷◌, ◌++◌, length, Option, Some, None, is_some, option_map, Result, Ok, Err, ⊤}
 use Rattle.std.specs.Io.KnownBytes.{Consumes, IsAtEnd}
 use Rattle.s2_mode.specs.Mode.{n_of}
 use Rattle.s2_bbframe.specs.Limits.{packet_bytes}
@@ -23,11 +23,11 @@ use Rattle.s2_replay.specs.Frames.{AuditsClaim, IsLastOf, IsOwnLine, SettlesBy}
 use Rattle.s2_replay.specs.Packets as files
 use Rattle.s2_replay.specs.Replay.{Terms, claimed_decision}
 use Rattle.s2_replay.specs.Replayers.{IsFrame, IsFrameAt}
-use Rattle.s2_replay.specs.Running.{GoesOn}
+use Rattle.s2_replay.specs.Running.{GoesOn, IsBy}
 use Rattle.s2_replay.specs.declared.certificates.Shown.TheVariants as shown
 use Rattle.s2_replay.specs.declared.certificates.Refusal.{Refusal}
 use Rattle.s2_replay.specs.declared.frames.AuditedClaim.{AuditedClaim}
-use Rattle.s2_audit.specs.Evidences.{Evidence, IsMissing, Takes, evidence_by, reason_for}
+use Rattle.s2_audit.specs.Evidences.{Evidence, IsMissing, IsUnknownIf, IsWordOf, Takes, evidence_by, reason_for}
 use Rattle.s2_audit.specs.FrameAnswers.{HasOtherWord, IsCutFault}
 use Rattle.s2_audit.specs.Turns.{Ends, Shown, TellsLine}
 use Rattle.s2_audit.specs.declared.difference.Difference.{Difference}
@@ -58,7 +58,8 @@ ReadsLine number old new line (Err f) = (f ≡ line_fault number) × IsUnreadabl
 -- ---- the receiver's loop
 
 -- The receiver's loop found this next, and the report has this line, or none
-pub record Meets (old new : Ends) (f mid : Follower) (found : Next) (line : List ℕ) (entry : Option Entry) : Type 0 where
+pub record Meets (t : Terms) (old new : Ends) (f mid : Follower) (found : Next) (line : List ℕ) (entry : Option Entry) : Type 0 where
+  pub by : IsBy t mid
   pub goes : GoesOn f mid old.symbols new.symbols
   pub found_is : mid.found ≡ Some found
   pub gives : GivesLine old.report new.report line entry
@@ -71,17 +72,28 @@ LacksEvidence t mid verdict before after reasons.NoCodeword = IsMissing before.c
 LacksEvidence t mid verdict before after reasons.NoCertificate = (is_certified verdict ≡ true) × Consumes before.certificates after.certificates [] × IsAtEnd after.certificates
 LacksEvidence t mid verdict before after reasons.OtherWord = (is_certified verdict ≡ true) × HasOtherWord t before after mid.frame
 LacksEvidence t mid verdict before after reason =
-    (refusal : Refusal) × (block : List ℕ) × (packed : Option (List ℕ)) × (reason ≡ reason_for refusal)
-    × Takes (n_of t.mode) before after (Some block) packed × Shows t.rows (soft_frame t.mode t.number t.options mid.frame) [] block (shown.Refused refusal)
+    (is_certified verdict ≡ true) × (refusal : Refusal) × (block : List ℕ) × (packed : Option (List ℕ)) × (reason ≡ reason_for refusal)
+    × Takes t.mode before after (Some block) packed × Shows t.rows (soft_frame t.mode t.number t.options mid.frame) [] block (shown.Refused refusal)
 
 -- ---- the line of a step
 
--- the frame was settled by a decision that is borne out, and the line is not its own
-pub record HasOtherLine (t : Terms) (mid f' : Follower) (found : Next) (line : List ℕ) (step : Step) : Type 0 where
+-- The frame, whose line says this verdict, was settled by a decision that its evidence bears out, and the line is not its own
+pub record HasOtherLine (t : Terms) (mid f' : Follower) (found : Next) (verdict : Verdict) (line : List ℕ) (before after : Evidence) (step : Step) : Type 0 where
+  pub is : IsFrame found
   pub d : Decision
   pub block : Option (List ℕ)
+  pub packed : Option (List ℕ)
+  pub takes : Takes t.mode before after block packed
+  pub certified : is_certified verdict ≡ is_some block
+  pub word : IsWordOf packed d.bits
+  pub unknown : IsUnknownIf block packed d.bits
   pub settles : SettlesBy t mid f' found block d step
   pub other : ¬ IsOwnLine f' step line
+
+-- it is a frame with such a line
+abbrev pub IsOtherLine : Terms → (mid f' : Follower) → Next → (line : List ℕ) → Option Entry → (before after : Evidence) → Step → Type 0
+IsOtherLine t mid f' found line (Some (entries.Frame frame)) before after step = HasOtherLine t mid f' found frame.verdict line before after step
+IsOtherLine t mid f' found line entry before after step = ⊥
 
 -- a cut frame or the end has another line, or none
 pub record HasOtherLast (mid f' : Follower) (found : Next) (known : Bool) (line : List ℕ) (entry : Option Entry) (step : Step) : Type 0 where
@@ -90,10 +102,10 @@ pub record HasOtherLast (mid f' : Follower) (found : Next) (known : Bool) (line 
   pub other : (entry ≡ None) ⊎ ¬ IsLastOf found known step f'.state.standing.totals line
 
 -- a frame on the report's word, which is not this frame
-abbrev pub ClaimsOther : (mid f' : Follower) → Next → (line : List ℕ) → Option Entry → Type 0
-ClaimsOther mid f' found line (Some (entries.Frame frame)) =
-    (is_certified frame.verdict ≡ false) × ((claim : AuditedClaim) × AuditsClaim mid f' found frame.verdict line claim × (IsTrue claim.told → ⊥))
-ClaimsOther mid f' found line entry = ⊤
+abbrev pub ClaimsOther : (mid f' : Follower) → Next → (codewords : Option (Option (List ℕ))) → (line : List ℕ) → Option Entry → Type 0
+ClaimsOther mid f' found codewords line (Some (entries.Frame frame)) =
+    (is_certified frame.verdict ≡ false) × (codewords ≡ None) × ((claim : AuditedClaim) × AuditsClaim mid f' found frame.verdict line claim × (IsTrue claim.told → ⊥))
+ClaimsOther mid f' found codewords line entry = ⊤
 
 -- ---- the first difference
 
@@ -111,8 +123,8 @@ LacksAt t old new mid found entry reason = ⊥
 abbrev pub DiffersAt : Terms → (old new : Ends) → (mid f' : Follower) → Next → (line : List ℕ) → Option Entry → Place → Difference → Type 0
 DiffersAt t old new mid f' found line entry p (differences.Frame number at reason) = (number ≡ p.frame) × IsFrameAt found at × LacksAt t old new mid found entry reason
 DiffersAt t old new mid f' found line entry p (differences.Line number step totals) =
-    (number ≡ p.line) × (totals ≡ f'.state.standing.totals) × (HasOtherLine t mid f' found line step ⊎ HasOtherLast mid f' found p.known line entry step)
-DiffersAt t old new mid f' found line entry p (differences.NoFrame number frame at) = (number ≡ p.line) × (frame ≡ p.frame) × IsFrameAt found at × ClaimsOther mid f' found line entry
+    (number ≡ p.line) × (totals ≡ f'.state.standing.totals) × (IsOtherLine t mid f' found line entry old.evidence new.evidence step ⊎ HasOtherLast mid f' found p.known line entry step)
+DiffersAt t old new mid f' found line entry p (differences.NoFrame number frame at) = (number ≡ p.line) × (frame ≡ p.frame) × IsFrameAt found at × ClaimsOther mid f' found old.evidence.codewords line entry
 DiffersAt t old new mid f' found line entry p (differences.Count number frames) =
     (number ≡ p.line) × (frames ≡ f'.state.standing.totals.frames) × (p.known ≡ false) × ((step : Step) × HasOtherLast mid f' found false line entry step)
 DiffersAt t old new mid f' found line entry p difference = ⊥
@@ -126,7 +138,7 @@ abbrev pub Differs : Terms → (old new : Ends) → (f f' : Follower) → Place 
 Differs t old new f f' p (differences.Packet number place) =
     (number ≡ packet_number p.bytes place) × ((s : Shown) × TellsLine t old new f f' s) × DiffersIf f'.packets old.packets new.packets place
 Differs t old new f f' p difference =
-    (mid : Follower) × (found : Next) × (line : List ℕ) × (entry : Option Entry) × Meets old new f mid found line entry × DiffersAt t old new mid f' found line entry p difference
+    (mid : Follower) × (found : Next) × (line : List ℕ) × (entry : Option Entry) × Meets t old new f mid found line entry × DiffersAt t old new mid f' found line entry p difference
 
 -- ---- after the end
 

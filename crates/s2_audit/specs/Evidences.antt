@@ -1,11 +1,13 @@
 -- What shows the decision on a frame: a certificate, and a record of its codeword (own).
-use Rattle.std.specs.Prelude.{◌≡◌, ℕ, ◌*◌, ◌<◌, Bool, true, false, List, [], ◌++◌, codes, length, Option, Some, None, Result, Ok, Err, option_map, is_some, ⊤}
+use Rattle.std.specs.Prelude.{◌≡◌, ℕ, ◌*◌, ◌<◌, Bool, true, false, List, [], ◌++◌, codes, length, Option, Some, None, IfSome, Result, Ok, Err, option_map, is_some, ⊤}
 use Rattle.std.specs.Io.KnownBytes.{Consumes, IsAtEnd}
 use Rattle.s2_bits.specs.Bits.{bits_of_bytes}
+use Rattle.s2_mode.specs.Mode.{Mode, n_of}
 use Rattle.s2_io.specs.declared.fault.Fault.{Fault}
 use Rattle.s2_io.specs.declared.fault.Fault.TheVariants as faults
 use Rattle.s2_replay.specs.declared.certificates.Refusal.{Refusal}
 use Rattle.s2_replay.specs.declared.certificates.Refusal.TheVariants as refusals
+use Rattle.s2_audit.specs.Limits.{certificate_bytes}
 use Rattle.s2_audit.specs.declared.difference.Reason.{Reason}
 use Rattle.s2_audit.specs.declared.difference.Reason.TheVariants as reasons
 use Rattle.s2_audit.specs.declared.frame.Recorded.{Recorded}
@@ -28,11 +30,6 @@ IsOverIf (Some left) = IsAtEnd left
 abbrev pub IsMissing : (old new : Option (Option (List ℕ))) → Type 0
 IsMissing (Some old) (Some new) = Consumes old new [] × IsAtEnd new
 IsMissing old new = ⊥
-
--- the failed calls of such a file
-abbrev pub count_if : {R : Type 0} → (R → ℕ) → Option R → ℕ
-count_if count None = 0
-count_if count (Some r) = count r
 
 -- ---- the records of a file
 
@@ -78,6 +75,16 @@ abbrev pub IsWordOf : (packed : Option (List ℕ)) → (word : List Bool) → Ty
 IsWordOf None word = ⊤
 IsWordOf (Some bytes) word = word ≡ bits_of_bytes bytes
 
+-- without a certificate and without a record no bit is known
+abbrev pub IsUnknownIf : (block packed : Option (List ℕ)) → (word : List Bool) → Type 0
+IsUnknownIf None None word = word ≡ []
+IsUnknownIf None (Some bytes) word = ⊤
+IsUnknownIf (Some bytes) packed word = ⊤
+
+-- a certificate has the bytes of version 2 for its mode
+abbrev pub IsSized : Mode → (block : Option (List ℕ)) → Type 0
+IsSized m block = IfSome block (λ bytes. length bytes ≡ certificate_bytes m)
+
 -- the unread bytes of the certificates, and of the codewords if these are given
 pub record Evidence : Type 0 where
   pub certificates : Option (List ℕ)
@@ -92,9 +99,10 @@ abbrev pub TakesCodeword : (n : ℕ) → (old new : Option (Option (List ℕ))) 
 TakesCodeword n old new packed = ReadsIf old new (bytes_of packed) × IsGiven n (is_some old) packed
 
 -- this certificate was taken, or none, and this record of a codeword, or none
-pub record Takes (n : ℕ) (old new : Evidence) (block packed : Option (List ℕ)) : Type 0 where
+pub record Takes (m : Mode) (old new : Evidence) (block packed : Option (List ℕ)) : Type 0 where
   pub certificate : Consumes old.certificates new.certificates (bytes_of block)
-  pub codeword : TakesCodeword n old.codewords new.codewords packed
+  pub sized : IsSized m block
+  pub codeword : TakesCodeword (n_of m) old.codewords new.codewords packed
 
 -- the next record of a codeword: the file is not given, no record is left, or the record has these bits. Or the file ends within one
 abbrev pub TakesRecord : (n size : ℕ) → (old new : Option (Option (List ℕ))) → (bits : List Bool) → Result Recorded Fault → Type 0

@@ -1,5 +1,5 @@
 -- What audits the frames of a recording, and the audit of one frame by its evidence (own).
-use Rattle.std.specs.Prelude.{◌≡◌, ◌≢◌, ◌⊎◌, ℕ, ◌*◌, ◌/◌, ◌<◌, Bool, true, false, List, [], length, codes, Option, Some, None, Result, Ok, Err, ⊤}
+use Rattle.std.specs.Prelude.{◌≡◌, ◌≢◌, ◌⊎◌, ℕ, ◌*◌, ◌/◌, ◌<◌, Bool, true, false, List, [], length, codes, Option, Some, None, is_some, Result, Ok, Err, ⊤}
 use Rattle.std.specs.Io.KnownBytes.{Consumes, IsAtEnd}
 use Rattle.s2_bits.specs.Bits.{bits_of_bytes}
 use Rattle.s2_mode.specs.Mode.{n_of}
@@ -17,7 +17,7 @@ use Rattle.s2_receive.specs.declared.window.Next.{Next}
 use Rattle.s2_replay.specs.Frames.{AuditsClaim, AuditsFrame, IsShownBy, terms_of}
 use Rattle.s2_replay.specs.Replay.{IsBorneOut, Terms}
 use Rattle.s2_replay.specs.Replayers.{Replayer}
-use Rattle.s2_audit.specs.Evidences.{Evidence, EndsWithin, EndsWithinIf, IsMissing, IsWordOf, Takes, TakesCodeword, cut_fault}
+use Rattle.s2_audit.specs.Evidences.{Evidence, EndsWithin, EndsWithinIf, IsMissing, IsUnknownIf, IsWordOf, Takes, TakesCodeword, cut_fault}
 use Rattle.s2_audit.specs.Limits.{certificate_bytes}
 use Rattle.s2_audit.specs.declared.how.How.{How}
 use Rattle.s2_audit.specs.declared.evidence.ByCertificate.{ByCertificate}
@@ -89,7 +89,7 @@ pub record HasOtherWord (t : Terms) (old new : Evidence) (symbols : List Symbol)
   pub packed : List ℕ
   pub borne : IsBorneOut t symbols d
   pub shown : IsShownBy t.rows d (Some block)
-  pub takes : Takes (n_of t.mode) old new (Some block) (Some packed)
+  pub takes : Takes t.mode old new (Some block) (Some packed)
   pub other : d.bits ≢ bits_of_bytes packed
 
 -- it was settled
@@ -113,7 +113,8 @@ Answers old new found verdict line before after (Ok answers.NoCertificate) =
 Answers old new found verdict line before after (Ok answers.OtherWord) =
     (is_certified verdict ≡ true) × HasOtherWord (terms_by old) before after old.replayer.follower.frame
 Answers old new found verdict line before after (Ok (answers.Judged audited)) =
-    (block : Option (List ℕ)) × (packed : Option (List ℕ)) × (word : List Bool) × Takes (n_of old.replayer.follower.sought.mode) before after block packed × IsWordOf packed word
+    (block : Option (List ℕ)) × (packed : Option (List ℕ)) × (word : List Bool) × Takes old.replayer.follower.sought.mode before after block packed × IsWordOf packed word
+    × (is_certified verdict ≡ is_some block) × IsUnknownIf block packed word
     × AuditsFrame (terms_by old) old.replayer.follower new.replayer.follower found block old.replayer.soft word line audited
 Answers old new found verdict line before after (Ok (answers.Claimed claim)) =
     (is_certified verdict ≡ false) × (before.codewords ≡ None) × (after ≡ before) × AuditsClaim old.replayer.follower new.replayer.follower found verdict line claim

@@ -1,13 +1,14 @@
 -- An audit up to a frame: the decisions and their evidence, and the lines of the report (own).
-use Rattle.std.specs.Prelude.{◌≡◌, ◌⊎◌, ℕ, ◌+◌, ◌&&◌, nat_eq, Bool, true, false, if◌then◌else◌, List, [], ◌∷◌, ◌++◌, All, map, count_by, Option, Some, None, option_map, is_some}
+use Rattle.std.specs.Prelude.{not, ◌≡◌, ◌⊎◌, ℕ, ◌+◌, ◌&&◌, nat_eq, Bool, true, false, if◌then◌else◌, List, [], ◌∷◌, ◌++◌, All, map, count_by, Option, Some, None, option_map, is_some}
 use Rattle.std.specs.List.{flat_map}
 use Rattle.std.specs.Io.KnownBytes.{Consumes, IsAtEnd}
 use Rattle.s2_mode.specs.Mode.{n_of}
+use Rattle.s2_mode.specs.Symbols.{symbols_of}
 use Rattle.s2_check.specs.Cost.{cost}
 use Rattle.s2_check.specs.Views.{View}
 use Rattle.s2_check.specs.declared.verdict.Verdict.{Verdict}
 use Rattle.s2_check.specs.declared.verdict.Verdict.TheVariants as verdicts
-use Rattle.s2_report.specs.Entries.{entry_in, text_of}
+use Rattle.s2_report.specs.Entries.{IsLine, entry_in, text_of}
 use Rattle.s2_report.specs.declared.entry.Entry.{Entry}
 use Rattle.s2_report.specs.declared.entry.Entry.TheVariants as entries
 use Rattle.s2_receive.specs.Halves.{Follower}
@@ -15,8 +16,9 @@ use Rattle.s2_receive.specs.Receiving.{Decision}
 use Rattle.s2_receive.specs.declared.report.Phase.TheVariants as phases
 use Rattle.s2_replay.specs.Auditing.{AuditedFrames, AuditedSoFar, ReplaysIn}
 use Rattle.s2_replay.specs.Frames.{IsShownBy, cost_of}
-use Rattle.s2_replay.specs.Replay.{Terms, is_known}
-use Rattle.s2_audit.specs.Evidences.{Evidence, IsGiven, IsOverIf, IsWordOf, ReadsIf, Takes, bytes_of, count_if, evidence_by}
+use Rattle.s2_replay.specs.Replay.{IsReplay, Terms, is_known}
+use Rattle.s2_audit.specs.Evidences.{Evidence, IsGiven, IsOverIf, IsSized, IsUnknownIf, IsWordOf, ReadsIf, Takes, bytes_of, evidence_by}
+use Rattle.s2_receive.specs.Sinks.{wanted_count}
 use Rattle.s2_audit.specs.Lines.{shown_line}
 use Rattle.s2_audit.specs.declared.counts.Counts.{Counts}
 use Rattle.s2_audit.specs.declared.turn.Told.{Told}
@@ -46,7 +48,7 @@ pub record Failures : Type 0 where
 -- those of five readers
 abbrev pub failures_by : {R : Type 0} → (R → ℕ) → (symbols report certificates : R) → (codewords packets : Option R) → Failures
 failures_by count symbols report certificates codewords packets =
-    record { symbols = count symbols; report = count report; certificates = count certificates; codewords = count_if count codewords; packets = count_if count packets }
+    record { symbols = count symbols; report = count report; certificates = count certificates; codewords = wanted_count count codewords; packets = wanted_count count packets }
 
 -- all of them
 abbrev pub total : Failures → ℕ
@@ -71,11 +73,14 @@ pub record Shown : Type 0 where
   pub block : Option (List ℕ)
   pub packed : Option (List ℕ)
 
--- the decision has the certificate in these bytes, or none; and if codewords are given, the bits of the record
+-- the decision has the certificate in these bytes, or none; and if codewords are given, the bits of the record. Without either no bit
+-- is known
 pub record IsShown (t : Terms) (given : Bool) (s : Shown) : Type 0 where
   pub certificate : IsShownBy t.rows s.decision s.block
+  pub sized : IsSized t.mode s.block
   pub codeword : IsGiven (n_of t.mode) given s.packed
   pub word : IsWordOf s.packed s.decision.bits
+  pub unknown : IsUnknownIf s.block s.packed s.decision.bits
 
 -- the printed line of a frame, with the cost of its bits, if it has a certificate
 abbrev pub told_by : Option View → Option Entry → List ℕ
@@ -108,17 +113,13 @@ abbrev pub is_most_likely : Verdict → Bool
 is_most_likely verdicts.MostLikely = true
 is_most_likely verdict = false
 
--- the bits are not known: the frame is taken on the report's word
-abbrev pub is_unchecked : Bool → Bool
-is_unchecked known = if known then false else true
-
 -- the frames, those of them that are sole or most likely, and those that are unchecked
 abbrev pub counts_of : List Shown → Counts
 counts_of frames = record {
   frames = count_by (λ s. true) frames;
   sole = count_by (λ s. is_sole s.decision.verdict) frames;
   most_likely = count_by (λ s. is_most_likely s.decision.verdict) frames;
-  unchecked = count_by (λ s. is_unchecked (is_known s.decision)) frames;
+  unchecked = count_by (λ s. not (is_known s.decision)) frames;
 }
 
 -- the counts with those of one more frame
@@ -127,7 +128,7 @@ counted counts verdict known = record {
   frames = counts.frames + 1;
   sole = counts.sole + (if is_sole verdict then 1 else 0);
   most_likely = counts.most_likely + (if is_most_likely verdict then 1 else 0);
-  unchecked = counts.unchecked + (if is_unchecked known then 1 else 0);
+  unchecked = counts.unchecked + (if not known then 1 else 0);
 }
 
 -- no frame is unchecked
@@ -139,6 +140,7 @@ all_known counts = nat_eq counts.unchecked 0
 -- these lines of the report were read, the evidence of each frame, and these packets
 pub record Reads (t : Terms) (old new : Ends) (frames : List Shown) (lines : List (List ℕ)) (packets : List ℕ) : Type 0 where
   pub report : Consumes old.report new.report (text_of lines)
+  pub whole : All IsLine lines
   pub each : All (IsShown t (is_some old.evidence.codewords)) frames
   pub certificates : Consumes old.evidence.certificates new.evidence.certificates (flat_map (λ s. bytes_of s.block) frames)
   pub codewords : ReadsIf old.evidence.codewords new.evidence.codewords (flat_map (λ s. bytes_of s.packed) frames)
@@ -155,6 +157,81 @@ abbrev pub RanSoFar : Terms → (whole left : Option (List ℕ)) → Follower �
 RanSoFar t whole left f frames lines packets =
     ((lines ≡ lines_of frames) × AuditedSoFar t whole left f (all_known (counts_of frames)) (decisions_of frames) lines packets)
     ⊎ ((f.state.phase ≡ phases.Closing) × AuditedFrames t whole left f (all_known (counts_of frames)) (decisions_of frames) lines packets)
+
+-- ---- no other frames
+
+-- the rest of a file, if it is given, has these bytes
+abbrev pub IsLeftIf : Option (Option (List ℕ)) → (bytes : List ℕ) → Type 0
+IsLeftIf None bytes = ⊤
+IsLeftIf (Some left) bytes = left ≡ Some bytes
+
+-- What files still have: exactly these lines, the evidence of these frames, whose bits are all known, and these packets
+pub record HasLeft (t : Terms) (now : Ends) (frames : List Shown) (lines : List (List ℕ)) (packets : List ℕ) : Type 0 where
+  pub begin : BeginWith lines frames
+  pub whole : All IsLine lines
+  pub each : All (IsShown t (is_some now.evidence.codewords)) frames
+  pub known : All (λ s. is_known s.decision ≡ true) frames
+  pub report : now.report ≡ Some (text_of lines)
+  pub certificates : now.evidence.certificates ≡ Some (flat_map (λ s. bytes_of s.block) frames)
+  pub codewords : IsLeftIf now.evidence.codewords (flat_map (λ s. bytes_of s.packed) frames)
+  pub packets_are : IsLeftIf now.packets packets
+
+-- Files as they should be: they have exactly this, and report and packets are the receiver's on the recording, by the decisions on
+-- these frames. The report has no figures
+pub record IsRight (t : Terms) (files : Ends) (recording : List ℕ) (frames : List Shown) (lines : List (List ℕ)) (packets : List ℕ) : Type 0 where
+  pub symbols : files.symbols ≡ Some recording
+  pub replay : IsReplay t (symbols_of recording) (decisions_of frames) lines packets
+  pub left : HasLeft t files frames lines packets
+  pub no_figures : t.options.figures ≡ false
+
+-- More frames may come, these ones. Or a cut frame came, so that only the line of the end comes
+abbrev pub MayGoOn : Terms → (recording : List ℕ) → (left : Option (List ℕ)) → Follower → (known : Bool) → List Decision → (lines : List (List ℕ)) → (packets : List ℕ) → (more : List Shown) → (later : List (List ℕ)) → Type 0
+MayGoOn t recording left f known decisions lines packets more later =
+    AuditedSoFar t (Some recording) left f known decisions lines packets
+    ⊎ (AuditedFrames t (Some recording) left f known decisions lines packets × (more ≡ []) × ((line : List ℕ) × (later ≡ line ∷ [])))
+
+-- Files as they should be were audited up to here, by these decisions, with these lines and packets, and have these left
+pub record Remains (t : Terms) (recording : List ℕ) (now : Ends) (f : Follower) (known : Bool) (decisions : List Decision) (lines : List (List ℕ)) (packets : List ℕ) (more : List Shown) (later : List (List ℕ)) (rest : List ℕ) : Type 0 where
+  pub so_far : MayGoOn t recording now.symbols f known decisions lines packets more later
+  pub replay : IsReplay t (symbols_of recording) (decisions ++ decisions_of more) (lines ++ later) (packets ++ rest)
+  pub left : HasLeft t now more later rest
+  pub all_known : known ≡ true
+  pub no_figures : t.options.figures ≡ false
+
+-- whatever files as they should be have left here, this holds of it
+abbrev pub OfAllLeft : Terms → (now : Ends) → Follower → (List Shown → List (List ℕ) → List ℕ → Type 0) → Type 0
+OfAllLeft t now f Holds =
+    (recording : List ℕ) (known : Bool) (decisions : List Decision) (lines : List (List ℕ)) (packets : List ℕ) (more : List Shown) (later : List (List ℕ)) (rest : List ℕ)
+    → Remains t recording now f known decisions lines packets more later rest → Holds more later rest
+
+-- it begins with this frame, which has these packets
+pub record BeginsBy (s : Shown) (own : List ℕ) (more : List Shown) (later : List (List ℕ)) (rest : List ℕ) : Type 0 where
+  pub frames : List Shown
+  pub lines : List (List ℕ)
+  pub packets : List ℕ
+  pub frames_are : more ≡ s ∷ frames
+  pub lines_are : later ≡ s.line ∷ lines
+  pub packets_are : rest ≡ own ++ packets
+
+-- it is the line of a cut frame and one more
+abbrev pub IsCutLine : (line : List ℕ) → (more : List Shown) → (later : List (List ℕ)) → (rest : List ℕ) → Type 0
+IsCutLine line more later rest = (more ≡ []) × ((last : List ℕ) × (later ≡ line ∷ last ∷ []))
+
+-- it is the line of the end
+abbrev pub IsLastLine : (line : List ℕ) → (more : List Shown) → (later : List (List ℕ)) → (rest : List ℕ) → Type 0
+IsLastLine line more later rest = (more ≡ []) × (later ≡ line ∷ []) × (rest ≡ [])
+
+-- files as they should be begin with these frames, lines and packets
+abbrev pub AreFirst : Terms → (old new : Ends) → Follower → List Shown → (lines : List (List ℕ)) → (packets : List ℕ) → Type 0
+AreFirst t old new f frames lines packets =
+    (recording : List ℕ) (all : List Shown) (all_lines : List (List ℕ)) (given : List ℕ) → IsRight t old recording all all_lines given
+    → (more : List Shown) × (later : List (List ℕ)) × (rest : List ℕ) × Remains t recording new f (all_known (counts_of frames)) (decisions_of frames) lines packets more later rest
+
+-- the files are not as they should be
+abbrev pub AreWrong : Terms → (files : Ends) → Type 0
+AreWrong t files = (recording : List ℕ) (frames : List Shown) (lines : List (List ℕ)) (packets : List ℕ) → IsRight t files recording frames lines packets → ⊥
+
+-- ---- the audit so far
 
 -- The audit up to a frame. The receiver's loop has come to this follower by the decisions on these frames. These lines of the report
 -- are its own, and the files have what shows the decisions, and the packets
@@ -187,9 +264,12 @@ pub record TellsLine (t : Terms) (old new : Ends) (f f' : Follower) (s : Shown) 
   pub not_closing : f.state.phase ≡ phases.Closing → ⊥
   pub none : f'.found ≡ None
   pub report : Consumes old.report new.report (s.line ++ 10 ∷ [])
-  pub takes : Takes (n_of t.mode) old.evidence new.evidence s.block s.packed
+  pub takes : Takes t.mode old.evidence new.evidence s.block s.packed
   pub certificate : IsShownBy t.rows s.decision s.block
   pub word : IsWordOf s.packed s.decision.bits
+  pub unknown : IsUnknownIf s.block s.packed s.decision.bits
+  pub whole : IsLine s.line
+  pub only : OfAllLeft t old f (BeginsBy s f'.packets)
 
 -- the finding of a frame is of this one
 pub record IsTold (s : Shown) (told : Told) : Type 0 where
@@ -201,6 +281,7 @@ pub record IsTold (s : Shown) (told : Told) : Type 0 where
 -- of the files only these two were read
 pub record OnlyLine (old new : Ends) (line : List ℕ) : Type 0 where
   pub report : Consumes old.report new.report (line ++ 10 ∷ [])
+  pub whole : IsLine line
   pub evidence : new.evidence ≡ old.evidence
   pub packets : new.packets ≡ old.packets
 
@@ -211,9 +292,11 @@ pub record TellsCut (t : Terms) (old new : Ends) (f f' : Follower) (known : Bool
   pub closes : f'.state.phase ≡ phases.Closing
   pub none : f'.found ≡ None
   pub only : OnlyLine old new line
+  pub next : OfAllLeft t old f (IsCutLine line)
 
 -- the end was audited
 pub record TellsEnd (t : Terms) (old new : Ends) (f : Follower) (known : Bool) (line : List ℕ) : Type 0 where
   pub goes : (whole : Option (List ℕ)) (decisions : List Decision) (lines : List (List ℕ)) (packets : List ℕ)
       → AuditedFrames t whole old.symbols f known decisions lines packets → ReplaysIn t whole decisions (lines ++ line ∷ []) packets
   pub only : OnlyLine old new line
+  pub next : OfAllLeft t old f (IsLastLine line)

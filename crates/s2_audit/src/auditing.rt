@@ -5,7 +5,7 @@ ghost use Rattle.s2_receive.specs.Receiving.{begun};
 ghost use Rattle.s2_replay.specs.Replayers.{IsSameReplayer};
 ghost use Rattle.s2_replay.specs.Running.{IsBy, IsStuck};
 ghost use Rattle.s2_audit.specs.Audits.{AuditsAll, ReachesLimit};
-ghost use Rattle.s2_audit.specs.Evidences.{count_if};
+ghost use Rattle.s2_receive.specs.Sinks.{wanted_count};
 ghost use Rattle.s2_audit.specs.FrameAnswers.{terms_by};
 ghost use Rattle.s2_audit.specs.Steps.{OutcomeIs, StepIs};
 ghost use Rattle.s2_audit.specs.Turns.{FailedOnce, SameFailures, ends_by, failures_by};
@@ -35,8 +35,8 @@ fn audit_turn<R: CountedRead>(
     requires symbols { CanCount (R.count symbols.old) }
     requires report { CanCount (R.count report.old) }
     requires certificates { CanCount (R.count certificates.old) }
-    requires codewords { CanCount (count_if R.count codewords.old) }
-    requires packets { CanCount (count_if R.count packets.old) }
+    requires codewords { CanCount (wanted_count R.count codewords.old) }
+    requires packets { CanCount (wanted_count R.count packets.old) }
     requires none { auditor.old.replayer.follower.found ≡ None }
     requires by { IsBy (terms_by auditor.old) auditor.old.replayer.follower }
     requires line { place.line < 2 ^ 63 }
@@ -78,8 +78,8 @@ fn audit_step<R: CountedRead, O: CountedWrite>(
     requires symbols { CanCount (R.count symbols.old) }
     requires report { CanCount (R.count report.old) }
     requires certificates { CanCount (R.count certificates.old) }
-    requires codewords { CanCount (count_if R.count codewords.old) }
-    requires packets { CanCount (count_if R.count packets.old) }
+    requires codewords { CanCount (wanted_count R.count codewords.old) }
+    requires packets { CanCount (wanted_count R.count packets.old) }
     requires out { CanCount (O.count out.old) }
     requires none { auditor.old.replayer.follower.found ≡ None }
     requires by { IsBy (terms_by auditor.old) auditor.old.replayer.follower }
@@ -130,8 +130,8 @@ pub(crate) fn audit_report<R: CountedRead, O: CountedWrite>(
     requires symbols { CanCount (R.count symbols.old) }
     requires report { CanCount (R.count report.old) }
     requires certificates { CanCount (R.count certificates.old) }
-    requires codewords { CanCount (count_if R.count codewords.old) }
-    requires packets { CanCount (count_if R.count packets.old) }
+    requires codewords { CanCount (wanted_count R.count codewords.old) }
+    requires packets { CanCount (wanted_count R.count packets.old) }
     requires out { CanCount (O.count out.old) }
     requires begun { auditor.old.replayer.follower.state ≡ begun }
     requires none { auditor.old.replayer.follower.found ≡ None }

@@ -5,7 +5,7 @@ ghost use Rattle.s2_io.specs.Screens.{CanShow};
 ghost use Rattle.s2_link.specs.Link.{setup_of};
 ghost use Rattle.s2_audit.specs.Audits.{ReachesLimit};
 ghost use Rattle.s2_audit.specs.Commands.{AuditEnds, AuditRuns, AuditsLink, ReadFailed, files_by};
-ghost use Rattle.s2_audit.specs.Evidences.{count_if};
+ghost use Rattle.s2_receive.specs.Sinks.{wanted_count};
 ghost use Rattle.s2_audit.specs.Turns.{FailedOnce, SameFailures, ends_by, failures_by};
 
 use crate::auditing::audit_report;
@@ -32,8 +32,8 @@ fn audit_link<R: CountedRead, O: CountedWrite>(
     requires symbols { CanCount (R.count symbols.old) }
     requires report { CanCount (R.count report.old) }
     requires certificates { CanCount (R.count certificates.old) }
-    requires codewords { CanCount (count_if R.count codewords.old) }
-    requires packets { CanCount (count_if R.count packets.old) }
+    requires codewords { CanCount (wanted_count R.count codewords.old) }
+    requires packets { CanCount (wanted_count R.count packets.old) }
     requires out { CanCount (O.count out.old) }
     ensures audits { let ends = ends_by R.remaining in AuditsLink link.now how (ends symbols.old report.old certificates.old codewords.old packets.old)
         (ends symbols.new report.new certificates.new codewords.new packets.new) (O.contents out.old) (O.contents out.new) result }
@@ -76,8 +76,8 @@ fn audit_files<R: CountedRead, O: CountedWrite>(
     requires symbols { CanCount (R.count symbols.old) }
     requires report { CanCount (R.count report.old) }
     requires certificates { CanCount (R.count certificates.old) }
-    requires codewords { CanCount (count_if R.count codewords.old) }
-    requires packets { CanCount (count_if R.count packets.old) }
+    requires codewords { CanCount (wanted_count R.count codewords.old) }
+    requires packets { CanCount (wanted_count R.count packets.old) }
     requires out { CanCount (O.count out.old) }
     ensures runs { let files = files_by R.remaining R.count in AuditRuns (setup_of setup) how (files rows.old symbols.old report.old certificates.old codewords.old packets.old)
         (files rows.new symbols.new report.new certificates.new codewords.new packets.new) (O.contents out.old) (O.contents out.new) result }
@@ -144,8 +144,8 @@ pub fn audit_command<R: CountedRead, O: CountedWrite, E: CountedWrite>(
     requires symbols { CanCount (R.count symbols.old) }
     requires report { CanCount (R.count report.old) }
     requires certificates { CanCount (R.count certificates.old) }
-    requires codewords { CanCount (count_if R.count codewords.old) }
-    requires packets { CanCount (count_if R.count packets.old) }
+    requires codewords { CanCount (wanted_count R.count codewords.old) }
+    requires packets { CanCount (wanted_count R.count packets.old) }
     requires console { CanShow console.old }
     ensures quiet { result ≢ Exit.Fault → console.new.errors_failed ≡ console.old.errors_failed }
     ensures whole { result ≢ Exit.Fault → console.new.output_failed ≡ console.old.output_failed }

@@ -6,7 +6,8 @@ ghost use Rattle.s2_receive.specs.Receiving.{begun};
 ghost use Rattle.s2_replay.specs.Frames.{AuditsFrame, AuditsLast, HoldsSoft};
 ghost use Rattle.s2_replay.specs.Running.{EndsAfterCut, GoesOn, IsBy, IsStuck};
 ghost use Rattle.s2_replay.specs.Replayers.{IfFrame, IsFrame, IsFrameAt, IsSameReplayer};
-ghost use Rattle.s2_audit.specs.Evidences.{TakesRecord, count_if, evidence_by};
+ghost use Rattle.s2_audit.specs.Evidences.{TakesRecord, evidence_by};
+ghost use Rattle.s2_receive.specs.Sinks.{wanted_count};
 ghost use Rattle.s2_audit.specs.FrameAnswers.{Answers, AnswersWith, ByBlock, terms_by, terms_for};
 ghost use Rattle.s2_audit.specs.Limits.{certificate_bytes};
 
@@ -99,14 +100,14 @@ fn take_record<R: CountedRead>(
     packed: &mut [u8],
     bits: &mut Bits,
 ) -> Result<Recorded, Fault<'static>>
-    requires codewords { CanCount (count_if R.count codewords.old) }
+    requires codewords { CanCount (wanted_count R.count codewords.old) }
     requires some { 0 < length packed.old }
     requires bits { length bits.old ≡ 8 * length packed.old }
     ensures takes { TakesRecord (length bits.old) (length packed.old) (option_map R.remaining codewords.old) (option_map R.remaining codewords.new) bits.new result }
     ensures long { length bits.new ≡ length bits.old }
     ensures packed { length packed.new ≡ length packed.old }
-    ensures read { result ≡ Err Fault.Read → count_if R.count codewords.new ≡ count_if R.count codewords.old + 1 }
-    ensures no_read { result ≢ Err Fault.Read → count_if R.count codewords.new ≡ count_if R.count codewords.old }
+    ensures read { result ≡ Err Fault.Read → wanted_count R.count codewords.new ≡ wanted_count R.count codewords.old + 1 }
+    ensures no_read { result ≢ Err Fault.Read → wanted_count R.count codewords.new ≡ wanted_count R.count codewords.old }
 {
     let Some(reader) = codewords else {
         return Ok(Recorded::NotGiven);
@@ -208,12 +209,12 @@ impl<'a> FrameAuditor<'a> {
         &mut self,
         codewords: &mut Option<R>,
     ) -> Result<Recorded, Fault<'static>>
-        requires codewords { CanCount (count_if R.count codewords.old) }
+        requires codewords { CanCount (wanted_count R.count codewords.old) }
         ensures takes { TakesRecord (n_of self.old.replayer.follower.sought.mode) (n_of self.old.replayer.follower.sought.mode / 8) (option_map R.remaining codewords.old) (option_map R.remaining codewords.new) self.new.recorded result }
         ensures rows { self.new.rows ≡ self.old.rows }
         ensures replayer { self.new.replayer ≡ self.old.replayer }
-        ensures read { result ≡ Err Fault.Read → count_if R.count codewords.new ≡ count_if R.count codewords.old + 1 }
-        ensures no_read { result ≢ Err Fault.Read → count_if R.count codewords.new ≡ count_if R.count codewords.old }
+        ensures read { result ≡ Err Fault.Read → wanted_count R.count codewords.new ≡ wanted_count R.count codewords.old + 1 }
+        ensures no_read { result ≢ Err Fault.Read → wanted_count R.count codewords.new ≡ wanted_count R.count codewords.old }
     {
         take_record(codewords, &mut self.packed, &mut self.recorded)
     }
@@ -271,15 +272,15 @@ impl<'a> FrameAuditor<'a> {
         codewords: &mut Option<R>,
     ) -> Result<FrameAnswer, Fault<'static>>
         requires certificates { CanCount (R.count certificates.old) }
-        requires codewords { CanCount (count_if R.count codewords.old) }
+        requires codewords { CanCount (wanted_count R.count codewords.old) }
         requires found { self.old.replayer.follower.found ≡ Some found }
         requires frame { IsFrameAt found at }
         requires soft { HoldsSoft self.old.replayer }
         ensures answers { let ends = evidence_by R.remaining in Answers self.old self.new found verdict line.now (ends certificates.old codewords.old) (ends certificates.new codewords.new) result }
         ensures rows { self.new.rows ≡ self.old.rows }
         ensures same { IsSameReplayer self.old.replayer self.new.replayer }
-        ensures read { result ≡ Err Fault.Read → R.count certificates.new + count_if R.count codewords.new ≡ R.count certificates.old + count_if R.count codewords.old + 1 }
-        ensures no_read { result ≢ Err Fault.Read → (R.count certificates.new ≡ R.count certificates.old) × (count_if R.count codewords.new ≡ count_if R.count codewords.old) }
+        ensures read { result ≡ Err Fault.Read → R.count certificates.new + wanted_count R.count codewords.new ≡ R.count certificates.old + wanted_count R.count codewords.old + 1 }
+        ensures no_read { result ≢ Err Fault.Read → (R.count certificates.new ≡ R.count certificates.old) × (wanted_count R.count codewords.new ≡ wanted_count R.count codewords.old) }
     {
         let recorded = self.take(codewords)?;
         if let Recorded::Missing = recorded {

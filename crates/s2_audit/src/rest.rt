@@ -1,7 +1,7 @@
 //! The rest of each file after the end.
 ghost use Rattle.std.specs.Prelude.{◌≡◌, ◌≢◌, ◌+◌, ◌^◌, ◌<◌, Err, option_map};
 ghost use Rattle.s2_mode.specs.Counts.{CanCount};
-ghost use Rattle.s2_audit.specs.Evidences.{count_if};
+ghost use Rattle.s2_receive.specs.Sinks.{wanted_count};
 ghost use Rattle.s2_audit.specs.Differences.{rests_by};
 ghost use Rattle.s2_audit.specs.Steps.{MoreIf, MoreIs, RestIs, RestTurn};
 
@@ -27,10 +27,10 @@ fn has_more<R: CountedRead>(reader: &mut R) -> Result<bool, Fault<'static>>
 
 /// Whether a file that may not be given has a byte more.
 fn has_more_if<R: CountedRead>(reader: &mut Option<R>) -> Result<bool, Fault<'static>>
-    requires { CanCount (count_if R.count reader.old) }
+    requires { CanCount (wanted_count R.count reader.old) }
     ensures more { MoreIf (option_map R.remaining reader.old) (option_map R.remaining reader.new) result }
-    ensures read { result ≡ Err Fault.Read → count_if R.count reader.new ≡ count_if R.count reader.old + 1 }
-    ensures no_read { result ≢ Err Fault.Read → count_if R.count reader.new ≡ count_if R.count reader.old }
+    ensures read { result ≡ Err Fault.Read → wanted_count R.count reader.new ≡ wanted_count R.count reader.old + 1 }
+    ensures no_read { result ≢ Err Fault.Read → wanted_count R.count reader.new ≡ wanted_count R.count reader.old }
 {
     match reader {
         Some(reader) => has_more(reader),
@@ -48,11 +48,11 @@ fn find_rest<R: CountedRead>(
 ) -> Result<Option<Difference>, Fault<'static>>
     requires report { CanCount (R.count report.old) }
     requires certificates { CanCount (R.count certificates.old) }
-    requires codewords { CanCount (count_if R.count codewords.old) }
-    requires packets { CanCount (count_if R.count packets.old) }
+    requires codewords { CanCount (wanted_count R.count codewords.old) }
+    requires packets { CanCount (wanted_count R.count packets.old) }
     ensures rest { let ends = rests_by R.remaining in RestIs (ends report.old certificates.old codewords.old packets.old) (ends report.new certificates.new codewords.new packets.new) place result }
-    ensures read { result ≡ Err Fault.Read → R.count report.new + R.count certificates.new + count_if R.count codewords.new + count_if R.count packets.new ≡ R.count report.old + R.count certificates.old + count_if R.count codewords.old + count_if R.count packets.old + 1 }
-    ensures no_read { result ≢ Err Fault.Read → (R.count report.new ≡ R.count report.old) × (R.count certificates.new ≡ R.count certificates.old) × (count_if R.count codewords.new ≡ count_if R.count codewords.old) × (count_if R.count packets.new ≡ count_if R.count packets.old) }
+    ensures read { result ≡ Err Fault.Read → R.count report.new + R.count certificates.new + wanted_count R.count codewords.new + wanted_count R.count packets.new ≡ R.count report.old + R.count certificates.old + wanted_count R.count codewords.old + wanted_count R.count packets.old + 1 }
+    ensures no_read { result ≢ Err Fault.Read → (R.count report.new ≡ R.count report.old) × (R.count certificates.new ≡ R.count certificates.old) × (wanted_count R.count codewords.new ≡ wanted_count R.count codewords.old) × (wanted_count R.count packets.new ≡ wanted_count R.count packets.old) }
 {
     if has_more(report)? {
         return Ok(Some(Difference::MoreLines { line: place.line }));
@@ -81,12 +81,12 @@ pub(crate) fn with_rest<R: CountedRead>(
 ) -> Result<Turn, Fault<'static>>
     requires report { CanCount (R.count report.old) }
     requires certificates { CanCount (R.count certificates.old) }
-    requires codewords { CanCount (count_if R.count codewords.old) }
-    requires packets { CanCount (count_if R.count packets.old) }
+    requires codewords { CanCount (wanted_count R.count codewords.old) }
+    requires packets { CanCount (wanted_count R.count packets.old) }
     requires line { place.line < 2 ^ 63 }
     ensures rest { let ends = rests_by R.remaining in RestTurn (ends report.old certificates.old codewords.old packets.old) (ends report.new certificates.new codewords.new packets.new) turn place result }
-    ensures read { result ≡ Err Fault.Read → R.count report.new + R.count certificates.new + count_if R.count codewords.new + count_if R.count packets.new ≡ R.count report.old + R.count certificates.old + count_if R.count codewords.old + count_if R.count packets.old + 1 }
-    ensures no_read { result ≢ Err Fault.Read → (R.count report.new ≡ R.count report.old) × (R.count certificates.new ≡ R.count certificates.old) × (count_if R.count codewords.new ≡ count_if R.count codewords.old) × (count_if R.count packets.new ≡ count_if R.count packets.old) }
+    ensures read { result ≡ Err Fault.Read → R.count report.new + R.count certificates.new + wanted_count R.count codewords.new + wanted_count R.count packets.new ≡ R.count report.old + R.count certificates.old + wanted_count R.count codewords.old + wanted_count R.count packets.old + 1 }
+    ensures no_read { result ≢ Err Fault.Read → (R.count report.new ≡ R.count report.old) × (R.count certificates.new ≡ R.count certificates.old) × (wanted_count R.count codewords.new ≡ wanted_count R.count codewords.old) × (wanted_count R.count packets.new ≡ wanted_count R.count packets.old) }
 {
     match turn {
         Turn::Frame(told) => Ok(Turn::Frame(told)),

@@ -6,7 +6,8 @@ ghost use Rattle.s2_replay.specs.Frames.{HoldsSoft};
 ghost use Rattle.s2_replay.specs.Replayers.{IfFrame, IsFrameAt, IsSameReplayer};
 ghost use Rattle.s2_replay.specs.Running.{IsBy, IsStuck};
 ghost use Rattle.s2_audit.specs.Differences.{ReadsLine, packet_number};
-ghost use Rattle.s2_audit.specs.Evidences.{count_if, evidence_by};
+ghost use Rattle.s2_audit.specs.Evidences.{evidence_by};
+ghost use Rattle.s2_receive.specs.Sinks.{wanted_count};
 ghost use Rattle.s2_audit.specs.FrameAnswers.{terms_by};
 ghost use Rattle.s2_audit.specs.Turns.{FailedOnce, SameFailures, ends_by, failures_by};
 ghost use Rattle.s2_audit.specs.Steps.{ComparesIf, ComparesTurn, Judges, JudgesFrame, JudgesLast, TurnIs, no_frame_at, other_last, refused_at, told_last, turn_by};
@@ -133,15 +134,15 @@ fn judge_frame<R: CountedRead>(
     codewords: &mut Option<R>,
 ) -> Result<Turn, Fault<'static>>
     requires certificates { CanCount (R.count certificates.old) }
-    requires codewords { CanCount (count_if R.count codewords.old) }
+    requires codewords { CanCount (wanted_count R.count codewords.old) }
     requires found { auditor.old.replayer.follower.found ≡ Some found }
     requires frame { IsFrameAt found at }
     requires soft { HoldsSoft auditor.old.replayer }
     ensures judges { let ends = evidence_by R.remaining in JudgesFrame auditor.old auditor.new found at entry line.now place (ends certificates.old codewords.old) (ends certificates.new codewords.new) result }
     ensures rows { auditor.new.rows ≡ auditor.old.rows }
     ensures same { IsSameReplayer auditor.old.replayer auditor.new.replayer }
-    ensures read { result ≡ Err Fault.Read → R.count certificates.new + count_if R.count codewords.new ≡ R.count certificates.old + count_if R.count codewords.old + 1 }
-    ensures no_read { result ≢ Err Fault.Read → (R.count certificates.new ≡ R.count certificates.old) × (count_if R.count codewords.new ≡ count_if R.count codewords.old) }
+    ensures read { result ≡ Err Fault.Read → R.count certificates.new + wanted_count R.count codewords.new ≡ R.count certificates.old + wanted_count R.count codewords.old + 1 }
+    ensures no_read { result ≢ Err Fault.Read → (R.count certificates.new ≡ R.count certificates.old) × (wanted_count R.count codewords.new ≡ wanted_count R.count codewords.old) }
 {
     match entry {
         Some(Entry::Frame(frame)) => {
@@ -216,10 +217,10 @@ fn compare<R: CountedRead>(
     place: Place,
     packets: &mut Option<R>,
 ) -> Result<Turn, Fault<'static>>
-    requires packets { CanCount (count_if R.count packets.old) }
+    requires packets { CanCount (wanted_count R.count packets.old) }
     ensures compares { ComparesIf own.now (option_map R.remaining packets.old) (option_map R.remaining packets.new) told place result }
-    ensures read { result ≡ Err Fault.Read → count_if R.count packets.new ≡ count_if R.count packets.old + 1 }
-    ensures no_read { result ≢ Err Fault.Read → count_if R.count packets.new ≡ count_if R.count packets.old }
+    ensures read { result ≡ Err Fault.Read → wanted_count R.count packets.new ≡ wanted_count R.count packets.old + 1 }
+    ensures no_read { result ≢ Err Fault.Read → wanted_count R.count packets.new ≡ wanted_count R.count packets.old }
 {
     let Some(reader) = packets else {
         return Ok(Turn::Frame(told));
@@ -241,10 +242,10 @@ fn with_packets<R: CountedRead>(
     place: Place,
     packets: &mut Option<R>,
 ) -> Result<Turn, Fault<'static>>
-    requires packets { CanCount (count_if R.count packets.old) }
+    requires packets { CanCount (wanted_count R.count packets.old) }
     ensures compares { ComparesTurn own.now (option_map R.remaining packets.old) (option_map R.remaining packets.new) turn place result }
-    ensures read { result ≡ Err Fault.Read → count_if R.count packets.new ≡ count_if R.count packets.old + 1 }
-    ensures no_read { result ≢ Err Fault.Read → count_if R.count packets.new ≡ count_if R.count packets.old }
+    ensures read { result ≡ Err Fault.Read → wanted_count R.count packets.new ≡ wanted_count R.count packets.old + 1 }
+    ensures no_read { result ≢ Err Fault.Read → wanted_count R.count packets.new ≡ wanted_count R.count packets.old }
 {
     match turn {
         Turn::Frame(told) => compare(told, own, place, packets),
@@ -266,14 +267,14 @@ fn judge<R: CountedRead>(
     codewords: &mut Option<R>,
 ) -> Result<Turn, Fault<'static>>
     requires certificates { CanCount (R.count certificates.old) }
-    requires codewords { CanCount (count_if R.count codewords.old) }
+    requires codewords { CanCount (wanted_count R.count codewords.old) }
     requires found { auditor.old.replayer.follower.found ≡ Some found }
     requires soft { IfFrame (Some found) (HoldsSoft auditor.old.replayer) }
     ensures judges { let ends = evidence_by R.remaining in Judges auditor.old auditor.new found entry line.now place (ends certificates.old codewords.old) (ends certificates.new codewords.new) result }
     ensures rows { auditor.new.rows ≡ auditor.old.rows }
     ensures same { IsSameReplayer auditor.old.replayer auditor.new.replayer }
-    ensures read { result ≡ Err Fault.Read → R.count certificates.new + count_if R.count codewords.new ≡ R.count certificates.old + count_if R.count codewords.old + 1 }
-    ensures no_read { result ≢ Err Fault.Read → (R.count certificates.new ≡ R.count certificates.old) × (count_if R.count codewords.new ≡ count_if R.count codewords.old) }
+    ensures read { result ≡ Err Fault.Read → R.count certificates.new + wanted_count R.count codewords.new ≡ R.count certificates.old + wanted_count R.count codewords.old + 1 }
+    ensures no_read { result ≢ Err Fault.Read → (R.count certificates.new ≡ R.count certificates.old) × (wanted_count R.count codewords.new ≡ wanted_count R.count codewords.old) }
 {
     match found {
         Next::Frame { at, .. } => judge_frame(
@@ -305,8 +306,8 @@ pub(crate) fn audit_next<R: CountedRead>(
     requires symbols { CanCount (R.count symbols.old) }
     requires report { CanCount (R.count report.old) }
     requires certificates { CanCount (R.count certificates.old) }
-    requires codewords { CanCount (count_if R.count codewords.old) }
-    requires packets { CanCount (count_if R.count packets.old) }
+    requires codewords { CanCount (wanted_count R.count codewords.old) }
+    requires packets { CanCount (wanted_count R.count packets.old) }
     requires none { auditor.old.replayer.follower.found ≡ None }
     requires by { IsBy (terms_by auditor.old) auditor.old.replayer.follower }
     ensures turns { let ends = ends_by R.remaining in TurnIs (terms_by auditor.old) (ends symbols.old report.old certificates.old codewords.old packets.old)
