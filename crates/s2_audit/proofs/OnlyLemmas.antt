@@ -359,6 +359,14 @@ no_more t now new p difference left h = by difference h
 
 -- ---- the next thing
 
+-- the line of a cut frame or of the end that is left first
+pub record Last (t : Terms) (mid : Follower) (more : List Shown) (later : List (List ℕ)) (found : Next) : Type 0 where
+  pub own : List ℕ
+  pub lines : List (List ℕ)
+  pub none : more ≡ []
+  pub later_is : later ≡ own ∷ lines
+  pub line_is : line_by t mid found (claimed_decision Broken true) ≡ own ++ 10 ∷ []
+
 module _ (t : Terms) (recording : List ℕ) (now new : Ends) (f mid f' : Follower) (line : List ℕ) (known : Bool) (decisions : List Decision) (lines : List (List ℕ)) (packets : List ℕ)
   (more : List Shown) (later : List (List ℕ)) (rest : List ℕ) (r : Remains t recording now f known decisions lines packets more later rest) where
   -- ---- a frame
@@ -453,19 +461,11 @@ module _ (t : Terms) (recording : List ℕ) (now new : Ends) (f mid f' : Followe
 
   -- ---- a cut frame, or the end
 
-  -- the line that is left first is its own
-  pub record Last (found : Next) : Type 0 where
-    pub own : List ℕ
-    pub lines : List (List ℕ)
-    pub none : more ≡ []
-    pub later_is : later ≡ own ∷ lines
-    pub line_is : line_by t mid found (claimed_decision Broken true) ≡ own ++ 10 ∷ []
-
   module _ (found : Next) (never : IsFrame found → ⊥) (entry : Option Entry) (meets : Meets t now new f mid found line entry) where
-    last : Last found
+    last : Last t mid more later found
     last = by found never more later (expected t recording now new f mid found line entry meets known decisions lines packets more later rest r) refl refl
       where
-        by : (n : Next) → (IsFrame n → ⊥) → (ms : List Shown) (ls : List (List ℕ)) → ExpectsNext t mid n true (decisions_of ms) ls rest → more ≡ ms → later ≡ ls → Last n
+        by : (n : Next) → (IsFrame n → ⊥) → (ms : List Shown) (ls : List (List ℕ)) → ExpectsNext t mid n true (decisions_of ms) ls rest → more ≡ ms → later ≡ ls → Last t mid more later n
         by (next.Frame at skipped) no ms ls h m l = absurd (no tt)
         by (next.Cut at skipped count) no [] (own ∷ end ∷ []) (is, none) m l = record { own = own; lines = end ∷ []; none = m; later_is = l; line_is = is }
         by (next.Cut at skipped count) no [] (own ∷ end ∷ x ∷ xs) h m l = absurd h
