@@ -3,3 +3,4 @@ mod LineLemmas
 mod NumberLemmas
 pub mod ReadBack
 mod Rooms
+pub mod SaidVerdicts

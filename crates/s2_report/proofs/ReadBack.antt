@@ -1,6 +1,7 @@
 -- Lines of a report that were written, read back.
-use Rattle.std.proofs.Common.{◌≡◌, ℕ, suc, ◌^◌, ◌<◌, ◌≤◌, ◌&&◌, ℤ, pos, negsuc, Bool, true, false, not, SFits, w64, List, [], ◌∷◌, ◌++◌, Some, length, refl, ap, ◌∙◌, append_assoc, length-append, arith, decimal, codes}
-use Rattle.std.specs.Fmt.{signed_decimal}
+use Rattle.std.proofs.Common.{◌≡◌, ℕ, zero, suc, ◌+◌, ◌/◌, ◌%◌, ◌^◌, ◌==◌, ◌<◌, ◌≤◌, ◌&&◌, ℤ, pos, negsuc, Bool, true, false, not, SFits, w64, List, [], ◌∷◌, ◌++◌, Some, length, refl, ap, ◌∙◌, append_assoc, length-append, arith, decimal, codes}
+use Rattle.std.specs.Bool.{if◌then◌else◌}
+use Rattle.std.specs.Fmt.{digit_glyph, digits, digits_onto, signed_decimal}
 use Rattle.std.specs.List.{AllByRecursion}
 use Rattle.std.proofs.lemmas.Bool.{cond-true, cond-false, le-leb, lt-ltb, ne_eqb, and_parts}
 use Rattle.std.proofs.lemmas.Int.{ints}
@@ -82,8 +83,29 @@ pub signed_line : (z : ℤ) → SFits w64 z → IsLine (signed_decimal z)
 signed_line (pos n) fits = number_line n (omega (arith, ints, fits.sfits))
 signed_line (negsuc n) fits = is_line (45 ∷ decimal (suc n)) (refl, in_line (suc n) (omega (arith, ints, fits.sfits)))
 
-number_is_word : (n : ℕ) → n < 2 ^ 64 → Lacks is_blank (decimal n)
-number_is_word n small = no_blank (decimal n) (decimal_says n small).digits
+-- ---- a number of any size is a word
+
+of_either : (P : List ℕ → Type 0) (b : Bool) (xs ys : List ℕ) → P xs → P ys → P (if b then xs else ys)
+of_either P true xs ys p q = p
+of_either P false xs ys p q = q
+
+glyph_is : (d : ℕ) → d < 10 → digit_glyph false d ≡ 48 + d
+glyph_is d small = cond-true _ _ _ (lt-ltb d 10 small)
+
+glyph_before : (n : ℕ) (ds : List ℕ) → Digits ds → Digits (digit_glyph false (n % 10) ∷ ds)
+glyph_before n ds all =
+    let is = glyph_is (n % 10) (omega arith) in
+    (omega (arith, is), omega (arith, is), all)
+
+digits_before : (k n : ℕ) (ds : List ℕ) → Digits ds → Digits (digits_onto k 10 false n ds)
+digits_before zero n ds all = all
+digits_before (suc k) n ds all =
+    let more = glyph_before n ds all in
+    of_either Digits (n / 10 == 0) _ _ more (digits_before k (n / 10) _ more)
+
+number_is_word : (n : ℕ) → Lacks is_blank (decimal n)
+unfolding digits
+number_is_word n = no_blank (decimal n) (digits_before 64 n [] tt)
 
 -- ---- words
 
@@ -110,7 +132,7 @@ below n small = omega (arith, small)
 number_back : (n : ℕ) → n < max_symbols → number_in (decimal n) ≡ Some n
 number_back n small = ap below_limit (natural_of_decimal n (below n small)) ∙ cond-true _ _ _ (lt-ltb n max_symbols small)
 
-verdict_back : (v : Verdict) → verdict_in (verdict_word v) ≡ Some v
+pub verdict_back : (v : Verdict) → verdict_in (verdict_word v) ≡ Some v
 verdict_back Sole = refl
 verdict_back MostLikely = refl
 verdict_back Parity = refl
@@ -129,27 +151,22 @@ verdict_line Parity = known_line (codes "parity") refl
 verdict_line Broken = known_line (codes "broken") refl
 
 -- the words of a frame's line, and what follows its verdict
-abbrev words : Report → List ℕ → List ℕ
+abbrev pub words : Report → List ℕ → List ℕ
 words r rest = codes "frame " ++ (decimal r.number ++ (codes " at " ++ (decimal r.at ++ (codes " " ++ (verdict_word r.verdict ++ (codes " " ++ rest))))))
 
-module _ (r : Report) (small : IsSmall (frame_of_report r)) where
-  number_fits : r.number < 2 ^ 64
-  number_fits = below r.number small.0
-
-  at_fits : r.at < 2 ^ 64
-  at_fits = below r.at small.1
-
-  split : (rest : List ℕ) → words_of (words r rest) ≡ codes "frame" ∷ decimal r.number ∷ codes "at" ∷ decimal r.at ∷ verdict_word r.verdict ∷ words_of rest
+module _ (r : Report) where
+  pub split : (rest : List ℕ) → words_of (words r rest) ≡ codes "frame" ∷ decimal r.number ∷ codes "at" ∷ decimal r.at ∷ verdict_word r.verdict ∷ words_of rest
   split rest =
       word (codes "frame") _ (known is_blank (codes "frame") refl)
-      ∙ ap (λ l. codes "frame" ∷ l) (word (decimal r.number) _ (number_is_word r.number number_fits)
+      ∙ ap (λ l. codes "frame" ∷ l) (word (decimal r.number) _ (number_is_word r.number)
       ∙ ap (λ l. decimal r.number ∷ l) (word (codes "at") _ (known is_blank (codes "at") refl)
-      ∙ ap (λ l. codes "at" ∷ l) (word (decimal r.at) _ (number_is_word r.at at_fits)
+      ∙ ap (λ l. codes "at" ∷ l) (word (decimal r.at) _ (number_is_word r.at)
       ∙ ap (λ l. decimal r.at ∷ l) (word (verdict_word r.verdict) rest (verdict_is_word r.verdict)))))
 
+module _ (r : Report) (small : IsSmall (frame_of_report r)) where
   pub says : (rest : List ℕ) → entry_of (words_of (words r rest)) ≡ Some (entries.Frame (frame_of_report r))
   says rest =
-      ap entry_of (split rest)
+      ap entry_of (split r rest)
       ∙ ap (λ n. entry_with (frame_with n (number_in (decimal r.at)) (verdict_in (verdict_word r.verdict)))) (number_back r.number small.0)
       ∙ ap (λ n. entry_with (frame_with (Some r.number) n (verdict_in (verdict_word r.verdict)))) (number_back r.at small.1)
       ∙ ap (λ v. entry_with (frame_with (Some r.number) (Some r.at) v)) (verdict_back r.verdict)
@@ -158,13 +175,13 @@ module _ (r : Report) where
   abbrev front : List ℕ
   front = codes "frame " ++ decimal r.number ++ codes " at " ++ decimal r.at ++ codes " " ++ verdict_word r.verdict ++ codes " "
 
-  abbrev text : List ℕ
+  abbrev pub text : List ℕ
   text = front ++ outcome_words r.outcome ++ figures_words r.figures ++ turn_words r.turn
 
-  abbrev rest : List ℕ
+  abbrev pub rest : List ℕ
   rest = outcome_words r.outcome ++ figures_words r.figures ++ turn_words r.turn
 
-  spelt : text ≡ words r rest
+  pub spelt : text ≡ words r rest
   spelt =
       ap (λ l. l ++ turn_words r.turn) (append_assoc front (outcome_words r.outcome) (figures_words r.figures))
       ∙ append_assoc front (outcome_words r.outcome ++ figures_words r.figures) (turn_words r.turn)
@@ -213,10 +230,10 @@ sums_line s changed known known_power payload payload_power =
 -- ---- other lines
 
 -- the words after the first are of no account
-cut_says : (rest : List ℕ) → entry_of (words_of (codes "cut" ++ 32 ∷ rest)) ≡ Some entries.Other
+pub cut_says : (rest : List ℕ) → entry_of (words_of (codes "cut" ++ 32 ∷ rest)) ≡ Some entries.Other
 cut_says rest = ap entry_of (word (codes "cut") rest (known is_blank (codes "cut") refl))
 
-end_says : (rest : List ℕ) → entry_of (words_of (codes "end" ++ 32 ∷ rest)) ≡ Some entries.Other
+pub end_says : (rest : List ℕ) → entry_of (words_of (codes "end" ++ 32 ∷ rest)) ≡ Some entries.Other
 end_says rest = ap entry_of (word (codes "end") rest (known is_blank (codes "end") refl))
 
 pub cut_back : (at count : ℕ) → IsLine (decimal at) → IsLine (decimal count) → length (cut_line at count) ≤ 512 → IsReadAs (cut_line at count) entries.Other
