@@ -230,10 +230,10 @@ sums_line s changed known known_power payload payload_power =
 -- ---- other lines
 
 -- the words after the first are of no account
-pub cut_says : (rest : List ℕ) → entry_of (words_of (codes "cut" ++ 32 ∷ rest)) ≡ Some entries.Other
+cut_says : (rest : List ℕ) → entry_of (words_of (codes "cut" ++ 32 ∷ rest)) ≡ Some entries.Other
 cut_says rest = ap entry_of (word (codes "cut") rest (known is_blank (codes "cut") refl))
 
-pub end_says : (rest : List ℕ) → entry_of (words_of (codes "end" ++ 32 ∷ rest)) ≡ Some entries.Other
+end_says : (rest : List ℕ) → entry_of (words_of (codes "end" ++ 32 ∷ rest)) ≡ Some entries.Other
 end_says rest = ap entry_of (word (codes "end") rest (known is_blank (codes "end") refl))
 
 pub cut_back : (at count : ℕ) → IsLine (decimal at) → IsLine (decimal count) → length (cut_line at count) ≤ 512 → IsReadAs (cut_line at count) entries.Other

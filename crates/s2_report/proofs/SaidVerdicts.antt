@@ -1,19 +1,18 @@
 -- What a reader finds in a line of a report.
-use Rattle.std.proofs.Common.{◌≡◌, ℕ, Bool, true, false, List, [], ◌∷◌, ◌++◌, Option, Some, None, refl, sym, ap, ◌∙◌, decimal, codes}
+use Rattle.std.proofs.Common.{◌≡◌, ℕ, Bool, true, false, List, [], ◌∷◌, ◌++◌, Option, Some, None, refl, sym, ap, ◌∙◌, decimal}
 use Rattle.std.specs.Bool.{if◌then◌else◌}
 use Rattle.std.proofs.lemmas.List.{append_cancel_right}
 use Rattle.std.proofs.lemmas.Option.{none-some, same_Some}
 use Rattle.s2_check.specs.declared.verdict.Verdict.{Verdict}
-use Rattle.s2_report.specs.Entries.{entry_in, entry_of, entry_of_step, entry_with, frame_with, number_in, words_of}
-use Rattle.s2_report.specs.ReportLines.{cut_line, delivered_words, end_line, frame_line, frames_words, packets_words, step_line, sums_words}
+use Rattle.s2_report.specs.Entries.{entry_in, entry_of, entry_with, frame_with, number_in, words_of}
+use Rattle.s2_report.specs.ReportLines.{frame_line, step_line}
 use Rattle.s2_report.specs.declared.entry.Entry.{Entry}
 use Rattle.s2_report.specs.declared.entry.Entry.TheVariants as entries
 use Rattle.s2_report.specs.declared.entry.Frame.{Frame}
 use Rattle.s2_report.specs.declared.report.Report.{Report}
-use Rattle.s2_report.specs.declared.report.Step.{Step}
 use Rattle.s2_report.specs.declared.report.Step.TheVariants as steps
 use Rattle.s2_report.specs.declared.totals.Totals.{Totals}
-use Rattle.s2_report.proofs.ReadBack.{cut_says, end_says, rest, spelt, split, verdict_back, words}
+use Rattle.s2_report.proofs.ReadBack.{rest, spelt, split, verdict_back, words}
 
 -- a line that is read is not too long
 kept : (short : Bool) (o : Option Entry) (entry : Entry) → (if short then o else None) ≡ Some entry → o ≡ Some entry
@@ -22,8 +21,6 @@ kept false o entry e = absurd (none-some entry e)
 
 words_said : (text : List ℕ) (entry : Entry) → entry_in text ≡ Some entry → entry_of (words_of text) ≡ Some entry
 words_said text entry e = kept _ (entry_of (words_of text)) entry e
-
--- ---- the line of a frame
 
 -- a frame with this verdict
 abbrev Says : Verdict → Entry → Type 0
@@ -48,26 +45,3 @@ module _ (r : Report) where
 pub verdict_said : (r : Report) (totals : Totals) (text : List ℕ) (entry : Entry) → step_line (steps.Frame r) totals ≡ text ++ 10 ∷ [] → entry_in text ≡ Some entry → (frame : Frame) × (entry ≡ entries.Frame frame) × (frame.verdict ≡ r.verdict)
 verdict_said r totals text entry line said =
     frame_said (number_in (decimal r.number)) (number_in (decimal r.at)) r.verdict entry (sym (frame_words r text (frame_text r text line)) ∙ words_said text entry said)
-
--- ---- other lines
-
-other_words : (text : List ℕ) (entry : Entry) → entry_of (words_of text) ≡ Some entries.Other → entry_in text ≡ Some entry → entry ≡ entries.Other
-other_words text entry other said = same_Some entry entries.Other (sym (words_said text entry said) ∙ other)
-
-cut_said : (at count : ℕ) (text : List ℕ) → cut_line at count ≡ text ++ 10 ∷ [] → entry_of (words_of text) ≡ Some entries.Other
-unfolding cut_line
-cut_said at count text e =
-    let is : text ≡ codes "cut at " ++ decimal at ++ codes " symbols " ++ decimal count = append_cancel_right text _ (10 ∷ []) (sym e) in
-    ap (λ l. entry_of (words_of l)) is ∙ cut_says (codes "at " ++ decimal at ++ codes " symbols " ++ decimal count)
-
-end_said : (t : Totals) (text : List ℕ) → end_line t ≡ text ++ 10 ∷ [] → entry_of (words_of text) ≡ Some entries.Other
-unfolding end_line frames_words
-end_said t text e =
-    let is : text ≡ frames_words t ++ delivered_words t ++ packets_words t ++ sums_words t.sums = append_cancel_right text _ (10 ∷ []) (sym e) in
-    ap (λ l. entry_of (words_of l)) is ∙ end_says (codes "frames " ++ decimal t.frames ++ delivered_words t ++ packets_words t ++ sums_words t.sums)
-
--- the lines of a cut frame and of the end are not those of a frame
-pub other_said : (step : Step) (totals : Totals) (text : List ℕ) (entry : Entry) → entry_of_step step ≡ entries.Other → step_line step totals ≡ text ++ 10 ∷ [] → entry_in text ≡ Some entry → entry ≡ entries.Other
-other_said (steps.Frame r) totals text entry other line said = cc
-other_said (steps.Cut at count) totals text entry other line said = other_words text entry (cut_said at count text line) said
-other_said steps.End totals text entry other line said = other_words text entry (end_said totals text line) said
