@@ -1,9 +1,9 @@
 -- A run of a follower, step by step.
-use Rattle.s2_receive.proofs.Names.{◌≡◌, ℕ, ◌+◌, ◌-◌, ◌≤◌, ◌&&◌, arith, Bool, true, false, List, [], ◌∷◌, ◌++◌, length, drop, Option, Some, None, refl, sym, ap, ap₂, subst, ◌∙◌, append-nil, append_assoc, drop_at, drop-drop, drop-append-le, if◌then◌else◌, Symbol, symbols_of, Sought, frame, cut, ended, no_gap, met_from, resumed, Window, room_for, passed_by, window_after, met_of, met_within, Follows, HoldsLast, IsInFront, Rules, Standing, State, Decision, is_lost, left_by, after, IsDecided, Handles, step_line, Next, Phase, found_as}
+use Rattle.s2_receive.proofs.Names.{◌≡◌, ℕ, ◌+◌, ◌-◌, ◌≤◌, ◌&&◌, arith, Bool, true, false, List, [], ◌∷◌, ◌++◌, length, drop, Option, Some, None, refl, sym, ap, ap₂, subst, ◌∙◌, append-nil, append_assoc, drop_at, drop-drop, drop-append-le, if◌then◌else◌, Symbol, symbols_of, Sought, Met, cut, ended, no_gap, met_from, resumed, Window, room_for, passed_by, window_after, met_of, met_within, Follows, HoldsLast, IsInFront, Rules, Standing, State, Decision, is_lost, left_by, after, line_of, IsDecided, Handles, step_line, Next, Phase, found_as}
 use Rattle.s2_receive.proofs.Names.next
 use Rattle.s2_receive.proofs.Names.phases
 use Rattle.s2_mode.specs.Mode.{symbols_in}
-use Rattle.s2_receive.specs.Halves.{Follower, IsSameFollower, IsRunBy, IsShown, RunBeginsLaw, RunEndsLaw, RunSeeksLaw, RunSettlesLaw, RunsBy, SeeksBy, ahead, deciding, decision_if, met_behind, rules_with}
+use Rattle.s2_receive.specs.Halves.{Follower, GoesOnFrom, IsSameFollower, IsRunBy, IsShown, RunBeginsLaw, RunEndsLaw, RunSeeksLaw, RunSettlesLaw, RunsBy, SeeksBy, ahead, deciding, decision_if, met_behind, rules_with}
 use Rattle.s2_receive.specs.Receiving.{wanted_by}
 use Rattle.s2_receive.proofs.LastSymbols.{last-last, last-more, passed_last}
 use Rattle.s2_receive.proofs.MetLemmas.{passed-inside}
@@ -15,6 +15,11 @@ rules_kept decide old new s = λ i. record { finds = found_as (s.sought i) (s.ma
 
 size_kept : (old new : Follower) → IsSameFollower old new → symbols_in new.sought.mode ≡ symbols_in old.sought.mode
 size_kept old new s = ap (λ (x : Sought). symbols_in x.mode) s.sought
+
+-- a property of a recording, a standing and the things met next, with each of them given otherwise
+moved : (P : List Symbol → Standing → List Met → Type 0) (l l' : List Symbol) (s s' : Standing) (m m' : List Met) → l ≡ l' → s ≡ s' → m ≡ m' → P l s m → P l' s' m'
+moved P l l' s s' m m' same_recording same_standing same_met x =
+    subst (λ n. P l' s' n) same_met (subst (λ t. P l' t m) same_standing (subst (λ k. P k s m) same_recording x))
 
 -- none may follow the last symbols
 none_follow : (more_come : Bool) → Follows more_come []
@@ -73,6 +78,7 @@ run_seeks Shows decide taken more_come old new ds lines packets bytes whole foun
   last = last_so old.state.phase refl seeks.seeks;
   front = subst (λ n. IsInFront n new.found new.state.window new.frame) (sym (size_kept old new seeks.same)) (subst (λ n. IsInFront (symbols_in old.sought.mode) n new.state.window new.frame) (sym seeks.found_is) seeks.front);
   goes_on = subst (λ x. Goes x) (sym (rules_kept decide old new seeks.same)) goes;
+  only = subst (λ x. Only x) (sym (rules_kept decide old new seeks.same)) back;
 }
   where
     rules : Rules
@@ -86,6 +92,12 @@ run_seeks Shows decide taken more_come old new ds lines packets bytes whole foun
     Goes x =
         (coming : List Symbol) → Follows (more_come && whole) coming → (more : List Decision) (later : List (List ℕ)) (rest : List ℕ) → RunsBy Shows x ((taken ++ symbols) ++ coming) new.state.standing (ahead x new new.found coming) more later rest
         → IsRunBy Shows x ((taken ++ symbols) ++ coming) (ds ++ more) (lines ++ later) (packets ++ rest)
+
+    -- and only so
+    Only : Rules → Type 0
+    Only x =
+        (coming : List Symbol) → Follows (more_come && whole) coming → (more : List Decision) (all_lines : List (List ℕ)) (all_given : List ℕ) → IsRunBy Shows x ((taken ++ symbols) ++ coming) (ds ++ more) all_lines all_given
+        → GoesOnFrom Shows x ((taken ++ symbols) ++ coming) coming new lines packets more all_lines all_given
 
     -- how many bytes are wanted in a phase
     wanted_in : Phase → ℕ
@@ -118,23 +130,39 @@ run_seeks Shows decide taken more_come old new ds lines packets bytes whole foun
     ahead_so coming follows phases.Failed found is still seeks =
         ap (λ p. left_by (record rules { resync = false }) p old.state.window (symbols ++ coming)) is ∙ sym (ap (λ n. ahead rules new n coming) seeks.0 ∙ ap (λ p. left_by (record rules { resync = false }) p new.state.window coming) still)
 
+    one : (coming : List Symbol) → (taken ++ symbols) ++ coming ≡ taken ++ (symbols ++ coming)
+    one coming = append_assoc taken symbols coming
+
+    standing : new.state.standing ≡ old.state.standing
+    standing = ap (λ (s : State). s.standing) seeks.state
+
+    next_is : (coming : List Symbol) → Follows whole coming → ahead rules new new.found coming ≡ ahead rules old old.found (symbols ++ coming)
+    next_is coming whole_on =
+        let phase : new.state.phase ≡ old.state.phase = ap (λ (s : State). s.phase) seeks.state in
+        ap (λ n. ahead rules new n coming) seeks.found_is ∙ sym (ahead_so coming whole_on old.state.phase found refl phase seeks.seeks) ∙ sym (ap (λ n. ahead rules old n (symbols ++ coming)) none)
+
     goes : Goes rules
     goes coming follows more later rest runs =
         let (may_on, whole_on) = follows_on more_come whole symbols coming may follows in
-        let one : (taken ++ symbols) ++ coming ≡ taken ++ (symbols ++ coming) = append_assoc taken symbols coming in
-        let phase : new.state.phase ≡ old.state.phase = ap (λ (s : State). s.phase) seeks.state in
-        let standing : new.state.standing ≡ old.state.standing = ap (λ (s : State). s.standing) seeks.state in
-        let next_is : ahead rules new new.found coming ≡ ahead rules old old.found (symbols ++ coming) =
-        ap (λ n. ahead rules new n coming) seeks.found_is ∙ sym (ahead_so coming whole_on old.state.phase found refl phase seeks.seeks) ∙ sym (ap (λ n. ahead rules old n (symbols ++ coming)) none) in
-        let moved = subst (λ s. RunsBy Shows rules ((taken ++ symbols) ++ coming) s (ahead rules new new.found coming) more later rest) standing runs in
-        let before = subst (λ m. RunsBy Shows rules ((taken ++ symbols) ++ coming) old.state.standing m more later rest) next_is moved in
-        let there = subst (λ l. RunsBy Shows rules l old.state.standing (ahead rules old old.found (symbols ++ coming)) more later rest) one before in
-        subst (λ l. IsRunBy Shows rules l (ds ++ more) (lines ++ later) (packets ++ rest)) (sym one) (so_far.goes_on (symbols ++ coming) may_on more later rest there)
+        let there = moved (λ l s m. RunsBy Shows rules l s m more later rest) _ _ _ _ _ _ (one coming) standing (next_is coming whole_on) runs in
+        subst (λ l. IsRunBy Shows rules l (ds ++ more) (lines ++ later) (packets ++ rest)) (sym (one coming)) (so_far.goes_on (symbols ++ coming) may_on more later rest there)
+
+    back : Only rules
+    back coming follows more all_lines all_given run =
+        let (may_on, whole_on) = follows_on more_come whole symbols coming may follows in
+        let all = so_far.only (symbols ++ coming) may_on more all_lines all_given (subst (λ l. IsRunBy Shows rules l (ds ++ more) all_lines all_given) (one coming) run) in
+        record {
+          later = all.later;
+          rest = all.rest;
+          lines_are = all.lines_are;
+          packets_are = all.packets_are;
+          runs = moved (λ l s m. RunsBy Shows rules l s m more all.later all.rest) _ _ _ _ _ _ (sym (one coming)) (sym standing) (sym (next_is coming whole_on)) all.runs;
+        }
 
 -- ---- the second half
 
 -- what was found is decided so
-decided_so : (rules : Rules) (found : Next) (symbols : List Symbol) (d : Decision) → IsDecided (deciding rules d) (met_of found symbols) d
+pub decided_so : (rules : Rules) (found : Next) (symbols : List Symbol) (d : Decision) → IsDecided (deciding rules d) (met_of found symbols) d
 decided_so rules (next.Frame at skipped) symbols d = refl
 decided_so rules (next.Cut at skipped count) symbols d = tt
 decided_so rules (next.End at skipped) symbols d = tt
@@ -150,6 +178,7 @@ run_settles Shows decide taken more_come old new ds lines packets found d step s
   last = subst (HoldsLast 0 taken) (sym settles.window) (settled_last taken (old.resync && is_lost d) rules.size found old.state.window old.frame (symbols_least old.sought.mode) front so_far.last);
   front = subst (λ n. IsInFront (symbols_in new.sought.mode) n new.state.window new.frame) (sym settles.none) tt;
   goes_on = subst (λ x. Goes x) (sym (rules_kept decide old new settles.same)) goes;
+  only = subst (λ x. Only x) (sym (rules_kept decide old new settles.same)) back;
 }
   where
     rules : Rules
@@ -166,50 +195,89 @@ run_settles Shows decide taken more_come old new ds lines packets found d step s
         (coming : List Symbol) → Follows more_come coming → (more : List Decision) (later : List (List ℕ)) (rest : List ℕ) → RunsBy Shows x (taken ++ coming) new.state.standing (ahead x new new.found coming) more later rest
         → IsRunBy Shows x (taken ++ coming) ((ds ++ decision_if found d) ++ more) ((lines ++ (line ∷ [])) ++ later) ((packets ++ new.packets) ++ rest)
 
+    -- and only so
+    Only : Rules → Type 0
+    Only x =
+        (coming : List Symbol) → Follows more_come coming → (more : List Decision) (all_lines : List (List ℕ)) (all_given : List ℕ) → IsRunBy Shows x (taken ++ coming) ((ds ++ decision_if found d) ++ more) all_lines all_given
+        → GoesOnFrom Shows x (taken ++ coming) coming new (lines ++ (line ∷ [])) (packets ++ new.packets) more all_lines all_given
+
+    -- it was handled so
+    Handled : Next → Type 0
+    Handled found = Handles (deciding rules d) old.state new.state (met_of found old.frame) new.packets step
+
+    -- its line is that of the step
+    line_is : (found : Next) → Handled found → line ≡ line_of (deciding rules d) old.state.standing (met_of found old.frame)
+    line_is found handles = ap₂ step_line handles.step_is (ap (λ (x : Standing). x.totals) handles.standing)
+
+    -- what is met after it
+    met_after : List Symbol → Next → List Met
+    met_after coming (next.Frame at skipped) = met_behind rules (taken ++ coming) at d
+    met_after coming (next.Cut at skipped count) = ended no_gap ∷ []
+    met_after coming (next.End at skipped) = []
+
+    -- this is what the new follower meets
+    behind : (coming : List Symbol) (found : Next) → IsInFront rules.size (Some found) old.state.window old.frame → Handled found
+        → new.state.window ≡ window_after (λ symbols. old.resync && is_lost d) rules.size (Some found) old.state.window → ahead rules new new.found coming ≡ met_after coming found
+    behind coming (next.Frame at skipped) front handles window =
+        ap (λ n. ahead rules new n coming) settles.none ∙ ap (λ p. left_by (record rules { resync = false }) p new.state.window coming) handles.phase
+        ∙ ap (λ w. met_within rules.finds (λ symbols. false) rules.size w coming) window ∙ passes rules taken coming old.state.window at d so_far.last front.0 front.1 (symbols_least old.sought.mode)
+    behind coming (next.Cut at skipped count) front handles window = ap (λ n. ahead rules new n coming) settles.none ∙ ap (λ p. left_by (record rules { resync = false }) p new.state.window coming) handles.phase
+    behind coming (next.End at skipped) front handles window = ap (λ n. ahead rules new n coming) settles.none ∙ ap (λ p. left_by (record rules { resync = false }) p new.state.window coming) handles.phase
+
     -- one step more
-    step_more : (coming : List Symbol) (more : List Decision) (later : List (List ℕ)) (rest : List ℕ) (found : Next) → IsInFront rules.size (Some found) old.state.window old.frame → IsShown Shows found old.frame d
-        → Handles (deciding rules d) old.state new.state (met_of found old.frame) new.packets step → new.state.window ≡ window_after (λ symbols. old.resync && is_lost d) rules.size (Some found) old.state.window
-        → RunsBy Shows rules (taken ++ coming) new.state.standing (ahead rules new None coming) more later rest
+    step_more : (coming : List Symbol) (more : List Decision) (later : List (List ℕ)) (rest : List ℕ) (found : Next) → IsShown Shows found old.frame d → Handled found
+        → RunsBy Shows rules (taken ++ coming) (after (deciding rules d) old.state.standing (met_of found old.frame)) (met_after coming found) more later rest
         → RunsBy Shows rules (taken ++ coming) old.state.standing (ahead rules old (Some found) coming) (decision_if found d ++ more) (line ∷ later) (new.packets ++ rest)
-    step_more coming more later rest (next.Frame at skipped) front shown handles window runs =
-        let here = frame at skipped old.frame in
-        let s = after (deciding rules d) old.state.standing here in
-        let behind : ahead rules new None coming ≡ met_behind rules (taken ++ coming) at d =
-        ap (λ p. left_by (record rules { resync = false }) p new.state.window coming) handles.phase ∙ ap (λ w. met_within rules.finds (λ symbols. false) rules.size w coming) window
-        ∙ passes rules taken coming old.state.window at d so_far.last front.0 front.1 (symbols_least old.sought.mode) in (
-          shown,
-          ap₂ step_line handles.step_is (ap (λ (x : Standing). x.totals) handles.standing),
-          (
-            rest,
-            ap (λ p. p ++ rest) handles.packets_are,
-            subst (λ m. RunsBy Shows rules (taken ++ coming) s m more later rest) behind (subst (λ x. RunsBy Shows rules (taken ++ coming) x (ahead rules new None coming) more later rest) handles.standing runs),
-          ),
-        )
-    step_more coming more later rest (next.Cut at skipped count) front shown handles window runs =
-        let s = after rules old.state.standing (cut at skipped count) in
-        let behind = ap (λ p. left_by (record rules { resync = false }) p new.state.window coming) handles.phase in (
-          ap₂ step_line handles.step_is (ap (λ (x : Standing). x.totals) handles.standing),
-          subst (λ p. RunsBy Shows rules (taken ++ coming) s (ended no_gap ∷ []) more later (p ++ rest)) (sym handles.packets_are)
-              (subst (λ m. RunsBy Shows rules (taken ++ coming) s m more later rest) behind (subst (λ x. RunsBy Shows rules (taken ++ coming) x (ahead rules new None coming) more later rest) handles.standing runs)),
-        )
-    step_more coming more later rest (next.End at skipped) front shown handles window runs =
-        let s = after rules old.state.standing (ended skipped) in
-        let behind = ap (λ p. left_by (record rules { resync = false }) p new.state.window coming) handles.phase in (
-          ap₂ step_line handles.step_is (ap (λ (x : Standing). x.totals) handles.standing),
-          subst (λ p. RunsBy Shows rules (taken ++ coming) s [] more later (p ++ rest)) (sym handles.packets_are)
-              (subst (λ m. RunsBy Shows rules (taken ++ coming) s m more later rest) behind (subst (λ x. RunsBy Shows rules (taken ++ coming) x (ahead rules new None coming) more later rest) handles.standing runs)),
-        )
+    step_more coming more later rest (next.Frame at skipped) shown handles runs = (shown, line_is (next.Frame at skipped) handles, (rest, ap (λ p. p ++ rest) handles.packets_are, runs))
+    step_more coming more later rest (next.Cut at skipped count) shown handles runs =
+        (line_is (next.Cut at skipped count) handles, subst (λ p. RunsBy Shows rules (taken ++ coming) (after rules old.state.standing (cut at skipped count)) (ended no_gap ∷ []) more later (p ++ rest)) (sym handles.packets_are) runs)
+    step_more coming more later rest (next.End at skipped) shown handles runs =
+        (line_is (next.End at skipped) handles, subst (λ p. RunsBy Shows rules (taken ++ coming) (after rules old.state.standing (ended skipped)) [] more later (p ++ rest)) (sym handles.packets_are) runs)
+
+    -- a run that was one step more: the line of the step, its packets, and a run after it
+    StepBack : (coming : List Symbol) (more : List Decision) (all_lines : List (List ℕ)) (all_given : List ℕ) → Next → Type 0
+    StepBack coming more all_lines all_given found =
+        (later : List (List ℕ)) × (rest : List ℕ) × (all_lines ≡ line ∷ later) × (all_given ≡ new.packets ++ rest)
+        × RunsBy Shows rules (taken ++ coming) (after (deciding rules d) old.state.standing (met_of found old.frame)) (met_after coming found) more later rest
+
+    step_back : (coming : List Symbol) (more : List Decision) (all_lines : List (List ℕ)) (all_given : List ℕ) (found : Next) → Handled found
+        → RunsBy Shows rules (taken ++ coming) old.state.standing (ahead rules old (Some found) coming) (decision_if found d ++ more) all_lines all_given → StepBack coming more all_lines all_given found
+    step_back coming more [] all_given (next.Frame at skipped) handles runs = absurd runs
+    step_back coming more [] all_given (next.Cut at skipped count) handles runs = absurd runs
+    step_back coming more [] all_given (next.End at skipped) handles runs = absurd runs
+    step_back coming more (x ∷ later) all_given (next.Frame at skipped) handles (shown, is_line, (rest, packets_are, runs)) =
+        (later, rest, ap (λ l. l ∷ later) (is_line ∙ sym (line_is (next.Frame at skipped) handles)), packets_are ∙ ap (λ p. p ++ rest) (sym handles.packets_are), runs)
+    step_back coming more (x ∷ later) all_given (next.Cut at skipped count) handles (is_line, runs) =
+        (later, all_given, ap (λ l. l ∷ later) (is_line ∙ sym (line_is (next.Cut at skipped count) handles)), ap (λ p. p ++ all_given) (sym handles.packets_are), runs)
+    step_back coming more (x ∷ later) all_given (next.End at skipped) handles (is_line, runs) =
+        (later, all_given, ap (λ l. l ∷ later) (is_line ∙ sym (line_is (next.End at skipped) handles)), ap (λ p. p ++ all_given) (sym handles.packets_are), runs)
+
+    handled : Handled found
+    handled = settles.handles (deciding rules d) old.frame (decided_so rules found old.frame d)
 
     goes : Goes rules
     goes coming follows more later rest runs =
-        let runs_on = subst (λ n. RunsBy Shows rules (taken ++ coming) new.state.standing (ahead rules new n coming) more later rest) settles.none runs in
-        let handles = settles.handles (deciding rules d) old.frame (decided_so rules found old.frame d) in
-        let here = step_more coming more later rest found front shown handles settles.window runs_on in
+        let runs_on = moved (λ l s m. RunsBy Shows rules l s m more later rest) _ _ _ _ _ _ refl handled.standing (behind coming found front handled settles.window) runs in
+        let here = step_more coming more later rest found shown handled runs_on in
         let found_here = subst (λ n. RunsBy Shows rules (taken ++ coming) old.state.standing (ahead rules old n coming) (decision_if found d ++ more) (line ∷ later) (new.packets ++ rest)) (sym is) here in
         let all = so_far.goes_on coming follows (decision_if found d ++ more) (line ∷ later) (new.packets ++ rest) found_here in
         subst (λ l. IsRunBy Shows rules (taken ++ coming) l ((lines ++ (line ∷ [])) ++ later) ((packets ++ new.packets) ++ rest)) (sym (append_assoc ds (decision_if found d) more))
         (subst (λ l. IsRunBy Shows rules (taken ++ coming) (ds ++ (decision_if found d ++ more)) l ((packets ++ new.packets) ++ rest)) (sym (append_assoc lines (line ∷ []) later))
         (subst (λ l. IsRunBy Shows rules (taken ++ coming) (ds ++ (decision_if found d ++ more)) (lines ++ (line ∷ later)) l) (sym (append_assoc packets new.packets rest)) all))
+
+    back : Only rules
+    back coming follows more all_lines all_given run =
+        let there = subst (λ l. IsRunBy Shows rules (taken ++ coming) l all_lines all_given) (append_assoc ds (decision_if found d) more) run in
+        let all = so_far.only coming follows (decision_if found d ++ more) all_lines all_given there in
+        let found_here = subst (λ n. RunsBy Shows rules (taken ++ coming) old.state.standing (ahead rules old n coming) (decision_if found d ++ more) all.later all.rest) is all.runs in
+        let (later, rest, lines_are, given_are, runs) = step_back coming more all.later all.rest found handled found_here in
+        record {
+          later = later;
+          rest = rest;
+          lines_are = all.lines_are ∙ ap (λ l. lines ++ l) lines_are ∙ sym (append_assoc lines (line ∷ []) later);
+          packets_are = all.packets_are ∙ ap (λ p. packets ++ p) given_are ∙ sym (append_assoc packets new.packets rest);
+          runs = moved (λ l s m. RunsBy Shows rules l s m more later rest) _ _ _ _ _ _ refl (sym handled.standing) (sym (behind coming found front handled settles.window)) runs;
+        }
 
 -- ---- the beginning and the end
 
@@ -221,6 +289,16 @@ run_begins Shows decide f is none = record {
       (let rules = rules_with decide f in
       let first = subst (λ n. RunsBy Shows rules coming f.state.standing (ahead rules f n coming) more later rest) none runs in
       subst (λ (s : State). RunsBy Shows rules coming s.standing (left_by (record rules { resync = false }) s.phase s.window coming) more later rest) is first);
+  only = λ coming follows more all_lines all_given run.
+      (let rules = rules_with decide f in
+      let first = subst (λ (s : State). RunsBy Shows rules coming s.standing (left_by (record rules { resync = false }) s.phase s.window coming) more all_lines all_given) (sym is) run in
+      record {
+        later = all_lines;
+        rest = all_given;
+        lines_are = refl;
+        packets_are = refl;
+        runs = subst (λ n. RunsBy Shows rules coming f.state.standing (ahead rules f n coming) more all_lines all_given) (sym none) first;
+      });
 }
 
 pub run_ends : (Shows : List Symbol → Decision → Type 0) → RunEndsLaw Shows
