@@ -9,3 +9,4 @@ pub mod BorneOut
 pub mod ClaimLemmas
 pub mod OwnWords
 pub mod Told
+pub mod ExpectedLemmas
