@@ -10,3 +10,4 @@ pub mod ClaimLemmas
 pub mod OwnWords
 pub mod Told
 pub mod ExpectedLemmas
+pub mod SameBlocks
