@@ -1,5 +1,5 @@
 -- An audit of a recording and its report, step by step.
-use Rattle.std.proofs.Common.{◌≡◌, ℕ, Bool, true, ◌&&◌, List, [], ◌∷◌, ◌++◌, Option, Some, None, sym, ap, subst, ◌∙◌, append_assoc, append-nil}
+use Rattle.std.proofs.Common.{◌≡◌, ◌↔◌, refl, ℕ, Bool, true, ◌&&◌, List, [], ◌∷◌, ◌++◌, Option, Some, None, sym, ap, subst, ◌∙◌, append_assoc, append-nil}
 use Rattle.s2_report.specs.ReportLines.{step_line}
 use Rattle.s2_report.specs.declared.report.Step.{Step}
 use Rattle.s2_receive.specs.Output.{HandlesNext}
@@ -17,7 +17,7 @@ use Rattle.s2_replay.proofs.RunLemmas.{ran_nothing, ran_out, ran_step}
 
 -- nothing of a recording was audited
 pub audited_none : (t : Terms) (whole : Option (List ℕ)) (f : Follower) → f.state ≡ begun → f.found ≡ None → AuditedSoFar t whole whole f true [] [] []
-audited_none t whole f state none = record { own = []; ran = ran_whole whole; told = λ more later rest are. are }
+audited_none t whole f state none = record { own = []; ran = ran_whole whole; told = λ more later rest. (λ are. are, λ are. are) }
   where
     ran_whole : (whole : Option (List ℕ)) → RanIn t whole whole f [] [] []
     ran_whole None = tt
@@ -29,6 +29,11 @@ pub audited_on : (t : Terms) (whole left left_new : Option (List ℕ)) (old new 
 audited_on t whole left left_new old new known decisions lines packets before goes =
     record { own = before.own; ran = goes t whole decisions before.own packets before.ran; told = before.told }
 
+-- lines of decisions, with each list given otherwise
+lines_as : (ds ds' : List Decision) (own own' lines lines' : List (List ℕ)) → ds ≡ ds' → own ≡ own' → lines ≡ lines' → AreLines true ds own lines → AreLines true ds' own' lines'
+lines_as ds ds' own own' lines lines' same_decisions same_own same_lines are =
+    subst (λ l. AreLines true ds' own' l) same_lines (subst (λ o. AreLines true ds' o lines) same_own (subst (λ d. AreLines true d own lines) same_decisions are))
+
 -- a frame is handled by a decision that is borne out, and its line is told
 module _ (t : Terms) (whole left : Option (List ℕ)) (old new : Follower) (known : Bool) (decisions : List Decision) (lines : List (List ℕ)) (packets : List ℕ) (before : AuditedSoFar t whole left old known decisions lines packets) where
   pub audited_frame : (found : Next) (d : Decision) (step : Step) (line : List ℕ) → old.found ≡ Some found → IsFrame found → IsBorneOut t old.frame d → Settles old new found d step
@@ -38,11 +43,14 @@ module _ (t : Terms) (whole left : Option (List ℕ)) (old new : Follower) (know
       record {
         own = before.own ++ own ∷ [];
         ran = ran_step t old new (next.Frame at skipped) d step is borne settles whole left decisions before.own packets before.ran;
-        told = λ more later rest are.
-            let all = before.told (d ∷ more) (own ∷ later) (line ∷ rest) (told, are) in
-            let one = subst (λ x. AreLines true x (before.own ++ own ∷ later) (lines ++ line ∷ rest)) (sym (append_assoc decisions (d ∷ []) more)) all in
-            let two = subst (λ x. AreLines true ((decisions ++ d ∷ []) ++ more) x (lines ++ line ∷ rest)) (sym (append_assoc before.own (own ∷ []) later)) one in
-            subst (λ x. AreLines true ((decisions ++ d ∷ []) ++ more) ((before.own ++ own ∷ []) ++ later) x) (sym (append_assoc lines (line ∷ []) rest)) two;
+        told = λ more later rest.
+            (let all = before.told (d ∷ more) (own ∷ later) (line ∷ rest) in
+            let ds = append_assoc decisions (d ∷ []) more in
+            let owns = append_assoc before.own (own ∷ []) later in
+            let ls = append_assoc lines (line ∷ []) rest in (
+              λ are. lines_as _ _ _ _ _ _ (sym ds) (sym owns) (sym ls) (all.0 (told, are)),
+              λ are. (all.1 (lines_as _ _ _ _ _ _ ds owns ls are)).1,
+            ));
       }
   audited_frame (next.Cut at skipped count) d step line is frame borne settles told = absurd frame
   audited_frame (next.End at skipped) d step line is frame borne settles told = absurd frame
@@ -54,7 +62,7 @@ pub frames_over : (t : Terms) (whole left : Option (List ℕ)) (f : Follower) (k
 frames_over t whole left f known decisions lines packets before = record {
   own = before.own;
   ran = before.ran;
-  told = λ later rest are. subst (λ x. AreLines true x (before.own ++ later) (lines ++ rest)) (append-nil decisions) (before.told [] later rest are);
+  told = λ last later line rest. subst (λ x. AreLines known [] (last ∷ later) (line ∷ rest) ↔ AreLines true x (before.own ++ last ∷ later) (lines ++ line ∷ rest)) (append-nil decisions) (before.told [] (last ∷ later) (line ∷ rest));
 }
 
 module _ (t : Terms) (whole left : Option (List ℕ)) (old new : Follower) (known : Bool) (decisions : List Decision) (lines : List (List ℕ)) (packets : List ℕ) (before : AuditedFrames t whole left old known decisions lines packets) where
@@ -89,17 +97,14 @@ module _ (t : Terms) (whole left : Option (List ℕ)) (old new : Follower) (know
     frames_cut never same = record {
       own = before.own ++ own_line ∷ [];
       ran = ran_no_frame never;
-      told = λ later rest are.
-          let one = subst (λ x. AreLines true decisions x (lines ++ line ∷ rest)) (sym (append_assoc before.own (own_line ∷ []) later)) (before.told (own_line ∷ later) (line ∷ rest) (with_cut later rest are)) in
-          subst (λ x. AreLines true decisions ((before.own ++ own_line ∷ []) ++ later) x) (sym (append_assoc lines (line ∷ []) rest)) one;
+      told = λ last later other rest.
+          (let all = before.told own_line (last ∷ later) line (other ∷ rest) in
+          let owns = append_assoc before.own (own_line ∷ []) (last ∷ later) in
+          let ls = append_assoc lines (line ∷ []) (other ∷ rest) in (
+            λ are. lines_as decisions decisions _ _ _ _ refl (sym owns) (sym ls) (all.0 (same, are)),
+            λ are. (all.1 (lines_as decisions decisions _ _ _ _ refl owns ls are)).1,
+          ));
     }
-      where
-        with_cut : (later rest : List (List ℕ)) → AreLines known [] later rest → AreLines known [] (own_line ∷ later) (line ∷ rest)
-        with_cut [] [] are = absurd are
-        with_cut [] (y ∷ ys) are = absurd are
-        with_cut (x ∷ []) [] are = absurd are
-        with_cut (x ∷ z ∷ zs) [] are = absurd are
-        with_cut (x ∷ xs) (y ∷ ys) are = (same, are)
 
     -- the end, whose line is told
     pub frames_ended : IsBy t new → (skipped : Gap) (at : ℕ) → found ≡ next.End at skipped → IsEndLine known own_line line → ReplaysIn t whole decisions (lines ++ line ∷ []) packets
@@ -110,4 +115,4 @@ module _ (t : Terms) (whole left : Option (List ℕ)) (old new : Follower) (know
 
         replays : (whole' : Option (List ℕ)) → RanOut t whole' decisions (before.own ++ own_line ∷ []) packets → ReplaysIn t whole' decisions (lines ++ line ∷ []) packets
         replays None ran = tt
-        replays (Some recording) ran = (before.own ++ own_line ∷ [], ran, before.told (own_line ∷ []) (line ∷ []) told)
+        replays (Some recording) ran = (before.own ++ own_line ∷ [], ran, (before.told own_line [] line []).0 told)

@@ -6,7 +6,7 @@ use Rattle.s2_rows.specs.Rows.{Rows}
 use Rattle.s2_certfile.specs.File.{File}
 use Rattle.s2_certfile.specs.Format.{file_of_bytes}
 use Rattle.s2_certfile.specs.declared.fault.CertFault.{CertFault}
-use Rattle.s2_check.specs.CertificateFiles.{view_of}
+use Rattle.s2_check.specs.CertificateFiles.{Suits, view_of}
 use Rattle.s2_check.specs.Cost.{cost}
 use Rattle.s2_check.specs.Views.{View}
 use Rattle.s2_check.specs.declared.verdict.Verdict.{Verdict}
@@ -88,11 +88,11 @@ module _ (t : Terms) (symbols : List Symbol) (verdict : Verdict) (bits : List Bo
 
 -- the bytes of a certificate that shows a verdict on bits
 pub shown_block : (rows : Rows) (soft : List ℤ) (bits : List Bool) (block : List ℕ) (verdict : Verdict) (paid : ℤ) → Shows rows soft bits block (Word verdict paid)
-    → (file : File) × (file_of_bytes block ≡ Ok file) × (Certifies rows soft verdict bits (view_of rows file) × (paid ≡ cost (view_of rows file).soft (view_of rows file).bits))
+    → (file : File) × (file_of_bytes block ≡ Ok file) × Suits rows file × (Certifies rows soft verdict bits (view_of rows file) × (paid ≡ cost (view_of rows file).soft (view_of rows file).bits))
 shown_block rows soft bits block verdict paid shows = parsed (file_of_bytes block) refl shows
   where
-    parsed : (r : Result File CertFault) → file_of_bytes block ≡ r → ShowsParsed rows soft bits r (Word verdict paid) → (file : File) × (file_of_bytes block ≡ Ok file) × (Certifies rows soft verdict bits (view_of rows file) × (paid ≡ cost (view_of rows file).soft (view_of rows file).bits))
-    parsed (Ok file) is (inl (suits, (certifies, cost_is))) = (file, is, (certifies, cost_is))
+    parsed : (r : Result File CertFault) → file_of_bytes block ≡ r → ShowsParsed rows soft bits r (Word verdict paid) → (file : File) × (file_of_bytes block ≡ Ok file) × Suits rows file × (Certifies rows soft verdict bits (view_of rows file) × (paid ≡ cost (view_of rows file).soft (view_of rows file).bits))
+    parsed (Ok file) is (inl (suits, (certifies, cost_is))) = (file, is, suits, (certifies, cost_is))
     parsed (Ok file) is (inr (other, none)) = absurd (cc)
     parsed (Err fault) is none = absurd (cc)
 

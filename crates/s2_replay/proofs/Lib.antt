@@ -9,3 +9,5 @@ pub mod BorneOut
 pub mod ClaimLemmas
 pub mod OwnWords
 pub mod Told
+pub mod ExpectedLemmas
+pub mod SameBlocks

@@ -98,7 +98,7 @@ module _ (t : Terms) (old new : Follower) (found : Next) (d : Decision) (step : 
 -- ---- at the end
 
 -- the rules are those of the terms
-rules_are : (t : Terms) (f : Follower) → IsBy t f → rules_with (rules_for t).decide f ≡ rules_for t
+pub rules_are : (t : Terms) (f : Follower) → IsBy t f → rules_with (rules_for t).decide f ≡ rules_for t
 rules_are t f by = λ i. record {
   finds = found_as (by.sought i) (by.max_header_errors i);
   size = symbols_in (by.sought i).mode;
@@ -107,6 +107,11 @@ rules_are t f by = λ i. record {
   limit = by.limit i;
 }
 
+-- what is left may follow
+pub last_may : (on : Bool) (left : List ℕ) → (on ≡ false → left ≡ []) → Follows on (symbols_of left)
+last_may true left ended = tt
+last_may false left ended = ap symbols_of (ended refl)
+
 -- all of the recording was run
 module _ (t : Terms) (f : Follower) (by : IsBy t f) (none : f.found ≡ None) (over : f.state.phase ≡ phases.Ended) where
   nothing : (recording coming : List Symbol) → RunsBy (IsBorneOut t) (rules_with (rules_for t).decide f) recording f.state.standing (ahead (rules_with (rules_for t).decide f) f f.found coming) [] [] []
@@ -114,10 +119,6 @@ module _ (t : Terms) (f : Follower) (by : IsBy t f) (none : f.found ≡ None) (o
       let rules = rules_with (rules_for t).decide f in
       subst (λ n. RunsBy (IsBorneOut t) rules recording f.state.standing (ahead rules f n coming) [] [] []) (sym none)
       (subst (λ p. RunsBy (IsBorneOut t) rules recording f.state.standing (left_by (record rules { resync = false }) p f.state.window coming) [] [] []) (sym over) (refl, refl))
-
-  last_may : (on : Bool) (left : List ℕ) → (on ≡ false → left ≡ []) → Follows on (symbols_of left)
-  last_may true left ended = tt
-  last_may false left ended = ap symbols_of (ended refl)
 
   pub ran_out : (whole left : Option (List ℕ)) (decisions : List Decision) (lines : List (List ℕ)) (packets : List ℕ) → RanIn t whole left f decisions lines packets → RanOut t whole decisions lines packets
   ran_out None left decisions lines packets before = tt

@@ -1,5 +1,5 @@
--- What a report that is the receiver's own goes on with, from what was found on (own).
-use Rattle.std.specs.Prelude.{◌≡◌, ◌≢◌, ℕ, Bool, true, false, List, [], ◌∷◌, ◌++◌, Option, Some, None, is_some, ⊥}
+-- How the receiver's own report goes on with the next thing found (own).
+use Rattle.std.specs.Prelude.{◌≡◌, ℕ, Bool, true, false, List, [], ◌∷◌, ◌++◌, Option, Some, None, is_some}
 use Rattle.s2_mode.specs.Symbols.{symbols_of}
 use Rattle.s2_mode.specs.declared.symbols.Symbol.{Symbol}
 use Rattle.s2_check.specs.Verdicts.{is_certified}
@@ -20,7 +20,7 @@ use Rattle.s2_replay.specs.Running.{IsBy}
 use Rattle.s2_replay.specs.declared.certificates.Refusal.{Refusal}
 use Rattle.s2_replay.specs.declared.certificates.Shown.TheVariants as shown
 
--- the receiver's line of what was found, by this decision on it
+-- the receiver's line of this thing, by this decision on it
 abbrev pub line_by : Terms → Follower → Next → Decision → List ℕ
 line_by t f found d = line_of (deciding (rules_for t) d) f.state.standing (met_of found f.frame)
 
@@ -28,7 +28,7 @@ line_by t f found d = line_of (deciding (rules_for t) d) f.state.standing (met_o
 abbrev pub packets_by : Terms → Follower → Next → Decision → List ℕ
 packets_by t f found d = packets_of (deciding (rules_for t) d) f.state.standing (met_of found f.frame)
 
--- The report goes on with the line of what was found: these decisions, lines and packets are left. No decision is on a cut frame or on
+-- The report goes on with the line of this thing: these decisions, lines and packets are left. No decision is on a cut frame or on
 -- the end, and the end comes after a cut frame
 abbrev pub ExpectsNext : Terms → Follower → Next → (known : Bool) → List Decision → (lines : List (List ℕ)) → (packets : List ℕ) → Type 0
 ExpectsNext t f (next.Frame at skipped) known (d ∷ more) (line ∷ lines) packets =
@@ -37,7 +37,7 @@ ExpectsNext t f (next.Cut at skipped count) known [] (line ∷ last ∷ []) pack
 ExpectsNext t f (next.End at skipped) known [] (line ∷ []) packets = IsEndLine known (line_by t f (next.End at skipped) (claimed_decision Broken true)) line × (packets ≡ [])
 ExpectsNext t f found known decisions lines packets = ⊥
 
--- If report and packets are the receiver's own, and begin with what was audited so far, they go on with what was found
+-- If report and packets are the receiver's own, and begin with the lines and packets so far, they go on with this thing
 abbrev pub ExpectsLaw : Type 0
 ExpectsLaw =
     (t : Terms) (recording left : List ℕ) (f : Follower) (known : Bool) (decisions : List Decision) (lines : List (List ℕ)) (packets : List ℕ) (found : Next)
@@ -53,7 +53,7 @@ ExpectsLastLaw =
     → (line : List ℕ) (later : List (List ℕ)) (given : List ℕ) → IsReplay t (symbols_of recording) decisions (lines ++ line ∷ later) given
     → (rest : List ℕ) × (given ≡ packets ++ rest) × ExpectsNext t f found known [] (line ∷ later) rest
 
--- what was found, once it is settled by a decision, has that line and those packets
+-- a thing that is settled by a decision has that line and those packets
 abbrev pub SettledLaw : Type 0
 SettledLaw =
     (t : Terms) (old new : Follower) (found : Next) (d : Decision) (step : Step) → Settles old new found d step

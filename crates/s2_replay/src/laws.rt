@@ -21,8 +21,8 @@ pub fn audits()
     ensures end { TellsEndLaw }
 {}
 
-/// No other report would be accepted. What is the receiver's own and begins with what was audited so far goes on with what is found
-/// next, and the evidence of a frame determines the decision on it.
+/// No other report would be accepted. The receiver's own report, if it begins with the lines so far, goes on with the line of the next
+/// thing found. The evidence of a frame determines the decision on it.
 pub fn expects()
     ensures frame { ExpectsLaw }
     ensures last { ExpectsLastLaw }

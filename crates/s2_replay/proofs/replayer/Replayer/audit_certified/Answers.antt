@@ -16,7 +16,7 @@ returns-in-Word-clause-audits c =
     let bits = c.read_certificate.new.word in
     let rounds = c.args.rounds in
     let shows = subst (λ s. Shows c.args.matrix.now c.soft.result.now bits c.args.block.now s) c.in-Word.is c.in_ok-shown.ensures.shows in
-    let (file, read, (certifies, cost_is)) = shown_block c.args.matrix.now c.soft.result.now bits c.args.block.now verdict c.in-Word.cost shows in
+    let (file, read, suits, (certifies, cost_is)) = shown_block c.args.matrix.now c.soft.result.now bits c.args.block.now verdict c.in-Word.cost shows in
     let view = view_of c.args.matrix.now file in
     let wide : cast_signed w64 (cast_unsigned w64 c.in-Word.cost) ≡ c.in-Word.cost = search rules in
     let on_frame = subst (λ s. Certifies c.args.matrix.now s verdict bits view) (c.soft.ensures.is ∙ c.requires.soft) certifies in
@@ -24,7 +24,7 @@ returns-in-Word-clause-audits c =
     (record {
       known = known_is t was.follower.frame verdict bits rounds (Some view) (c.read_certificate.ensures.long ∙ c.requires.word);
       borne = borne_certified t was.follower.frame verdict bits rounds view on_frame;
-      shown = (file, read, certificate_is t was.follower.frame verdict bits rounds (Some view));
+      shown = (file, read, suits, certificate_is t was.follower.frame verdict bits rounds (Some view));
       settles = c.settle-step.ensures.settles (Some view);
     })
     (verdict_is t was.follower.frame verdict bits rounds (Some view)) (bits_is t was.follower.frame verdict bits rounds (Some view))
