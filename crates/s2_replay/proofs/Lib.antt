@@ -10,4 +10,3 @@ pub mod ClaimLemmas
 pub mod OwnWords
 pub mod Told
 pub mod ExpectedLemmas
-pub mod SameBlocks

@@ -76,8 +76,3 @@ abbrev pub RefusedLaw : Type 0
 RefusedLaw =
     (t : Terms) (symbols : List Symbol) (d : Decision) (block : List ℕ) (refusal : Refusal) → IsBorneOut t symbols d → IsShownBy t.rows d (Some block)
     → Shows t.rows (soft_frame t.mode t.number t.options symbols) [] block (shown.Refused refusal) → ⊥
-
--- two certificates at the beginning of the same bytes are the same
-abbrev pub SameBlockLaw : Type 0
-SameBlockLaw =
-    (t : Terms) (d e : Decision) (block other rest rest_of_other : List ℕ) → IsShownBy t.rows d (Some block) → IsShownBy t.rows e (Some other) → block ++ rest ≡ other ++ rest_of_other → block ≡ other

@@ -1,5 +1,5 @@
 //! Laws about replays.
-ghost use Rattle.s2_replay.specs.Expected.{CertifiedLaw, ExpectsLastLaw, ExpectsLaw, RefusedLaw, SameBlockLaw, SameDecisionLaw, SettledLaw};
+ghost use Rattle.s2_replay.specs.Expected.{CertifiedLaw, ExpectsLastLaw, ExpectsLaw, RefusedLaw, SameDecisionLaw, SettledLaw};
 ghost use Rattle.s2_replay.specs.Laws.{AuditBeginsLaw, AuditOverLaw, OwnReportLaw, TellsClaimLaw, TellsCutLaw, TellsEndLaw, TellsFrameLaw};
 
 /// The report of a receiver is accepted if each of its decisions is borne out: the receiver's own lines and packets are those of a
@@ -30,5 +30,4 @@ pub fn expects()
     ensures certified { CertifiedLaw }
     ensures same { SameDecisionLaw }
     ensures refused { RefusedLaw }
-    ensures block { SameBlockLaw }
 {}

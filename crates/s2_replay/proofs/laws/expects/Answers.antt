@@ -1,5 +1,4 @@
 use Rattle.s2_replay.proofs.ExpectedLemmas.{certified, expects, expects_last, refused, same_decision, settled}
-use Rattle.s2_replay.proofs.SameBlocks.{same_block}
 use Rattle.s2_replay.proofs.laws.expects.Goals as goal
 
 pub returns-clause-frame : goal.returns-clause-frame
@@ -19,6 +18,3 @@ returns-clause-same c = same_decision
 
 pub returns-clause-refused : goal.returns-clause-refused
 returns-clause-refused c = refused
-
-pub returns-clause-block : goal.returns-clause-block
-returns-clause-block c = same_block
