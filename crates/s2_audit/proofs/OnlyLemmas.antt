@@ -1,6 +1,6 @@
 -- Files as they should be have nothing left but what an audit accepts next.
 use Rattle.std.proofs.Common.{◌≡◌, ◌≢◌, ◌⊎◌, ℕ, ◌+◌, ◌*◌, ◌<◌, ◌≤◌, Bool, true, false, List, [], ◌∷◌, ◌++◌, Option, Some, None, is_some, length, take, drop, refl, sym, ap, ap₂, subst, ◌∙◌, append-nil, append_assoc, length-append, take-append-drop, arith, inl, inr}
-use Rattle.std.specs.List.{flat_map, AllByRecursion}
+use Rattle.std.specs.List.{All, AllByRecursion, flat_map}
 use Rattle.std.specs.Io.KnownBytes.{Consumes, IsAtEnd}
 use Rattle.std.proofs.lemmas.Bool.{cases_eq}
 use Rattle.std.proofs.lemmas.List.Elements.{All-head, All-nil, All-tail, recursion_from_All}
@@ -18,8 +18,9 @@ use Rattle.s2_report.specs.declared.entry.Frame.{Frame}
 use Rattle.s2_report.specs.ReportLines.{step_line}
 use Rattle.s2_report.specs.declared.report.Step.{Step}
 use Rattle.s2_report.proofs.SaidVerdicts.{verdict_said}
-use Rattle.s2_receive.specs.Halves.{Follower}
-use Rattle.s2_receive.specs.Receiving.{Decision, report_for}
+use Rattle.s2_receive.specs.Halves.{Follower, deciding}
+use Rattle.s2_receive.specs.Receiving.{Decision, after, report_for}
+use Rattle.s2_receive.specs.Synchronization.{met_of}
 use Rattle.s2_receive.specs.declared.gap.Gap.{Gap}
 use Rattle.s2_receive.specs.declared.window.Next.{Next}
 use Rattle.s2_receive.specs.declared.window.Next.TheVariants as next
@@ -27,7 +28,7 @@ use Rattle.s2_replay.specs.Auditing.{AuditedFrames, AuditedSoFar}
 use Rattle.s2_replay.specs.Expected.{ExpectsNext, line_by, packets_by}
 use Rattle.s2_replay.specs.Frames.{IsLastOf, IsOwnLine, IsShownBy, SettlesBy}
 use Rattle.s2_replay.specs.Packets as files
-use Rattle.s2_replay.specs.Replay.{IsBorneOut, IsFrameLine, IsReplay, Terms, are_known, claimed_decision, is_known}
+use Rattle.s2_replay.specs.Replay.{IsBorneOut, IsFrameLine, IsReplay, Terms, are_known, claimed_decision, is_known, rules_for}
 use Rattle.s2_replay.specs.Replayers.{IsFrame, IsFrameAt}
 use Rattle.s2_replay.specs.Certificates.{Shows}
 use Rattle.s2_replay.specs.declared.certificates.Refusal.{Refusal}
@@ -193,7 +194,7 @@ module _ (t : Terms) (now : Ends) (mid : Follower) (at : ℕ) (skipped : Gap) wh
       }
 
 module _ (t : Terms) (recording : List ℕ) (now new : Ends) (f mid : Follower) (found : Next) (line : List ℕ) (entry : Option Entry) (meets : Meets t now new f mid found line entry)
-  (known : Bool) (decisions : List Decision) (lines : List (List ℕ)) (packets : List ℕ) (more : List Shown) (later : List (List ℕ)) (rest : List ℕ) (r : Remains t recording now f known decisions lines packets more later rest) where
+    (known : Bool) (decisions : List Decision) (lines : List (List ℕ)) (packets : List ℕ) (more : List Shown) (later : List (List ℕ)) (rest : List ℕ) (r : Remains t recording now f known decisions lines packets more later rest) where
   expected : ExpectsNext t mid found true (decisions_of more) later rest
   expected = by r.so_far
     where
@@ -201,9 +202,9 @@ module _ (t : Terms) (recording : List ℕ) (now new : Ends) (f mid : Follower) 
       told left same h =
           subst (λ p. ExpectsNext t mid found true (decisions_of more) later p) (sym (cancel packets rest left same)) (subst (λ k. ExpectsNext t mid found k (decisions_of more) later left) r.all_known h)
 
-      open : (left : Option (List ℕ)) → AuditedSoFar t (Some recording) left mid known decisions lines packets → ExpectsNext t mid found true (decisions_of more) later rest
-      open None on = absurd on.ran
-      open (Some left) on =
+      going : (left : Option (List ℕ)) → AuditedSoFar t (Some recording) left mid known decisions lines packets → ExpectsNext t mid found true (decisions_of more) later rest
+      going None on = absurd on.ran
+      going (Some left) on =
           let (own, same, h) = expects t recording left mid known decisions lines packets found meets.by meets.found_is on (decisions_of more) later (packets ++ rest) r.replay in
           told own same h
 
@@ -217,7 +218,7 @@ module _ (t : Terms) (recording : List ℕ) (now new : Ends) (f mid : Follower) 
           told own same (subst (λ ls. ExpectsNext t mid found known (decisions_of more) ls own) (sym one) (subst (λ ds. ExpectsNext t mid found known ds (last ∷ []) own) (sym no_decision) h))
 
       by : MayGoOn t recording now.symbols f known decisions lines packets more later → ExpectsNext t mid found true (decisions_of more) later rest
-      by (inl so_far) = open new.symbols (audited_on t (Some recording) now.symbols new.symbols f mid known decisions lines packets so_far meets.goes)
+      by (inl so_far) = going new.symbols (audited_on t (Some recording) now.symbols new.symbols f mid known decisions lines packets so_far meets.goes)
       by (inr (frames, none, (last, one))) = closed new.symbols (frames_on t (Some recording) now.symbols f mid known decisions lines packets frames new.symbols meets.goes) none last one
 
 -- ---- the frame that is left first is the one that was audited
@@ -231,7 +232,7 @@ module _ (t : Terms) (now new : Ends) (mid : Follower) (at : ℕ) (skipped : Gap
 
     -- it is read as a frame with its verdict
     said : (entry : Entry) → entry_in line ≡ Some entry → (frame : Frame) × (entry ≡ entries.Frame frame) × (frame.verdict ≡ h.s.decision.verdict)
-    said entry says = verdict_said (report_for h.s.decision mid.state.standing.totals at) _ line entry (h.own ∙ ap (λ l. l ++ 10 ∷ []) (sym line_same)) says
+    said entry says = verdict_said (report_for h.s.decision mid.state.standing.totals at) (after (deciding (rules_for t) h.s.decision) mid.state.standing (met_of (next.Frame at skipped) mid.frame)).totals line entry (h.own ∙ ap (λ l. l ++ 10 ∷ []) (sym line_same)) says
 
     verdict_same : (frame : Frame) → entry_in line ≡ Some (entries.Frame frame) → is_certified frame.verdict ≡ is_some h.s.block
     verdict_same frame says =
@@ -327,11 +328,11 @@ no_packet packets a b k left is d =
     elim (cases_eq (length bytes) (length wanted)) [
       | inl same ↦ other (same_front bytes wanted more (drop packet_bytes tail ++ left) same both)
       | inr less ↦ (
-        let short : length bytes < length wanted = omega (arith, few, less) in
-        let none : more ≡ [] = at_end b more new_is (ended short) in
-        let long : length bytes + length more ≡ length wanted + length (drop packet_bytes tail ++ left) = sym (length-append bytes more) ∙ ap length both ∙ length-append wanted (drop packet_bytes tail ++ left) in
-        let zero : length more ≡ 0 = ap length none in
-        omega (arith, short, long, zero))
+          let short : length bytes < length wanted = omega (arith, few, less) in
+          let none : more ≡ [] = at_end b more new_is (ended short) in
+          let long : length bytes + length more ≡ length wanted + length (drop packet_bytes tail ++ left) = sym (length-append bytes more) ∙ ap length both ∙ length-append wanted (drop packet_bytes tail ++ left) in
+          let zero : length more ≡ 0 = ap length none in
+          omega (arith, short, long, zero))
     ]
 
 -- nothing more is left
@@ -368,7 +369,7 @@ pub record Last (t : Terms) (mid : Follower) (more : List Shown) (later : List (
   pub line_is : line_by t mid found (claimed_decision Broken true) ≡ own ++ 10 ∷ []
 
 module _ (t : Terms) (recording : List ℕ) (now new : Ends) (f mid f' : Follower) (line : List ℕ) (known : Bool) (decisions : List Decision) (lines : List (List ℕ)) (packets : List ℕ)
-  (more : List Shown) (later : List (List ℕ)) (rest : List ℕ) (r : Remains t recording now f known decisions lines packets more later rest) where
+    (more : List Shown) (later : List (List ℕ)) (rest : List ℕ) (r : Remains t recording now f known decisions lines packets more later rest) where
   -- ---- a frame
 
   module _ (at : ℕ) (skipped : Gap) where
@@ -426,20 +427,20 @@ module _ (t : Terms) (recording : List ℕ) (now new : Ends) (f mid f' : Followe
       -- its evidence is not refused
       no_refusal : (refusal : Refusal) (block : List ℕ) (packed : Option (List ℕ)) → is_certified frame.verdict ≡ true → Takes t.mode now.evidence new.evidence (Some block) packed
           → Shows t.rows (soft_frame t.mode t.number t.options mid.frame) [] block (shown.Refused refusal) → ⊥
-      no_refusal refusal block packed yes takes shows =
-          refused t mid.frame h.s.decision block refusal h.borne (subst (IsShownBy t.rows h.s.decision) (sym (block_is (Some block) packed takes yes)) h.shown.certificate) shows
+      no_refusal refusal block packed claims takes shows =
+          refused t mid.frame h.s.decision block refusal h.borne (subst (IsShownBy t.rows h.s.decision) (sym (block_is (Some block) packed takes claims)) h.shown.certificate) shows
 
       no_lack : (reason : Reason) → LacksEvidence t mid frame.verdict now.evidence new.evidence reason → ⊥
       no_lack reasons.NoCodeword missing =
           no_record (n_of t.mode) now.evidence.codewords new.evidence.codewords h.s.packed (flat_map (λ (x : Shown). bytes_of x.packed) h.frames) h.s.decision.bits missing h.shown.codeword h.left.codewords h.shown.word h.known
-      no_lack reasons.NoCertificate (yes, read, ended) =
-          no_block t.mode now.evidence.certificates new.evidence.certificates h.s.block (flat_map (λ (x : Shown). bytes_of x.block) h.frames) h.left.certificates read ended h.shown.sized (sym certified_is ∙ yes)
-      no_lack reasons.OtherWord (yes, x) =
-          let p = packed_is (Some x.block) (Some x.packed) x.takes yes in
-          let same = decision_same t now new mid at skipped more later rest h r.no_figures x.d (Some x.block) (block_is (Some x.block) (Some x.packed) x.takes yes) x.borne x.shown (λ none. absurd (cc)) in
+      no_lack reasons.NoCertificate (claims, read, ended) =
+          no_block t.mode now.evidence.certificates new.evidence.certificates h.s.block (flat_map (λ (x : Shown). bytes_of x.block) h.frames) h.left.certificates read ended h.shown.sized (sym certified_is ∙ claims)
+      no_lack reasons.OtherWord (claims, x) =
+          let p = packed_is (Some x.block) (Some x.packed) x.takes claims in
+          let same = decision_same t now new mid at skipped more later rest h r.no_figures x.d (Some x.block) (block_is (Some x.block) (Some x.packed) x.takes claims) x.borne x.shown (λ none. absurd (cc)) in
           x.other (ap (λ (y : Decision). y.bits) same ∙ subst (λ y. IsWordOf y h.s.decision.bits) (sym p) h.shown.word)
-      no_lack reasons.OtherValues (yes, refusal, block, packed, is, takes, shows) = no_refusal refusal block packed yes takes shows
-      no_lack reasons.NotAccepted (yes, refusal, block, packed, is, takes, shows) = no_refusal refusal block packed yes takes shows
+      no_lack reasons.OtherValues (claims, refusal, block, packed, is, takes, shows) = no_refusal refusal block packed claims takes shows
+      no_lack reasons.NotAccepted (claims, refusal, block, packed, is, takes, shows) = no_refusal refusal block packed claims takes shows
 
       no_other : (step : Step) → HasOtherLine t mid f' this frame.verdict line now.evidence new.evidence step → ⊥
       no_other step x = x.other (own_is x.block x.packed x.takes x.certified x.d step x.word x.unknown x.settles)
@@ -466,16 +467,16 @@ module _ (t : Terms) (recording : List ℕ) (now new : Ends) (f mid f' : Followe
     last = by found never more later (expected t recording now new f mid found line entry meets known decisions lines packets more later rest r) refl refl
       where
         by : (n : Next) → (IsFrame n → ⊥) → (ms : List Shown) (ls : List (List ℕ)) → ExpectsNext t mid n true (decisions_of ms) ls rest → more ≡ ms → later ≡ ls → Last t mid more later n
-        by (next.Frame at skipped) no ms ls h m l = absurd (no tt)
-        by (next.Cut at skipped count) no [] (own ∷ end ∷ []) (is, none) m l = record { own = own; lines = end ∷ []; none = m; later_is = l; line_is = is }
-        by (next.Cut at skipped count) no [] (own ∷ end ∷ x ∷ xs) h m l = absurd h
-        by (next.Cut at skipped count) no [] (own ∷ []) h m l = absurd h
-        by (next.Cut at skipped count) no [] [] h m l = absurd h
-        by (next.Cut at skipped count) no (s ∷ ms) ls h m l = absurd h
-        by (next.End at skipped) no [] (own ∷ []) (is, none) m l = record { own = own; lines = []; none = m; later_is = l; line_is = is }
-        by (next.End at skipped) no [] (own ∷ x ∷ xs) h m l = absurd h
-        by (next.End at skipped) no [] [] h m l = absurd h
-        by (next.End at skipped) no (s ∷ ms) ls h m l = absurd h
+        by (next.Frame at skipped) never' ms ls h m l = absurd (never' tt)
+        by (next.Cut at skipped count) never' [] (own ∷ end ∷ []) (is, none) m l = record { own = own; lines = end ∷ []; none = m; later_is = l; line_is = is }
+        by (next.Cut at skipped count) never' [] (own ∷ end ∷ x ∷ xs) h m l = absurd h
+        by (next.Cut at skipped count) never' [] (own ∷ []) h m l = absurd h
+        by (next.Cut at skipped count) never' [] [] h m l = absurd h
+        by (next.Cut at skipped count) never' (s ∷ ms) ls h m l = absurd h
+        by (next.End at skipped) never' [] (own ∷ []) (is, none) m l = record { own = own; lines = []; none = m; later_is = l; line_is = is }
+        by (next.End at skipped) never' [] (own ∷ x ∷ xs) h m l = absurd h
+        by (next.End at skipped) never' [] [] h m l = absurd h
+        by (next.End at skipped) never' (s ∷ ms) ls h m l = absurd h
 
     left_last : HasLeft t now [] (last.own ∷ last.lines) rest
     left_last = subst (λ ls. HasLeft t now [] ls rest) last.later_is (subst (λ ms. HasLeft t now ms later rest) last.none r.left)
@@ -501,9 +502,9 @@ module _ (t : Terms) (recording : List ℕ) (now new : Ends) (f mid f' : Followe
       own = (settled t mid f' found (claimed_decision Broken true) step x.settles).0 ∙ (last found x.last (Some e) meets).line_is
 
       is_last : (n : Next) → (IsFrame n → ⊥) → step_line step f'.state.standing.totals ≡ line ++ 10 ∷ [] → IsLastOf n true step f'.state.standing.totals line
-      is_last (next.Frame at skipped) no is = absurd (no tt)
-      is_last (next.Cut at skipped count) no is = is
-      is_last (next.End at skipped) no is = is
+      is_last (next.Frame at skipped) never' is = absurd (never' tt)
+      is_last (next.Cut at skipped count) never' is = is
+      is_last (next.End at skipped) never' is = is
 
   pub cut_line : (at : ℕ) (skipped : Gap) (count : ℕ) (e : Entry) → Meets t now new f mid (next.Cut at skipped count) line (Some e) → IsCutLine line more later rest
   cut_line at skipped count e meets = by more later (expected t recording now new f mid found line (Some e) meets known decisions lines packets more later rest r) refl refl
@@ -569,7 +570,7 @@ module _ (t : Terms) (recording : List ℕ) (now new : Ends) (f mid f' : Followe
 
 -- files as they should be have no difference
 module _ (t : Terms) (recording : List ℕ) (now new : Ends) (f f' : Follower) (known : Bool) (decisions : List Decision) (lines : List (List ℕ)) (packets : List ℕ)
-  (more : List Shown) (later : List (List ℕ)) (rest : List ℕ) (r : Remains t recording now f known decisions lines packets more later rest) (p : Place) (k : p.known ≡ known) where
+    (more : List Shown) (later : List (List ℕ)) (rest : List ℕ) (r : Remains t recording now f known decisions lines packets more later rest) (p : Place) (k : p.known ≡ known) where
   at_next : (difference : Difference) → ((mid : Follower) × (found : Next) × (line : List ℕ) × (entry : Option Entry) × Meets t now new f mid found line entry × DiffersAt t now new mid f' found line entry p difference) → ⊥
   at_next difference (mid, found, line, entry, meets, differs) = never_at t recording now new f mid f' line known decisions lines packets more later rest r found entry p difference k meets differs
 
