@@ -129,6 +129,7 @@ module _ (t : Terms) (old mid new : Ends) (frames : List Shown) (lines : List (L
       codeword = subst (λ b. IsGiven (n_of t.mode) b s.packed) (given_same old.evidence.codewords mid.evidence.codewords (flat_map (λ (x : Shown). bytes_of x.packed) frames) reads.codewords) tells.takes.codeword.1;
       word = tells.word;
       unknown = tells.unknown;
+      rounds = tells.rounds;
     });
     certificates = subst (Consumes old.evidence.certificates new.evidence.certificates) (sym (flat_push (λ (x : Shown). bytes_of x.block) frames s))
         (Consumes-trans old.evidence.certificates mid.evidence.certificates new.evidence.certificates (flat_map (λ (x : Shown). bytes_of x.block) frames) (bytes_of s.block) reads.certificates tells.takes.certificate);
@@ -210,7 +211,6 @@ first_remains t e f state none recording all lines given right = record {
   replay = right.replay;
   left = right.left;
   all_known = refl;
-  no_figures = right.no_figures;
 }
 
 -- after the line of the end nothing
@@ -253,7 +253,6 @@ module _ (t : Terms) (old mid new : Ends) (f f' : Follower) (frames : List Shown
           replay = subst (λ x. IsReplay t (symbols_of recording) (decisions_of (frames ++ s ∷ []) ++ decisions_of b.frames) ((lines ++ s.line ∷ []) ++ b.lines) x) packets_are replay_ls;
           left = left_frame t mid new s b.frames b.lines f'.packets b.packets left tells.report tells.takes reads;
           all_known = sym (known_push frames s) ∙ and_true known (is_known s.decision) r.all_known s_known;
-          no_figures = r.no_figures;
         },
       )
     where
@@ -285,7 +284,6 @@ module _ (t : Terms) (old mid new : Ends) (f f' : Follower) (frames : List Shown
           replay = subst (λ x. IsReplay t (symbols_of recording) (ds ++ []) x (packets ++ rest)) lines_are replay;
           left = left_line t mid new line (last ∷ []) rest left tells.only;
           all_known = r.all_known;
-          no_figures = r.no_figures;
         },
       )
     where

@@ -26,7 +26,7 @@ use Rattle.s2_receive.specs.declared.window.Next.{Next}
 use Rattle.s2_receive.specs.declared.window.Next.TheVariants as next
 use Rattle.s2_replay.specs.Auditing.{AuditedFrames, AuditedSoFar}
 use Rattle.s2_replay.specs.Expected.{ExpectsNext, line_by, packets_by}
-use Rattle.s2_replay.specs.Frames.{IsLastOf, IsOwnLine, IsShownBy, SettlesBy}
+use Rattle.s2_replay.specs.Frames.{HasRounds, IsLastOf, IsOwnLine, IsShownBy, SettlesBy}
 use Rattle.s2_replay.specs.Packets as files
 use Rattle.s2_replay.specs.Replay.{IsBorneOut, IsFrameLine, IsReplay, Terms, are_known, claimed_decision, is_known, rules_for}
 use Rattle.s2_replay.specs.Replayers.{IsFrame, IsFrameAt}
@@ -35,7 +35,7 @@ use Rattle.s2_replay.specs.declared.certificates.Refusal.{Refusal}
 use Rattle.s2_replay.specs.declared.certificates.Shown.TheVariants as shown
 use Rattle.s2_message.specs.Decisions.{soft_frame}
 use Rattle.s2_replay.proofs.AuditLemmas.{audited_on, frames_on}
-use Rattle.s2_replay.proofs.ExpectedLemmas.{certified, expects, expects_last, refused, same_decision, settled}
+use Rattle.s2_replay.proofs.ExpectedLemmas.{certified, expects, expects_last, refused, same_decision, same_word, settled}
 use Rattle.s2_audit.specs.Differences.{ClaimsOther, Differs, DiffersAt, DiffersIf, HasMoreIf, HasOtherLast, HasOtherLine, IsOtherLine, LacksEvidence, LeavesOver, Meets, rests_of}
 use Rattle.s2_audit.specs.Evidences.{Evidence, IsGiven, IsMissing, IsSized, IsUnknownIf, IsWordOf, ReadsIf, Takes, TakesCodeword, bytes_of}
 use Rattle.s2_audit.specs.Limits.{certificate_bytes}
@@ -263,9 +263,9 @@ module _ (t : Terms) (now new : Ends) (mid : Follower) (at : ℕ) (skipped : Gap
           let (others, all, new_is) = next_bytes a b x (y ++ left) is read in
           ap Some (same_front x y others left (omega (arith, gx, gy)) (sym all))
 
-  decision_same : t.options.figures ≡ false → (d : Decision) (block : Option (List ℕ)) → block ≡ h.s.block → IsBorneOut t mid.frame d → IsShownBy t.rows d block → (block ≡ None → (is_known d ≡ true) × (d.bits ≡ h.s.decision.bits)) → d ≡ h.s.decision
-  decision_same off d block block_is borne shown known =
-      same_decision t mid.frame d h.s.decision block off borne h.borne shown (subst (IsShownBy t.rows h.s.decision) (sym block_is) h.shown.certificate) (λ none. ((known none).0, h.known, (known none).1))
+  decision_same : (d : Decision) (block : Option (List ℕ)) → block ≡ h.s.block → IsBorneOut t mid.frame d → HasRounds d h.s.line → IsShownBy t.rows d block → (block ≡ None → (is_known d ≡ true) × (d.bits ≡ h.s.decision.bits)) → d ≡ h.s.decision
+  decision_same d block block_is borne has shown known =
+      same_decision t mid.frame d h.s.decision block h.s.line borne h.borne has h.shown.rounds shown (subst (IsShownBy t.rows h.s.decision) (sym block_is) h.shown.certificate) (λ none. ((known none).0, h.known, (known none).1))
 
 -- the bits of two frames with the same record
 same_bits : (block packed : Option (List ℕ)) (xs ys : List Bool) → block ≡ None → IsWordOf packed xs → IsWordOf packed ys → IsUnknownIf block packed xs → IsUnknownIf block packed ys → xs ≡ ys
@@ -396,7 +396,7 @@ module _ (t : Terms) (recording : List ℕ) (now new : Ends) (f mid f' : Followe
         packed_is : packed ≡ h.s.packed
         packed_is = packed_same t now new mid at skipped more later rest h packed takes.codeword
 
-        module _ (d : Decision) (step : Step) (word : IsWordOf packed d.bits) (unknown : IsUnknownIf block packed d.bits) (settles : SettlesBy t mid f' this block d step) where
+        module _ (d : Decision) (step : Step) (word : IsWordOf packed d.bits) (unknown : IsUnknownIf block packed d.bits) (settles : SettlesBy t mid f' this block line d step) where
           bits_are : block ≡ None → d.bits ≡ h.s.decision.bits
           bits_are none =
               let other = h.s.decision in
@@ -405,7 +405,7 @@ module _ (t : Terms) (recording : List ℕ) (now new : Ends) (f mid f' : Followe
               same_bits block packed d.bits other.bits none word word' unknown unknown'
 
           decision_is : d ≡ h.s.decision
-          decision_is = decision_same t now new mid at skipped more later rest h r.no_figures d block block_is settles.borne settles.shown (λ none. (settles.known, bits_are none))
+          decision_is = decision_same t now new mid at skipped more later rest h d block block_is settles.borne (subst (HasRounds d) line_is settles.rounds) settles.shown (λ none. (settles.known, bits_are none))
 
           shown_is : record { decision = d; line = line; block = block; packed = packed } ≡ h.s
           shown_is = λ i. record { decision = decision_is i; line = line_is i; block = block_is i; packed = packed_is i }
@@ -437,8 +437,9 @@ module _ (t : Terms) (recording : List ℕ) (now new : Ends) (f mid f' : Followe
           no_block t.mode now.evidence.certificates new.evidence.certificates h.s.block (flat_map (λ (x : Shown). bytes_of x.block) h.frames) h.left.certificates read ended h.shown.sized (sym certified_is ∙ claims)
       no_lack reasons.OtherWord (claims, x) =
           let p = packed_is (Some x.block) (Some x.packed) x.takes claims in
-          let same = decision_same t now new mid at skipped more later rest h r.no_figures x.d (Some x.block) (block_is (Some x.block) (Some x.packed) x.takes claims) x.borne x.shown (λ none. absurd (cc)) in
-          x.other (ap (λ (y : Decision). y.bits) same ∙ subst (λ y. IsWordOf y h.s.decision.bits) (sym p) h.shown.word)
+          let b = block_is (Some x.block) (Some x.packed) x.takes claims in
+          let same = same_word t mid.frame x.d h.s.decision x.block x.borne h.borne x.shown (subst (IsShownBy t.rows h.s.decision) (sym b) h.shown.certificate) in
+          x.other (same ∙ subst (λ y. IsWordOf y h.s.decision.bits) (sym p) h.shown.word)
       no_lack reasons.OtherValues (claims, refusal, block, packed, is, takes, shows) = no_refusal refusal block packed claims takes shows
       no_lack reasons.NotAccepted (claims, refusal, block, packed, is, takes, shows) = no_refusal refusal block packed claims takes shows
 

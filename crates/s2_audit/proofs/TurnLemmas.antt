@@ -112,6 +112,7 @@ module _ (old new : Ends) (f : Follower) (am an : FrameAuditor) (line : List ℕ
             certificate = settles.shown;
             word = word_is packed word d.bits bits is_word;
             unknown = subst (IsUnknownIf block packed) (sym bits) unknown;
+            rounds = settles.rounds;
             whole = gives.0;
             only = λ recording known decisions lines packets more later rest r.
                 begins_by t recording old new f mid f' line known decisions lines packets more later rest r at skipped frame meets_frame block packed takes certified d step (word_is packed word d.bits bits is_word) (subst (IsUnknownIf block packed) (sym bits) unknown) settles;
@@ -139,6 +140,7 @@ module _ (old new : Ends) (f : Follower) (am an : FrameAuditor) (line : List ℕ
             certificate = refl;
             word = tt;
             unknown = refl;
+            rounds = tt;
             whole = gives.0;
             only = λ recording known decisions lines packets more later rest r. absurd (no_claim_of t recording old new f mid f' line known decisions lines packets more later rest r at skipped frame meets_frame uncertified none);
           },
@@ -353,6 +355,7 @@ compared t old mid new f f' p told result kept symbols report evidence (s, tells
       certificate = tells.certificate;
       word = tells.word;
       unknown = tells.unknown;
+      rounds = tells.rounds;
       whole = tells.whole;
       only = tells.only;
     }

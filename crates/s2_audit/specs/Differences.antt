@@ -87,7 +87,7 @@ pub record HasOtherLine (t : Terms) (mid f' : Follower) (found : Next) (verdict 
   pub certified : is_certified verdict ≡ is_some block
   pub word : IsWordOf packed d.bits
   pub unknown : IsUnknownIf block packed d.bits
-  pub settles : SettlesBy t mid f' found block d step
+  pub settles : SettlesBy t mid f' found block line d step
   pub other : ¬ IsOwnLine f' step line
 
 -- it is a frame with such a line

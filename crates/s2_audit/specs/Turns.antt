@@ -15,7 +15,7 @@ use Rattle.s2_receive.specs.Halves.{Follower}
 use Rattle.s2_receive.specs.Receiving.{Decision}
 use Rattle.s2_receive.specs.declared.report.Phase.TheVariants as phases
 use Rattle.s2_replay.specs.Auditing.{AuditedFrames, AuditedSoFar, ReplaysIn}
-use Rattle.s2_replay.specs.Frames.{IsShownBy, cost_of}
+use Rattle.s2_replay.specs.Frames.{HasRounds, IsShownBy, cost_of}
 use Rattle.s2_replay.specs.Replay.{IsReplay, Terms, is_known}
 use Rattle.s2_audit.specs.Evidences.{Evidence, IsGiven, IsOverIf, IsSized, IsUnknownIf, IsWordOf, ReadsIf, Takes, bytes_of, evidence_by}
 use Rattle.s2_receive.specs.Sinks.{wanted_count}
@@ -73,14 +73,15 @@ pub record Shown : Type 0 where
   pub block : Option (List ℕ)
   pub packed : Option (List ℕ)
 
--- the decision has the certificate in these bytes, or none; and if codewords are given, the bits of the record. Without either no bit
--- is known
+-- The decision has the certificate in these bytes, or none; and if codewords are given, the bits of the record. Without either no bit
+-- is known. The rounds of min-sum are those that the line says
 pub record IsShown (t : Terms) (given : Bool) (s : Shown) : Type 0 where
   pub certificate : IsShownBy t.rows s.decision s.block
   pub sized : IsSized t.mode s.block
   pub codeword : IsGiven (n_of t.mode) given s.packed
   pub word : IsWordOf s.packed s.decision.bits
   pub unknown : IsUnknownIf s.block s.packed s.decision.bits
+  pub rounds : HasRounds s.decision s.line
 
 -- the printed line of a frame, with the cost of its bits, if it has a certificate
 abbrev pub told_by : Option View → Option Entry → List ℕ
@@ -177,12 +178,11 @@ pub record HasLeft (t : Terms) (now : Ends) (frames : List Shown) (lines : List 
   pub packets_are : IsLeftIf now.packets packets
 
 -- Files as they should be: they have exactly this, and report and packets are the receiver's on the recording, by the decisions on
--- these frames. The report has no figures
+-- these frames
 pub record IsRight (t : Terms) (files : Ends) (recording : List ℕ) (frames : List Shown) (lines : List (List ℕ)) (packets : List ℕ) : Type 0 where
   pub symbols : files.symbols ≡ Some recording
   pub replay : IsReplay t (symbols_of recording) (decisions_of frames) lines packets
   pub left : HasLeft t files frames lines packets
-  pub no_figures : t.options.figures ≡ false
 
 -- More frames may come, these ones. Or a cut frame came, so that only the line of the end comes
 abbrev pub MayGoOn : Terms → (recording : List ℕ) → (left : Option (List ℕ)) → Follower → (known : Bool) → List Decision → (lines : List (List ℕ)) → (packets : List ℕ) → (more : List Shown) → (later : List (List ℕ)) → Type 0
@@ -196,7 +196,6 @@ pub record Remains (t : Terms) (recording : List ℕ) (now : Ends) (f : Follower
   pub replay : IsReplay t (symbols_of recording) (decisions ++ decisions_of more) (lines ++ later) (packets ++ rest)
   pub left : HasLeft t now more later rest
   pub all_known : known ≡ true
-  pub no_figures : t.options.figures ≡ false
 
 -- whatever files as they should be have left here, this holds of it
 abbrev pub OfAllLeft : Terms → (now : Ends) → Follower → (List Shown → List (List ℕ) → List ℕ → Type 0) → Type 0
@@ -268,6 +267,7 @@ pub record TellsLine (t : Terms) (old new : Ends) (f f' : Follower) (s : Shown) 
   pub certificate : IsShownBy t.rows s.decision s.block
   pub word : IsWordOf s.packed s.decision.bits
   pub unknown : IsUnknownIf s.block s.packed s.decision.bits
+  pub rounds : HasRounds s.decision s.line
   pub whole : IsLine s.line
   pub only : OfAllLeft t old f (BeginsBy s f'.packets)
 

@@ -54,7 +54,6 @@ pub(crate) fn audit_by_certificate<R: CountedRead>(
     matrix: &Matrix,
     replayer: &mut Replayer,
     found: Next,
-    rounds: u32,
     word: &mut Bits,
     line: &[u8],
     block: &mut [u8],
@@ -77,7 +76,7 @@ pub(crate) fn audit_by_certificate<R: CountedRead>(
     if !read_record(certificates, block, "certificate: ")? {
         return Ok(ByCertificate::Missing);
     }
-    match replayer.audit_certified(alloc, matrix, found, block, rounds, word, line) {
+    match replayer.audit_certified(alloc, matrix, found, block, word, line) {
         Ok(audited) => Ok(ByCertificate::Judged(audited)),
         Err(_) => Err(Fault::NoMemory),
     }

@@ -21,7 +21,7 @@ use s2_matrix::Matrix;
 use s2_mode::{CountedRead, Mode};
 use s2_receive::Next;
 use s2_replay::{Audited, AuditedClaim, AuditedLast, Replayer};
-use s2_report::{Totals, read_rounds};
+use s2_report::Totals;
 use std::alloc::{AllocError, Global};
 use std::marker::Model;
 
@@ -172,7 +172,7 @@ impl<'a> FrameAuditor<'a> {
         Ok(found)
     }
 
-    /// Audits the frame that was found by the next certificate. The report's line says its rounds of min-sum.
+    /// Audits the frame that was found by the next certificate.
     fn by_certificate<R: CountedRead>(
         &mut self,
         alloc: Global,
@@ -196,7 +196,6 @@ impl<'a> FrameAuditor<'a> {
             self.matrix,
             &mut self.replayer,
             found,
-            read_rounds(line),
             &mut self.word,
             line,
             &mut self.block,
@@ -255,9 +254,8 @@ impl<'a> FrameAuditor<'a> {
         ensures rows { self.new.rows ≡ self.old.rows }
         ensures same { IsSameReplayer self.old.replayer self.new.replayer }
     {
-        let rounds = read_rounds(line);
         self.replayer
-            .audit_recorded(self.matrix, found, rounds, &self.recorded, line)
+            .audit_recorded(self.matrix, found, &self.recorded, line)
     }
 
     /// Audits the frame that was found, whose line says this verdict.

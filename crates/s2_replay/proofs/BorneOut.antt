@@ -1,5 +1,5 @@
 -- Decisions that are borne out.
-use Rattle.std.proofs.Common.{◌≡◌, ◌∙◌, ℕ, ℤ, Bool, true, false, if◌then◌else◌, List, [], ◌∷◌, length, arith, Option, Some, None, Result, Ok, Err, refl, sym, ap, subst, inl, inr}
+use Rattle.std.proofs.Common.{◌≡◌, ◌∙◌, ℕ, ℤ, Bool, true, false, if◌then◌else◌, List, [], ◌∷◌, length, arith, Option, Some, None, Result, Ok, Err, refl, sym, ap, subst, inl, inr, IfSome}
 use Rattle.s2_mode.specs.Mode.{Mode, n_of}
 use Rattle.s2_mode.specs.declared.symbols.Symbol.{Symbol}
 use Rattle.s2_rows.specs.Rows.{Rows}
@@ -11,13 +11,15 @@ use Rattle.s2_check.specs.Cost.{cost}
 use Rattle.s2_check.specs.Views.{View}
 use Rattle.s2_check.specs.declared.verdict.Verdict.{Verdict}
 use Rattle.s2_bch.specs.Decoding.{nearest}
+use Rattle.s2_report.specs.Entries.{rounds_in, words_of}
 use Rattle.s2_report.specs.declared.report.Step.{Step}
 use Rattle.s2_receive.specs.Halves.{Follower}
 use Rattle.s2_receive.specs.Receiving.{Decision}
 use Rattle.s2_receive.specs.declared.window.Next.{Next}
-use Rattle.s2_message.specs.Decisions.{received_word, soft_frame, word_decision}
+use Rattle.s2_message.specs.Decisions.{received_word, soft_frame, upright_frame, word_decision}
+use Rattle.s2_message.specs.Figures.{figures_of}
 use Rattle.s2_replay.specs.Certificates.{Certifies, IsParityVerdict, Shows, ShowsParsed}
-use Rattle.s2_replay.specs.Frames.{AuditsFrame, ComparesLine, SettlesBy, cost_of}
+use Rattle.s2_replay.specs.Frames.{AuditsFrame, ComparesLine, HasRounds, SettlesBy, cost_of}
 use Rattle.s2_replay.specs.Replay.{IsBorneOut, IsBorneOutBy, Terms, are_known, decision_on, is_known}
 use Rattle.s2_replay.specs.declared.certificates.Shown.TheVariants.{Word}
 use Rattle.s2_replay.specs.declared.frames.Audited.{Audited}
@@ -68,6 +70,14 @@ module _ (t : Terms) (symbols : List Symbol) (verdict : Verdict) (bits : List Bo
     pub certificate_is : made.certificate ≡ certificate
     certificate_is = parts.2
 
+    pub rounds_is : (line : List ℕ) → rounds ≡ rounds_in (words_of line) → HasRounds made line
+    unfolding figures_of
+    rounds_is line is = by t.options.figures
+      where
+        by : (b : Bool) → IfSome (if b then Some (figures_of t.mode t.number (upright_frame t.mode t.options symbols) soft bits rounds) else None) (λ f. f.rounds ≡ rounds_in (words_of line))
+        by true = is
+        by false = tt
+
   -- by a certificate
   pub borne_certified : (view : View) → Certifies t.rows soft verdict bits view → IsBorneOut t symbols (made (Some view))
   borne_certified view certifies =
@@ -98,7 +108,7 @@ shown_block rows soft bits block verdict paid shows = parsed (file_of_bytes bloc
 
 -- the line of a frame that was settled by such a decision
 pub audits_so : (t : Terms) (old new : Follower) (found : Next) (block : Option (List ℕ)) (values : List ℤ) (word : List Bool) (line : List ℕ) (d : Decision) (step : Step) (verdict : Verdict) (paid : Option ℤ) (audited : Audited)
-    → SettlesBy t old new found block d step → d.verdict ≡ verdict → d.bits ≡ word → paid ≡ cost_of d.certificate → ComparesLine new step line verdict paid audited → AuditsFrame t old new found block values word line audited
+    → SettlesBy t old new found block line d step → d.verdict ≡ verdict → d.bits ≡ word → paid ≡ cost_of d.certificate → ComparesLine new step line verdict paid audited → AuditsFrame t old new found block values word line audited
 audits_so t old new found block values word line d step verdict paid (Told v c) settles is bits cost_is (own, v_is, c_is) = (d, step, settles, (is ∙ sym v_is, bits, c_is ∙ cost_is), own)
 audits_so t old new found block values word line d step verdict paid (Differs s) settles is bits cost_is (s_is, other) = subst (λ x. AuditsFrame t old new found block values word line (Differs x)) (sym s_is) (d, settles, bits, other)
 audits_so t old new found (Some b) values word line d step verdict paid (Refused r) settles is bits cost_is none = absurd none

@@ -1,14 +1,16 @@
 -- What a report that is the receiver's own goes on with.
-use Rattle.std.proofs.Common.{◌≡◌, ◌∙◌, ℕ, ℤ, take, Bool, true, false, if◌then◌else◌, List, [], ◌∷◌, ◌++◌, append-nil, Some, None, Ok, refl, sym, ap, ap₂, subst, inl, inr}
+use Rattle.std.proofs.Common.{IfSome, ◌≡◌, ◌∙◌, ℕ, ℤ, take, Bool, true, false, if◌then◌else◌, List, [], ◌∷◌, ◌++◌, append-nil, Some, None, Ok, refl, sym, ap, ap₂, subst, inl, inr}
 use Rattle.s2_mode.specs.Limits.{header_symbols}
 use Rattle.s2_mode.specs.Symbols.{symbols_of}
 use Rattle.s2_mode.specs.declared.symbols.Symbol.{Symbol}
 use Rattle.s2_rows.specs.Rows.{Rows}
 use Rattle.s2_certfile.specs.File.{File}
+use Rattle.s2_certfile.specs.Format.{file_of_bytes}
 use Rattle.s2_check.specs.CertificateFiles.{Suits, view_of}
 use Rattle.s2_check.specs.Verdicts.{is_certified}
 use Rattle.s2_check.specs.Views.{View}
 use Rattle.s2_check.specs.declared.verdict.Verdict.{Verdict}
+use Rattle.s2_report.specs.Entries.{rounds_in, words_of}
 use Rattle.s2_report.specs.ReportLines.{step_line}
 use Rattle.s2_receive.proofs.RunsSoFar.{decided_so}
 use Rattle.s2_receive.specs.Halves.{Follower, GoesOnFrom, IsRunBy, RunsBy, ahead, deciding}
@@ -19,7 +21,8 @@ use Rattle.s2_message.specs.Decisions.{bits_decision, figures_with, measured, qu
 use Rattle.s2_message.specs.Figures.{figures_of}
 use Rattle.s2_message.specs.Header.{energy_of}
 use Rattle.s2_replay.specs.Certificates.{Certifies, IsCertifiedVerdict, IsParityVerdict, ShowsParsed, ShowsFile}
-use Rattle.s2_replay.specs.Expected.{CertifiedLaw, ExpectsLastLaw, ExpectsLaw, ExpectsNext, RefusedLaw, SameDecisionLaw, SettledLaw}
+use Rattle.s2_replay.specs.Expected.{CertifiedLaw, ExpectsLastLaw, ExpectsLaw, ExpectsNext, RefusedLaw, SameDecisionLaw, SameWordLaw, SettledLaw}
+use Rattle.s2_replay.specs.Frames.{HasRounds}
 use Rattle.s2_replay.specs.Replay.{AreLines, IsBorneOut, IsBorneOutBy, IsClaimed, IsDecisionOn, IsEndLine, IsFrameLine, Terms, decision_on, is_known, rules_for}
 use Rattle.s2_replay.specs.Running.{IsBy, RanTo}
 use Rattle.s2_replay.specs.declared.certificates.Refusal.{Refusal}
@@ -126,44 +129,60 @@ same_parity rows bits v w (inl (codeword, is)) (inr (other, is')) = absurd (othe
 same_parity rows bits v w (inr (other, is)) (inl (codeword, is')) = absurd (other codeword)
 same_parity rows bits v w (inr (other, is)) (inr (other', is')) = is ∙ sym is'
 
-module _ (t : Terms) (symbols : List Symbol) (off : t.options.figures ≡ false) where
+-- known bits are not taken on the report's word
+not_claimed : (d : Decision) → is_known d ≡ true → IsClaimed d → ⊥
+not_claimed d known claimed = let never : true ≡ false = sym known ∙ ap (λ (x : Decision). is_known x) claimed.1 in absurd (cc)
+
+module _ (t : Terms) (symbols : List Symbol) where
   abbrev soft : List ℤ
   soft = soft_frame t.mode t.number t.options symbols
 
-  -- without figures the rounds do not matter
-  no_figures : (bits : List Bool) (rounds : ℕ) → figures_with t.mode t.number t.options symbols soft bits rounds ≡ None
-  no_figures bits rounds = ap (λ b. if b then Some (figures_of t.mode t.number (upright_frame t.mode t.options symbols) soft bits rounds) else None) off
+  -- the figures have the same rounds
+  same_figures : (b : Bool) (bits : List Bool) (r s n : ℕ) → IfSome (if b then Some (figures_of t.mode t.number (upright_frame t.mode t.options symbols) soft bits r) else None) (λ f. f.rounds ≡ n)
+      → IfSome (if b then Some (figures_of t.mode t.number (upright_frame t.mode t.options symbols) soft bits s) else None) (λ f. f.rounds ≡ n)
+      → (if b then Some (figures_of t.mode t.number (upright_frame t.mode t.options symbols) soft bits r) else None) ≡ (if b then Some (figures_of t.mode t.number (upright_frame t.mode t.options symbols) soft bits s) else None)
+  unfolding figures_of
+  same_figures true bits r s n h h' = ap (λ k. Some (figures_of t.mode t.number (upright_frame t.mode t.options symbols) soft bits k)) (h ∙ sym h')
+  same_figures false bits r s n h h' = refl
 
-  same_made : (d e : Decision) → IsDecisionOn t symbols d → IsDecisionOn t symbols e → d.verdict ≡ e.verdict → d.bits ≡ e.bits → d.certificate ≡ e.certificate → d ≡ e
-  same_made d e (rounds, made) (rounds', made') same_verdict same_bits same_certificate =
-      let parts : decision_on t.mode t.number t.options symbols d.verdict d.bits d.certificate rounds ≡ decision_on t.mode t.number t.options symbols e.verdict e.bits e.certificate rounds =
-      λ i. decision_on t.mode t.number t.options symbols (same_verdict i) (same_bits i) (same_certificate i) rounds in
-      let figures : figures_with t.mode t.number t.options symbols soft e.bits rounds ≡ figures_with t.mode t.number t.options symbols soft e.bits rounds' = no_figures e.bits rounds ∙ sym (no_figures e.bits rounds') in
-      made ∙ parts ∙ ap (λ x. measured (bits_decision t.mode soft e.verdict e.bits e.certificate) x (energy_of (take header_symbols symbols)) (quarters t.mode t.options symbols)) figures ∙ sym made'
+  module _ (line : List ℕ) (d e : Decision) (has : HasRounds d line) (has' : HasRounds e line) where
+    same_made : IsDecisionOn t symbols d → IsDecisionOn t symbols e → d.verdict ≡ e.verdict → d.bits ≡ e.bits → d.certificate ≡ e.certificate → d ≡ e
+    same_made (rounds, made) (rounds', made') same_verdict same_bits same_certificate =
+        let said = rounds_in (words_of line) in
+        let parts : decision_on t.mode t.number t.options symbols d.verdict d.bits d.certificate rounds ≡ decision_on t.mode t.number t.options symbols e.verdict e.bits e.certificate rounds =
+        λ i. decision_on t.mode t.number t.options symbols (same_verdict i) (same_bits i) (same_certificate i) rounds in
+        let here = subst (λ f. IfSome f (λ x. x.rounds ≡ said)) (ap (λ (x : Decision). x.figures) (made ∙ parts)) has in
+        let there = subst (λ f. IfSome f (λ x. x.rounds ≡ said)) (ap (λ (x : Decision). x.figures) made') has' in
+        let figures : figures_with t.mode t.number t.options symbols soft e.bits rounds ≡ figures_with t.mode t.number t.options symbols soft e.bits rounds' = same_figures t.options.figures e.bits rounds rounds' said here there in
+        made ∙ parts ∙ ap (λ x. measured (bits_decision t.mode soft e.verdict e.bits e.certificate) x (energy_of (take header_symbols symbols)) (quarters t.mode t.options symbols)) figures ∙ sym made'
 
-  -- known bits are not taken on the report's word
-  not_claimed : (d : Decision) → is_known d ≡ true → IsClaimed d → ⊥
-  not_claimed d known claimed = let never : true ≡ false = sym known ∙ ap (λ (x : Decision). is_known x) claimed.1 in absurd (cc)
+    same_bare : is_known d ≡ true → is_known e ≡ true → d.bits ≡ e.bits → d.certificate ≡ e.certificate → IsBorneOutBy t symbols d None → IsBorneOutBy t symbols e None → d ≡ e
+    same_bare known known' same_bits same (inl (made, parity)) (inl (made', parity')) =
+        same_made made made' (same_parity t.rows e.bits d.verdict e.verdict (subst (λ b. IsParityVerdict t.rows b d.verdict) same_bits parity) parity') same_bits same
+    same_bare known known' same_bits same (inl made) (inr claimed) = absurd (not_claimed e known' claimed)
+    same_bare known known' same_bits same (inr claimed) borne = absurd (not_claimed d known claimed)
 
-  same_bare : (d e : Decision) → is_known d ≡ true → is_known e ≡ true → d.bits ≡ e.bits → d.certificate ≡ e.certificate → IsBorneOutBy t symbols d None → IsBorneOutBy t symbols e None → d ≡ e
-  same_bare d e known known' same_bits same (inl (made, parity)) (inl (made', parity')) =
-      same_made d e made made' (same_parity t.rows e.bits d.verdict e.verdict (subst (λ b. IsParityVerdict t.rows b d.verdict) same_bits parity) parity') same_bits same
-  same_bare d e known known' same_bits same (inl made) (inr claimed) = absurd (not_claimed e known' claimed)
-  same_bare d e known known' same_bits same (inr claimed) borne = absurd (not_claimed d known claimed)
+    same_shown : (view : View) → d.certificate ≡ Some view → e.certificate ≡ Some view → IsBorneOut t symbols d → IsBorneOut t symbols e → d ≡ e
+    same_shown view is is' borne borne' =
+        let (made, by) = subst (IsBorneOutBy t symbols d) is borne in
+        let (made', by') = subst (IsBorneOutBy t symbols e) is' borne' in
+        same_made made made' (same_certified t.rows view d.verdict e.verdict by.verdict_is by'.verdict_is) (sym by.bits_are ∙ by'.bits_are) (is ∙ sym is')
 
-  same_shown : (d e : Decision) (view : View) → d.certificate ≡ Some view → e.certificate ≡ Some view → IsBorneOut t symbols d → IsBorneOut t symbols e → d ≡ e
-  same_shown d e view is is' borne borne' =
-      let (made, by) = subst (IsBorneOutBy t symbols d) is borne in
-      let (made', by') = subst (IsBorneOutBy t symbols e) is' borne' in
-      same_made d e made made' (same_certified t.rows view d.verdict e.verdict by.verdict_is by'.verdict_is) (sym by.bits_are ∙ by'.bits_are) (is ∙ sym is')
+-- the same bytes are the same certificate
+same_file : (block : List ℕ) (file other : File) → file_of_bytes block ≡ Ok file → file_of_bytes block ≡ Ok other → file ≡ other
+same_file block file other read read' = let both : Ok file ≡ Ok other = sym read ∙ read' in cc
 
 pub same_decision : SameDecisionLaw
-same_decision t symbols d e (Some block) off borne borne' (file, read, suits, is) (file', read', suits', is') bare =
-    let same : file ≡ file' = (let both : Ok file ≡ Ok file' = sym read ∙ read' in cc) in
-    same_shown t symbols off d e (view_of t.rows file) is (is' ∙ ap (λ x. Some (view_of t.rows x)) (sym same)) borne borne'
-same_decision t symbols d e None off borne borne' is is' bare =
+same_decision t symbols d e (Some block) line borne borne' has has' (file, read, suits, is) (other, read', suits', is') bare =
+    same_shown t symbols line d e has has' (view_of t.rows file) is (is' ∙ ap (λ x. Some (view_of t.rows x)) (sym (same_file block file other read read'))) borne borne'
+same_decision t symbols d e None line borne borne' has has' is is' bare =
     let (known, known', same_bits) = bare refl in
-    same_bare t symbols off d e known known' same_bits (is ∙ sym is') (subst (IsBorneOutBy t symbols d) is borne) (subst (IsBorneOutBy t symbols e) is' borne')
+    same_bare t symbols line d e has has' known known' same_bits (is ∙ sym is') (subst (IsBorneOutBy t symbols d) is borne) (subst (IsBorneOutBy t symbols e) is' borne')
+
+pub same_word : SameWordLaw
+same_word t symbols d e block borne borne' (file, read, suits, is) (other, read', suits', is') =
+    let same : e.certificate ≡ Some (view_of t.rows file) = is' ∙ ap (λ x. Some (view_of t.rows x)) (sym (same_file block file other read read')) in
+    sym (subst (IsBorneOutBy t symbols d) is borne).1.bits_are ∙ (subst (IsBorneOutBy t symbols e) same borne').1.bits_are
 
 -- an accepted certificate is not refused
 not_refused : (rows : Rows) (values : List ℤ) (bits : List Bool) (verdict : Verdict) (file : File) (refusal : Refusal) → Suits rows file → Certifies rows values verdict bits (view_of rows file) → ShowsFile rows values [] file (shown.Refused refusal) → ⊥

@@ -14,7 +14,7 @@ use Rattle.s2_receive.specs.declared.window.Next.TheVariants as next
 use Rattle.s2_message.specs.Decisions.{soft_frame}
 use Rattle.s2_replay.specs.Auditing.{AuditedFrames, AuditedSoFar}
 use Rattle.s2_replay.specs.Certificates.{Shows}
-use Rattle.s2_replay.specs.Frames.{IsShownBy}
+use Rattle.s2_replay.specs.Frames.{HasRounds, IsShownBy}
 use Rattle.s2_replay.specs.Replay.{IsBorneOut, IsEndLine, IsFrameLine, IsReplay, Terms, claimed_decision, is_known, rules_for}
 use Rattle.s2_replay.specs.Running.{IsBy}
 use Rattle.s2_replay.specs.declared.certificates.Refusal.{Refusal}
@@ -65,11 +65,16 @@ SettledLaw =
 abbrev pub CertifiedLaw : Type 0
 CertifiedLaw = (t : Terms) (symbols : List Symbol) (d : Decision) (block : Option (List ℕ)) → IsBorneOut t symbols d → IsShownBy t.rows d block → is_certified d.verdict ≡ is_some block
 
--- Without figures the evidence determines the decision: the certificate; or without one the bits, if they are known
+-- The evidence determines the decision: the certificate; or without one the bits, if they are known. The rounds are those of a line
 abbrev pub SameDecisionLaw : Type 0
 SameDecisionLaw =
-    (t : Terms) (symbols : List Symbol) (d e : Decision) (block : Option (List ℕ)) → t.options.figures ≡ false → IsBorneOut t symbols d → IsBorneOut t symbols e
+    (t : Terms) (symbols : List Symbol) (d e : Decision) (block : Option (List ℕ)) (line : List ℕ) → IsBorneOut t symbols d → IsBorneOut t symbols e → HasRounds d line → HasRounds e line
     → IsShownBy t.rows d block → IsShownBy t.rows e block → (block ≡ None → (is_known d ≡ true) × (is_known e ≡ true) × (d.bits ≡ e.bits)) → d ≡ e
+
+-- a certificate has one word
+abbrev pub SameWordLaw : Type 0
+SameWordLaw =
+    (t : Terms) (symbols : List Symbol) (d e : Decision) (block : List ℕ) → IsBorneOut t symbols d → IsBorneOut t symbols e → IsShownBy t.rows d (Some block) → IsShownBy t.rows e (Some block) → d.bits ≡ e.bits
 
 -- a certificate that is refused bears out no decision
 abbrev pub RefusedLaw : Type 0

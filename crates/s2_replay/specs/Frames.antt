@@ -1,5 +1,5 @@
 -- The audit of one frame: what shows its bits, and its line (own).
-use Rattle.std.specs.Prelude.{◌≡◌, ◌↔◌, ℕ, ℤ, Bool, true, false, IsTrue, List, [], ◌∷◌, ◌++◌, Option, Some, None, Ok}
+use Rattle.std.specs.Prelude.{◌≡◌, ◌↔◌, ℕ, ℤ, Bool, true, false, IsTrue, List, [], ◌∷◌, ◌++◌, Option, Some, None, IfSome, Ok}
 use Rattle.s2_rows.specs.Rows.{Rows}
 use Rattle.s2_certfile.specs.File.{File}
 use Rattle.s2_certfile.specs.Format.{file_of_bytes}
@@ -8,6 +8,7 @@ use Rattle.s2_check.specs.Cost.{cost}
 use Rattle.s2_check.specs.Views.{View}
 use Rattle.s2_check.specs.declared.verdict.Verdict.{Verdict}
 use Rattle.s2_check.specs.declared.verdict.Verdict.TheVariants.{Broken}
+use Rattle.s2_report.specs.Entries.{rounds_in, words_of}
 use Rattle.s2_report.specs.ReportLines.{step_line}
 use Rattle.s2_report.specs.declared.report.Step.{Step}
 use Rattle.s2_report.specs.declared.report.Step.TheVariants as steps
@@ -52,9 +53,15 @@ abbrev pub cost_of : Option View → Option ℤ
 cost_of None = None
 cost_of (Some view) = Some (cost view.soft view.bits)
 
--- a frame was settled by a decision that is borne out for it by these bytes, or by no certificate; its bits are known
-pub record SettlesBy (t : Terms) (old new : Follower) (found : Next) (block : Option (List ℕ)) (d : Decision) (step : Step) : Type 0 where
+-- its rounds of min-sum, if it has figures, are those that this line says: no evidence shows them
+abbrev pub HasRounds : Decision → (line : List ℕ) → Type 0
+HasRounds d line = IfSome d.figures (λ f. f.rounds ≡ rounds_in (words_of line))
+
+-- a frame, whose line is this one, was settled by a decision that is borne out for it by these bytes, or by no certificate; its bits are
+-- known
+pub record SettlesBy (t : Terms) (old new : Follower) (found : Next) (block : Option (List ℕ)) (line : List ℕ) (d : Decision) (step : Step) : Type 0 where
   pub known : is_known d ≡ true
+  pub rounds : HasRounds d line
   pub borne : IsBorneOut t old.frame d
   pub shown : IsShownBy t.rows d block
   pub settles : Settles old new found d step
@@ -73,8 +80,8 @@ ComparesLine new step line verdict paid (Refused refusal) = ⊥
 -- step. Or the certificate shows nothing, and the frame is not settled
 abbrev pub AuditsFrame : Terms → (old new : Follower) → Next → (block : Option (List ℕ)) → (soft : List ℤ) → (word : List Bool) → (line : List ℕ) → Audited → Type 0
 AuditsFrame t old new found block soft word line (Told verdict paid) =
-    (d : Decision) × (step : Step) × SettlesBy t old new found block d step × ((d.verdict ≡ verdict) × (d.bits ≡ word) × (paid ≡ cost_of d.certificate)) × IsOwnLine new step line
-AuditsFrame t old new found block soft word line (Differs step) = (d : Decision) × SettlesBy t old new found block d step × (d.bits ≡ word) × ¬ IsOwnLine new step line
+    (d : Decision) × (step : Step) × SettlesBy t old new found block line d step × ((d.verdict ≡ verdict) × (d.bits ≡ word) × (paid ≡ cost_of d.certificate)) × IsOwnLine new step line
+AuditsFrame t old new found block soft word line (Differs step) = (d : Decision) × SettlesBy t old new found block line d step × (d.bits ≡ word) × ¬ IsOwnLine new step line
 AuditsFrame t old new found (Some block) soft word line (Refused refusal) = Shows t.rows soft [] block (shown.Refused refusal) × (new ≡ old)
 AuditsFrame t old new found None soft word line (Refused refusal) = ⊥
 

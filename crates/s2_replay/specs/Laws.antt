@@ -42,7 +42,7 @@ TellsFrameLaw =
     (t : Terms) (whole left left_new : Option (List ℕ)) (old mid new : Follower) (known : Bool) (decisions : List Decision) (lines : List (List ℕ)) (packets : List ℕ)
     (found : Next) (block : Option (List ℕ)) (d : Decision) (step : Step) (line : List ℕ)
     → AuditedSoFar t whole left old known decisions lines packets → GoesOn old mid left left_new → mid.found ≡ Some found → IsFrame found
-    → SettlesBy t mid new found block d step → IsOwnLine new step line
+    → SettlesBy t mid new found block line d step → IsOwnLine new step line
     → AuditedSoFar t whole left_new new known (decisions ++ d ∷ []) (lines ++ line ∷ []) (packets ++ new.packets)
 
 -- so is a frame on the report's word

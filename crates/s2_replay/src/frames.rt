@@ -14,7 +14,7 @@ use s2_bits::Bits;
 use s2_check::Verdict;
 use s2_matrix::Matrix;
 use s2_receive::Next;
-use s2_report::{Step, Totals};
+use s2_report::{Step, Totals, read_rounds};
 use std::alloc::{AllocError, Global};
 
 /// The audit of a frame.
@@ -67,14 +67,13 @@ impl Replayer {
     }
 
     /// Audits a frame that was found, by the bytes of its certificate: `word` gets its bits. Its line in the report is given without
-    /// its LF, and `rounds` is what this line says of the rounds of min-sum. `AllocError` only if memory does not suffice.
+    /// its LF. It also says the rounds of min-sum. `AllocError` only if memory does not suffice.
     pub fn audit_certified(
         &mut self,
         alloc: Global,
         matrix: &Matrix,
         found: Next,
         block: &[u8],
-        rounds: u32,
         word: &mut Bits,
         line: &[u8],
     ) -> Result<Audited, AllocError>
@@ -91,18 +90,19 @@ impl Replayer {
         match shown {
             Shown::Refused(refusal) => Ok(Audited::Refused(refusal)),
             Shown::Word { verdict, cost } => {
+                let rounds = read_rounds(line);
                 let step = self.settle(found, verdict, rounds, word);
                 Ok(self.compared(step, line, verdict, Some(cost)))
             }
         }
     }
 
-    /// Audits a frame that was found, by the bits of its codeword, whose verdict the parity checks show.
+    /// Audits a frame that was found, by the bits of its codeword, whose verdict the parity checks show. Its line also says the rounds of
+    /// min-sum.
     pub fn audit_recorded(
         &mut self,
         matrix: &Matrix,
         found: Next,
-        rounds: u32,
         word: &Bits,
         line: &[u8],
     ) -> Audited
@@ -115,6 +115,7 @@ impl Replayer {
         ensures same { IsSameReplayer self.old self.new }
     {
         let verdict = parity_verdict(matrix, word);
+        let rounds = read_rounds(line);
         let step = self.settle(found, verdict, rounds, word);
         self.compared(step, line, verdict, None)
     }

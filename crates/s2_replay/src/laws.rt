@@ -1,5 +1,5 @@
 //! Laws about replays.
-ghost use Rattle.s2_replay.specs.Expected.{CertifiedLaw, ExpectsLastLaw, ExpectsLaw, RefusedLaw, SameDecisionLaw, SettledLaw};
+ghost use Rattle.s2_replay.specs.Expected.{CertifiedLaw, ExpectsLastLaw, ExpectsLaw, RefusedLaw, SameDecisionLaw, SameWordLaw, SettledLaw};
 ghost use Rattle.s2_replay.specs.Laws.{AuditBeginsLaw, AuditOverLaw, OwnReportLaw, TellsClaimLaw, TellsCutLaw, TellsEndLaw, TellsFrameLaw};
 
 /// The report of a receiver is accepted if each of its decisions is borne out: the receiver's own lines and packets are those of a
@@ -29,5 +29,6 @@ pub fn expects()
     ensures settled { SettledLaw }
     ensures certified { CertifiedLaw }
     ensures same { SameDecisionLaw }
+    ensures word { SameWordLaw }
     ensures refused { RefusedLaw }
 {}

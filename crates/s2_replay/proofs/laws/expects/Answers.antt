@@ -1,4 +1,4 @@
-use Rattle.s2_replay.proofs.ExpectedLemmas.{certified, expects, expects_last, refused, same_decision, settled}
+use Rattle.s2_replay.proofs.ExpectedLemmas.{certified, expects, expects_last, refused, same_decision, same_word, settled}
 use Rattle.s2_replay.proofs.laws.expects.Goals as goal
 
 pub returns-clause-frame : goal.returns-clause-frame
@@ -18,3 +18,6 @@ returns-clause-same c = same_decision
 
 pub returns-clause-refused : goal.returns-clause-refused
 returns-clause-refused c = refused
+
+pub returns-clause-word : goal.returns-clause-word
+returns-clause-word c = same_word
