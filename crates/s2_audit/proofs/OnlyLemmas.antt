@@ -1,5 +1,5 @@
 -- Files as they should be have nothing left but what an audit accepts next.
-use Rattle.std.proofs.Common.{◌≡◌, ◌≢◌, ◌⊎◌, ℕ, ◌+◌, ◌*◌, ◌<◌, ◌≤◌, Bool, true, false, List, [], ◌∷◌, ◌++◌, Option, Some, None, is_some, length, take, drop, refl, sym, ap, ap₂, subst, ◌∙◌, append-nil, append_assoc, length-append, take-append-drop, arith, inl, inr}
+use Rattle.std.proofs.Common.{◌≡◌, ◌≢◌, ◌⊎◌, ℕ, ◌+◌, ◌*◌, ◌<◌, ◌≤◌, Bool, true, false, List, [], ◌∷◌, ◌++◌, Option, Some, None, is_some, length, take, drop, refl, sym, ap, ap₂, subst, ◌∙◌, append-nil, append_assoc, length-append, take-append-drop, arith, inl, inr, IfSome, IsSome}
 use Rattle.std.specs.List.{All, AllByRecursion, flat_map}
 use Rattle.std.specs.Io.KnownBytes.{Consumes, IsAtEnd}
 use Rattle.std.proofs.lemmas.Bool.{cases_eq}
@@ -24,7 +24,7 @@ use Rattle.s2_receive.specs.Synchronization.{met_of}
 use Rattle.s2_receive.specs.declared.gap.Gap.{Gap}
 use Rattle.s2_receive.specs.declared.window.Next.{Next}
 use Rattle.s2_receive.specs.declared.window.Next.TheVariants as next
-use Rattle.s2_replay.specs.Auditing.{AuditedFrames, AuditedSoFar}
+use Rattle.s2_replay.specs.Auditing.{AuditedFrames, AuditedSoFar, ReplaysIn}
 use Rattle.s2_replay.specs.Expected.{ExpectsNext, line_by, packets_by}
 use Rattle.s2_replay.specs.Frames.{HasRounds, IsLastOf, IsOwnLine, IsShownBy, SettlesBy}
 use Rattle.s2_replay.specs.Packets as files
@@ -37,9 +37,9 @@ use Rattle.s2_message.specs.Decisions.{soft_frame}
 use Rattle.s2_replay.proofs.AuditLemmas.{audited_on, frames_on}
 use Rattle.s2_replay.proofs.ExpectedLemmas.{certified, expects, expects_last, refused, same_decision, same_word, settled}
 use Rattle.s2_audit.specs.Differences.{ClaimsOther, Differs, DiffersAt, DiffersIf, HasMoreIf, HasOtherLast, HasOtherLine, IsOtherLine, LacksEvidence, LeavesOver, Meets, rests_of}
-use Rattle.s2_audit.specs.Evidences.{Evidence, IsGiven, IsMissing, IsSized, IsUnknownIf, IsWordOf, ReadsIf, Takes, TakesCodeword, bytes_of}
+use Rattle.s2_audit.specs.Evidences.{Evidence, IsGiven, IsMissing, IsOverIf, IsSized, IsUnknownIf, IsWordOf, ReadsIf, Takes, TakesCodeword, bytes_of}
 use Rattle.s2_audit.specs.Limits.{certificate_bytes}
-use Rattle.s2_audit.specs.Turns.{BeginWith, BeginsBy, Ends, HasLeft, IsCutLine, IsLastLine, IsLeftIf, IsShown, MayGoOn, OnlyLine, Remains, Shown, TellsLine, decisions_of, lines_of}
+use Rattle.s2_audit.specs.Turns.{BeginWith, BeginsBy, Ends, FineLaw, HasLeft, IsCutLine, IsLastLine, IsLeftIf, IsShown, MayGoOn, OnlyLine, Remains, Shown, TellsLine, decisions_of, lines_of}
 use Rattle.s2_audit.specs.declared.difference.Difference.{Difference}
 use Rattle.s2_audit.specs.declared.difference.Difference.TheVariants as differences
 use Rattle.s2_audit.specs.declared.difference.Reason.{Reason}
@@ -592,3 +592,34 @@ module _ (t : Terms) (recording : List ℕ) (now new : Ends) (f f' : Follower) (
   never (differences.MorePackets number) h = at_next (differences.MorePackets number) h
   never differences.MoreCertificates h = at_next differences.MoreCertificates h
   never differences.MoreCodewords h = at_next differences.MoreCodewords h
+
+-- ---- fine files
+
+all_read : (a b : Option (List ℕ)) (all bytes : List ℕ) → a ≡ Some all → Consumes a b bytes → IsAtEnd b → a ≡ Some bytes
+all_read a b all bytes is read ended =
+    let (rest, split, b_is) = next_bytes a b bytes all is read in
+    is ∙ ap Some (split ∙ ap (λ l. bytes ++ l) (at_end b rest b_is ended) ∙ append-nil bytes)
+
+all_read_if : (a b : Option (Option (List ℕ))) (bytes : List ℕ) → IfSome a IsSome → ReadsIf a b bytes → IsOverIf b → IsLeftIf a bytes
+all_read_if None b bytes known read ended = tt
+all_read_if (Some None) b bytes known read ended = absurd (cc)
+all_read_if (Some (Some all)) None bytes known read ended = absurd read
+all_read_if (Some (Some all)) (Some b) bytes known read ended = all_read (Some all) b all bytes refl read ended
+
+pub fine_is_right : FineLaw
+fine_is_right t old new recording report certificates frames lines packets symbols_are report_is certificates_are codewords packets_given fine known =
+    let reads = fine.replayed.reads in
+    record {
+      symbols = symbols_are;
+      replay = subst (λ x. ReplaysIn t x (decisions_of frames) lines packets) symbols_are fine.replayed.replays;
+      left = record {
+        begin = fine.replayed.begin;
+        whole = reads.whole;
+        each = reads.each;
+        known = known;
+        report = all_read old.report new.report report (text_of lines) report_is reads.report fine.report;
+        certificates = all_read old.evidence.certificates new.evidence.certificates certificates (flat_map (λ (x : Shown). bytes_of x.block) frames) certificates_are reads.certificates fine.certificates;
+        codewords = all_read_if old.evidence.codewords new.evidence.codewords (flat_map (λ (x : Shown). bytes_of x.packed) frames) codewords reads.codewords fine.codewords;
+        packets_are = all_read_if old.packets new.packets packets packets_given reads.packets_are fine.packets_end;
+      };
+    }

@@ -1,5 +1,5 @@
 -- An audit up to a frame: the decisions and their evidence, and the lines of the report (own).
-use Rattle.std.specs.Prelude.{not, ◌≡◌, ◌⊎◌, ℕ, ◌+◌, ◌&&◌, nat_eq, Bool, true, false, if◌then◌else◌, List, [], ◌∷◌, ◌++◌, All, map, count_by, Option, Some, None, option_map, is_some, ⊤}
+use Rattle.std.specs.Prelude.{not, ◌≡◌, ◌⊎◌, ℕ, ◌+◌, ◌&&◌, nat_eq, Bool, true, false, if◌then◌else◌, List, [], ◌∷◌, ◌++◌, All, map, count_by, Option, Some, None, IfSome, IsSome, option_map, is_some, ⊤}
 use Rattle.std.specs.List.{flat_map}
 use Rattle.std.specs.Io.KnownBytes.{Consumes, IsAtEnd}
 use Rattle.s2_mode.specs.Mode.{n_of}
@@ -252,6 +252,13 @@ pub record IsFine (t : Terms) (old new : Ends) (frames : List Shown) (lines : Li
   pub certificates : IsAtEnd new.evidence.certificates
   pub codewords : IsOverIf new.evidence.codewords
   pub packets_end : IsOverIf new.packets
+
+-- Exit 0 and exit 2 exclude each other: fine files, if all their bytes and bits are known, are as they should be
+abbrev pub FineLaw : Type 0
+FineLaw =
+    (t : Terms) (old new : Ends) (recording report certificates : List ℕ) (frames : List Shown) (lines : List (List ℕ)) (packets : List ℕ)
+    → old.symbols ≡ Some recording → old.report ≡ Some report → old.evidence.certificates ≡ Some certificates → IfSome old.evidence.codewords IsSome → IfSome old.packets IsSome
+    → IsFine t old new frames lines packets → All (λ s. is_known s.decision ≡ true) frames → IsRight t old recording frames lines packets
 
 -- ---- the next frame, cut frame or end
 
