@@ -39,7 +39,7 @@ known_bits m [] long = absurd (no_bit m.short long)
 known_bits m (bit ∷ bits) long = refl
 
 -- the verdict, the bits and the certificate of a decision are those by which it was made
-made_by : (m : Mode) (soft : List ℤ) (verdict : Verdict) (bits : List Bool) (certificate : Option View) (x : Option (List Bool))
+pub made_by : (m : Mode) (soft : List ℤ) (verdict : Verdict) (bits : List Bool) (certificate : Option View) (x : Option (List Bool))
     → ((word_decision m soft verdict bits certificate x).verdict ≡ verdict) × ((word_decision m soft verdict bits certificate x).bits ≡ bits) × ((word_decision m soft verdict bits certificate x).certificate ≡ certificate)
 made_by m soft verdict bits certificate (Some w) = (refl, refl, refl)
 made_by m soft verdict bits certificate None = (refl, refl, refl)

@@ -3,6 +3,7 @@ pub mod PacketLemmas
 pub mod ValueLemmas
 pub mod RunLemmas
 pub mod ReplayerLemmas
+pub mod FollowLemmas
 pub mod AuditLemmas
 pub mod OwnReports
 pub mod BorneOut

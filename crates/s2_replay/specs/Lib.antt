@@ -3,6 +3,7 @@ pub mod Packets
 pub mod Certificates
 pub mod Replay
 pub mod Running
+pub mod Following
 pub mod Replayers
 pub mod Auditing
 pub mod Frames

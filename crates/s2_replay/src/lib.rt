@@ -29,6 +29,7 @@ pub mod laws;
 mod lines;
 mod packets;
 mod replayer;
+mod settling;
 mod verdicts;
 
 pub use certificates::{Refusal, Shown, read_certificate};
@@ -36,4 +37,5 @@ pub use frames::{Audited, AuditedClaim, AuditedLast};
 pub use lines::{is_claimed_line, is_counted_line, is_line_of};
 pub use packets::compare_packets;
 pub use replayer::Replayer;
+pub use settling::Given;
 pub use verdicts::parity_verdict;

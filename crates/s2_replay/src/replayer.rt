@@ -3,7 +3,7 @@ ghost use Rattle.std.specs.Prelude.{◌≡◌, ◌*◌, ◌^◌, ◌<◌, ◌≤
 ghost use Rattle.s2_mode.specs.Counts.{CanCount, CountsFault};
 ghost use Rattle.s2_check.specs.Views.{View};
 ghost use Rattle.s2_mode.specs.Mode.{n_of, symbols_in};
-ghost use Rattle.s2_receive.specs.Synchronization.{room_for};
+ghost use Rattle.s2_receive.specs.Synchronization.{reached, room_for};
 ghost use Rattle.s2_plframe.specs.Turns.{sought_of};
 ghost use Rattle.s2_receive.specs.Decider.{HasPlace};
 ghost use Rattle.s2_receive.specs.Limits.{max_symbols};
@@ -13,6 +13,7 @@ ghost use Rattle.s2_message.specs.Reading.{IsSameReader};
 ghost use Rattle.s2_receive.specs.Halves.{IsSameFollower, Says, Seeks, Settles, asked_of};
 ghost use Rattle.s2_replay.specs.Replay.{claimed_decision};
 ghost use Rattle.s2_replay.specs.Replayers.{HasSoft, IfFrame, IsFrame, IsSameReplayer, decision_for};
+ghost use Rattle.s2_replay.specs.Following.{SearchesOn, SearchesOnce};
 ghost use Rattle.s2_replay.specs.Running.{EndsAfterCut, GoesOn, IsNearer, ReadsOrStops, found_in, found_of};
 
 use s2_bbframe::{Header, NO_SYNCD};
@@ -33,9 +34,9 @@ use std::marker::Model;
 /// In contracts, it is the scrambling number of its frames, how they are read, its follower, and the soft values of the frame that
 /// was found last.
 pub struct Replayer {
-    follower: Follower,
-    reader: FrameReader,
-    soft: Vec<i16>,
+    pub(crate) follower: Follower,
+    pub(crate) reader: FrameReader,
+    pub(crate) soft: Vec<i16>,
     bytes: Vec<u8>,
 }
 
@@ -99,6 +100,7 @@ fn seek(
     requires reader { follower.old.sought.mode ≡ reader.old.mode }
     requires soft { length soft.old ≡ n_of reader.old.mode }
     ensures seeks { Seeks follower.old follower.new bytes.now (nat_eq (length bytes.now) (asked_of follower.old)) result }
+    ensures bounded { reached follower.new.state.window ≤ follower.new.limit }
     ensures soft { IfFrame result (HasSoft reader.new follower.new.frame soft.new) }
     ensures reader { IsSameReader reader.old reader.new }
     ensures long { length soft.new ≡ length soft.old }
@@ -125,6 +127,7 @@ fn read_on<R: CountedRead>(
     requires room { length room.old ≡ asked_of follower.old }
     requires reader { follower.old.sought.mode ≡ reader.old.mode }
     requires soft { length soft.old ≡ n_of reader.old.mode }
+    ensures searched { SearchesOnce follower.old follower.new (R.remaining symbols.old) (R.remaining symbols.new) result }
     ensures goes_on { IfOk result (λ found. GoesOn follower.old follower.new (R.remaining symbols.old) (R.remaining symbols.new)) }
     ensures found { follower.new.found ≡ found_in result }
     ensures soft { IfFrame (found_in result) (HasSoft reader.new follower.new.frame soft.new) }
@@ -156,6 +159,7 @@ fn find_next<R: CountedRead>(
     requires bytes { length bytes.old ≡ 4 * room_for follower.old.resync (symbols_in follower.old.sought.mode) }
     requires reader { follower.old.sought.mode ≡ reader.old.mode }
     requires soft { length soft.old ≡ n_of reader.old.mode }
+    ensures searches { SearchesOn follower.old follower.new (R.remaining symbols.old) (R.remaining symbols.new) (R.count symbols.old) (R.count symbols.new) result }
     ensures goes_on { IfOk result (λ found. GoesOn follower.old follower.new (R.remaining symbols.old) (R.remaining symbols.new)) }
     ensures found { follower.new.found ≡ found_of result }
     ensures soft { IfFrame (found_of result) (HasSoft reader.new follower.new.frame soft.new) }
@@ -242,6 +246,7 @@ impl Replayer {
     pub fn find<R: CountedRead>(&mut self, symbols: &mut R) -> Result<Next, ReadFault>
         requires symbols { CanCount (R.count symbols.old) }
         requires none { self.old.follower.found ≡ None }
+        ensures searches { SearchesOn self.old.follower self.new.follower (R.remaining symbols.old) (R.remaining symbols.new) (R.count symbols.old) (R.count symbols.new) result }
         ensures goes_on { IfOk result (λ found. GoesOn self.old.follower self.new.follower (R.remaining symbols.old) (R.remaining symbols.new)) }
         ensures found { self.new.follower.found ≡ found_of result }
         ensures soft { IfFrame (found_of result) (self.new.soft ≡ soft_frame self.old.follower.sought.mode self.old.number self.old.options self.new.follower.frame) }
@@ -301,7 +306,8 @@ impl Replayer {
 
     /// The totals so far.
     pub fn totals(&self) -> Totals
-        ensures { result ≡ self.now.follower.state.standing.totals }
+        ensures is { result ≡ self.now.follower.state.standing.totals }
+        ensures counted { result.frames ≤ max_symbols }
     {
         self.follower.totals()
     }

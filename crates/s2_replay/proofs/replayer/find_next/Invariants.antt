@@ -1,13 +1,15 @@
-use Rattle.std.proofs.Common.{◌≡◌, ◌-◌, None, length}
+use Rattle.std.proofs.Common.{◌≡◌, ◌-◌, List, None, length}
 use Rattle.s2_message.specs.Reading.{IsSameReader}
 use Rattle.s2_receive.specs.Synchronization.{reached}
 use Rattle.s2_receive.specs.Halves.{IsSameFollower}
+use Rattle.s2_replay.specs.Following.{AreSearches, Search}
 use Rattle.s2_replay.specs.Running.{GoesOn}
 use Rattle.s2_replay.proofs.replayer.find_next.Given as goal
 
 -- symbols were taken, and nothing was found in them; no read failed
 abbrev pub invariant-reading : goal.invariant-reading
 invariant-reading g l = record {
+  searched : (searches : List Search) × AreSearches l.fn.follower (g.R.CountedRead.remaining l.fn.symbols) searches l.follower (g.R.CountedRead.remaining l.symbols);
   goes_on : GoesOn l.fn.follower l.follower (g.R.CountedRead.remaining l.fn.symbols) (g.R.CountedRead.remaining l.symbols);
   none : l.follower.found ≡ None;
   same : IsSameFollower l.fn.follower l.follower;

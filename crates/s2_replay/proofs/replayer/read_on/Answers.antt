@@ -14,3 +14,6 @@ returns-clause-stuck g c = λ none.
 
 pub returns-clause-closing : goal.returns-clause-closing
 returns-clause-closing g c = ends_after_cut _ _ _ _ _ c.seek.ensures.seeks
+
+pub returns-clause-searched : goal.returns-clause-searched
+returns-clause-searched g c = (_, record { none = c.requires.none; few = search rules; read = c.in_ok-count.ensures.bytes; end = search rules; seeks = c.seek.ensures.seeks; bounded = c.seek.ensures.bounded })

@@ -1,0 +1,2 @@
+pub mod TrueRecords
+pub mod FramesThere
