@@ -18,6 +18,7 @@ use Rattle.s2_send.specs.Limits.{max_packets}
 use Rattle.s2_send.specs.Sender.{at_first}
 use Rattle.s2_library.specs.declared.options.Flags.{Flags}
 use Rattle.s2_library.specs.declared.options.Options.{Options}
+use Rattle.s2_library.specs.declared.receiver.Reception.{Reception}
 use Rattle.s2_library.specs.declared.slot.Slot.{Slot}
 use Rattle.s2_library.specs.declared.slot.Slot.TheVariants as slots
 
@@ -76,8 +77,12 @@ abbrev pub tuning_in : Options → Tuning
 tuning_in o = tuning_by (mode_in o) (wanted_by (flags_of o) o)
 
 -- a new receiver of the link and the tuning of options, which has made no step
+abbrev pub IsReceptionOf : Options → Rows → Reception → Type 0
+IsReceptionOf o rows r = IsNew (link_in o rows) (tuning_in o) r.receiver × (r.link ≡ link_in o rows) × (r.tuning ≡ tuning_in o) × (r.step ≡ None)
+
+-- a slot with such a receiver
 abbrev pub IsReceiverOf : Options → Rows → Slot → Type 0
-IsReceiverOf o rows (slots.Receiver r) = IsNew (link_in o rows) (tuning_in o) r.receiver × (r.link ≡ link_in o rows) × (r.tuning ≡ tuning_in o) × (r.step ≡ None)
+IsReceiverOf o rows (slots.Receiver r) = IsReceptionOf o rows r
 IsReceiverOf o rows slot = ⊥
 
 -- a transmitter of the link of options, at the start of its stream

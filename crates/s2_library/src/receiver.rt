@@ -1,14 +1,15 @@
 //! Receivers.
-ghost use Rattle.std.specs.Prelude.{◌≡◌, IfErr, IfOk, IsOkUnless, Some, nat_eq};
+ghost use Rattle.std.specs.Prelude.{◌≡◌, ◌⊎◌, IfErr, IfOk, IsOkUnless, None, Some, nat_eq};
 ghost use Rattle.s2_check.specs.CertificateBytes.{bytes_of};
 ghost use Rattle.s2_mode.specs.Mode.{IsMode};
 ghost use Rattle.s2_link.specs.Link.{IsSetUp};
 ghost use Rattle.s2_modem.specs.Reception.{IsNew};
-ghost use Rattle.s2_library.specs.Asked.{flags_of, link_in, mode_in, setup_in};
+ghost use Rattle.s2_tuning.specs.Tuning.{IsTuning};
+ghost use Rattle.s2_library.specs.Asked.{IsReceptionOf, flags_of, link_in, mode_in, setup_in, tuning_in};
 ghost use Rattle.s2_library.specs.Codes.{code_in as code_in_slot};
 ghost use Rattle.s2_library.specs.Copying.{digits_of};
 ghost use Rattle.s2_library.specs.Fields as fields;
-ghost use Rattle.s2_library.specs.Refusals.{MakesReceiver, RefusesSetup, setup_refusal};
+ghost use Rattle.s2_library.specs.Refusals.{AreOptions, MakesReceiver, NameLink, RefusesSetup, RefusesTuning, setup_refusal};
 ghost use Rattle.s2_library.specs.Slots.{AdvancesReception, AdvancesSlot, CopiesMadeOf, CopiesOf, Gives, GivesFields, GivesFieldsIf, ResetsReception, ResetsSlot, bbframe_in, figures_in, is_delivered, last_figures, listed, message_bytes, received_file, reception_in, receiver_in, room_in, sums_in, totals_in};
 
 use crate::code::{Code, code_in};
@@ -46,6 +47,33 @@ impl Drop for Reception {
             step: _,
         } = self;
     }
+}
+
+/// What a slot has of a receiver: it, its link and tuning, and its last step.
+fn reception_in(slot: &Slot) -> Result<&Reception, Refusal>
+    ensures found { IfOk result (λ reception. (reception_in slot.now ≡ Some reception.now) × (receiver_in slot.now ≡ Some reception.now.receiver)) }
+    ensures other { IfErr result (λ refusal. (refusal ≡ Refusal.OtherKind) × (reception_in slot.now ≡ None) × (receiver_in slot.now ≡ None)) }
+{
+    match slot {
+        Slot::Receiver(reception) => Ok(reception),
+        _ => Err(Refusal::OtherKind),
+    }
+}
+
+/// The receiver alone.
+fn receiver_of(reception: &Reception) -> &Receiver<'static>
+    ensures { result.now ≡ reception.now.receiver }
+{
+    &reception.receiver
+}
+
+/// The receiver in a slot.
+fn receiver_in(slot: &Slot) -> Result<&Receiver<'static>, Refusal>
+    ensures found { IfOk result (λ receiver. receiver_in slot.now ≡ Some receiver.now) }
+    ensures other { IfErr result (λ refusal. (refusal ≡ Refusal.OtherKind) × (receiver_in slot.now ≡ None)) }
+{
+    let reception = reception_in(slot)?;
+    Ok(receiver_of(reception))
 }
 
 /// The refusal of a link.
@@ -89,23 +117,58 @@ fn receiver_on(
     }
 }
 
+/// A receiver on a link, before its first step.
+fn reception_on(alloc: Global, link: Link<'static>, tuning: Tuning) -> Result<Reception, Refusal>
+    ensures is { IfOk result (λ r. IsNew link.entry tuning r.receiver × (r.link ≡ link.entry) × (r.tuning ≡ tuning) × (r.step ≡ None)) }
+    ensures refused { IsOkUnless result Refusal.NoMemory }
+{
+    let receiver = receiver_on(alloc, &link, tuning)?;
+    Ok(Reception {
+        link,
+        tuning,
+        receiver,
+        step: None,
+    })
+}
+
+/// The tuning of a receiver on a link.
+fn tuning_on(link: &Link<'static>, options: &Options, flags: Flags) -> Result<Tuning, Refusal>
+    requires flags { flags ≡ flags_of options.now }
+    requires mode { link.now.setup.mode ≡ mode_in options.now }
+    ensures is { IfOk result (λ tuning. (tuning ≡ tuning_in options.now) × IsTuning (tuning_in options.now)) }
+    ensures refused { IfErr result (λ refusal. (refusal ≡ Refusal.BadTuning) × (IsTuning (tuning_in options.now) → ⊥)) }
+{
+    match tuning_by(&link.mode(), wanted_by(flags, options)) {
+        Some(tuning) => Ok(tuning),
+        None => Err(Refusal::BadTuning),
+    }
+}
+
+/// A receiver on a code, by options of whose members those with few values have one of theirs.
+fn reception_by(
+    alloc: Global,
+    code: Code,
+    options: &Options,
+    flags: Flags,
+) -> Result<Reception, Refusal>
+    requires flags { flags ≡ flags_of options.now }
+    requires are { AreOptions options.now }
+    ensures is { IfOk result (λ r. NameLink options.now code.matrix.now × IsTuning (tuning_in options.now) × IsReceptionOf options.now code.matrix.now r) }
+    ensures refused { IfErr result (λ refusal. RefusesSetup options.now code.matrix.now refusal ⊎ (NameLink options.now code.matrix.now × RefusesTuning (tuning_in options.now) refusal)) }
+{
+    let link = link_by(code, options, flags)?;
+    let tuning = tuning_on(&link, options, flags)?;
+    reception_on(alloc, link, tuning)
+}
+
 /// A receiver on a code, by options. The first refusal is returned.
 pub fn new_receiver(alloc: Global, code: &Slot, options: &Options) -> Result<Slot, Refusal>
     ensures { MakesReceiver (code_in_slot code.now) options.now result }
 {
     let code = code_in(code)?;
     let flags = read_flags(options)?;
-    let link = link_by(code, options, flags)?;
-    let Some(tuning) = tuning_by(&link.mode(), wanted_by(flags, options)) else {
-        return Err(Refusal::BadTuning);
-    };
-    let receiver = receiver_on(alloc, &link, tuning)?;
-    Ok(Slot::Receiver(Reception {
-        link,
-        tuning,
-        receiver,
-        step: None,
-    }))
+    let reception = reception_by(alloc, code, options, flags)?;
+    Ok(Slot::Receiver(reception))
 }
 
 /// Begins a new stream. The receiver is unchanged if memory is refused.
@@ -131,10 +194,8 @@ pub fn receiver_reset(alloc: Global, slot: &mut Slot) -> Result<(), Refusal>
 pub fn receiver_room(slot: &Slot, bytes: &mut usize) -> Result<(), Refusal>
     ensures { Gives (room_in (receiver_in slot.now)) bytes.old bytes.new result }
 {
-    let Slot::Receiver(reception) = slot else {
-        return Err(Refusal::OtherKind);
-    };
-    *bytes = reception.receiver.room();
+    let receiver = receiver_in(slot)?;
+    *bytes = receiver.room();
     Ok(())
 }
 
@@ -168,30 +229,25 @@ pub fn receiver_advance(slot: &mut Slot, bytes: &[u8], step: &mut StepFields) ->
 pub fn receiver_packets(slot: &Slot, out: &mut [u8], count: &mut usize) -> Result<(), Refusal>
     ensures { CopiesOf (listed (λ r. r.packets) (receiver_in slot.now)) out.old out.new count.old count.new result }
 {
-    match slot {
-        Slot::Receiver(reception) => copy_items(reception.receiver.packets(), out, count),
-        _ => Err(Refusal::OtherKind),
-    }
+    let receiver = receiver_in(slot)?;
+    copy_items(receiver.packets(), out, count)
 }
 
 /// Copies the soft values of the last frame.
 pub fn receiver_soft(slot: &Slot, out: &mut [i16], count: &mut usize) -> Result<(), Refusal>
     ensures { CopiesOf (listed (λ r. r.last.soft) (receiver_in slot.now)) out.old out.new count.old count.new result }
 {
-    match slot {
-        Slot::Receiver(reception) => copy_items(reception.receiver.soft(), out, count),
-        _ => Err(Refusal::OtherKind),
-    }
+    let receiver = receiver_in(slot)?;
+    copy_items(receiver.soft(), out, count)
 }
 
 /// Copies the decided bits of the last frame.
 pub fn receiver_word(slot: &Slot, out: &mut [u8], count: &mut usize) -> Result<(), Refusal>
     ensures { CopiesOf (listed (λ r. digits_of r.last.bits) (receiver_in slot.now)) out.old out.new count.old count.new result }
 {
-    match slot {
-        Slot::Receiver(reception) => copy_bits(reception.receiver.word().truths(), out, count),
-        _ => Err(Refusal::OtherKind),
-    }
+    let receiver = receiver_in(slot)?;
+    let bits = receiver.word();
+    copy_bits(bits.truths(), out, count)
 }
 
 /// The bytes of a message, descrambled.
@@ -233,13 +289,11 @@ pub fn receiver_bbframe(
 ) -> Result<(), Refusal>
     ensures { CopiesMadeOf (bbframe_in (reception_in slot.now)) out.old out.new count.old count.new result }
 {
-    let Slot::Receiver(reception) = slot else {
-        return Err(Refusal::OtherKind);
-    };
+    let reception = reception_in(slot)?;
     if !is_delivered(reception.step) {
         return Err(Refusal::NoneThere);
     }
-    let bytes = message_bytes(alloc, reception.receiver.message())?;
+    let bytes = message_bytes(alloc, receiver_of(reception).message())?;
     copy_items(&bytes, out, count)
 }
 
@@ -269,10 +323,8 @@ pub fn receiver_certificate(
 ) -> Result<(), Refusal>
     ensures { CopiesMadeOf (received_file (receiver_in slot.now)) out.old out.new count.old count.new result }
 {
-    let Slot::Receiver(reception) = slot else {
-        return Err(Refusal::OtherKind);
-    };
-    match reception.receiver.certificate() {
+    let receiver = receiver_in(slot)?;
+    match receiver.certificate() {
         Some(view) => copy_certificate(alloc, &view, out, count),
         None => Err(Refusal::NoneThere),
     }
@@ -292,9 +344,7 @@ fn figures_in(step: Option<Step>) -> Option<Figures>
 pub fn receiver_figures(slot: &Slot, out: &mut FiguresFields) -> Result<(), Refusal>
     ensures { GivesFieldsIf fields.figures_fields (last_figures (reception_in slot.now)) (nat_eq out.old.size 112) out.old out.new result }
 {
-    let Slot::Receiver(reception) = slot else {
-        return Err(Refusal::OtherKind);
-    };
+    let reception = reception_in(slot)?;
     if out.size != crate::figures::SIZE {
         return Err(Refusal::BadSize);
     }
@@ -311,13 +361,11 @@ pub fn receiver_figures(slot: &Slot, out: &mut FiguresFields) -> Result<(), Refu
 pub fn receiver_sums(slot: &Slot, out: &mut FiguresFields) -> Result<(), Refusal>
     ensures { GivesFieldsIf fields.sums_fields (sums_in (receiver_in slot.now)) (nat_eq out.old.size 112) out.old out.new result }
 {
-    let Slot::Receiver(reception) = slot else {
-        return Err(Refusal::OtherKind);
-    };
+    let receiver = receiver_in(slot)?;
     if out.size != crate::figures::SIZE {
         return Err(Refusal::BadSize);
     }
-    match reception.receiver.totals().sums {
+    match receiver.totals().sums {
         Some(sums) => {
             *out = sums_fields(sums);
             Ok(())
@@ -330,12 +378,10 @@ pub fn receiver_sums(slot: &Slot, out: &mut FiguresFields) -> Result<(), Refusal
 pub fn receiver_totals(slot: &Slot, out: &mut TotalsFields) -> Result<(), Refusal>
     ensures { GivesFields fields.totals_fields (totals_in (receiver_in slot.now)) (nat_eq out.old.size 120) out.old out.new result }
 {
-    let Slot::Receiver(reception) = slot else {
-        return Err(Refusal::OtherKind);
-    };
+    let receiver = receiver_in(slot)?;
     if out.size != crate::totals::SIZE {
         return Err(Refusal::BadSize);
     }
-    *out = totals_fields(reception.receiver.totals());
+    *out = totals_fields(receiver.totals());
     Ok(())
 }
