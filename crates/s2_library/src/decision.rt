@@ -1,5 +1,5 @@
 //! Judges.
-ghost use Rattle.std.specs.Prelude.{◌≡◌, ◌≢◌, ◌↔◌, All, IfErr, IfOk, IsTrue, None, Some};
+ghost use Rattle.std.specs.Prelude.{◌≡◌, ◌≢◌, ◌↔◌, All, IfErr, IfOk, IsTrue};
 ghost use Rattle.s2_tuning.specs.Tuning.{IsTuning};
 ghost use Rattle.s2_library.specs.Asked.{flags_of, judging_in};
 ghost use Rattle.s2_library.specs.Codes.{code_in as code_in_slot};
@@ -110,24 +110,14 @@ pub fn judge_decide(slot: &mut Slot, soft: &[i16], verdict: &mut u32) -> Result<
     }
 }
 
-/// The judge in a slot.
-fn judge_in(slot: &Slot) -> Result<&Judge<'static>, Refusal>
-    ensures found { IfOk result (λ judge. judge_in slot.now ≡ Some judge.now) }
-    ensures other { IfErr result (λ refusal. (refusal ≡ Refusal.OtherKind) × (judge_in slot.now ≡ None)) }
-{
-    match slot {
-        Slot::Judge(judge) => Ok(judge),
-        _ => Err(Refusal::OtherKind),
-    }
-}
-
 /// Copies the bits that were decided last.
 pub fn judge_word(slot: &Slot, out: &mut [u8], count: &mut usize) -> Result<(), Refusal>
     ensures { CopiesOf (listed (λ j. digits_of j.bits) (judge_in slot.now)) out.old out.new count.old count.new result }
 {
-    let judge = judge_in(slot)?;
-    let bits = judge.word();
-    copy_bits(bits.truths(), out, count)
+    match slot {
+        Slot::Judge(judge) => copy_bits(judge.word().truths(), out, count),
+        _ => Err(Refusal::OtherKind),
+    }
 }
 
 /// Copies the certificate of the last decision.
@@ -139,7 +129,9 @@ pub fn judge_certificate(
 ) -> Result<(), Refusal>
     ensures { CopiesMadeOf (decided_file (judge_in slot.now)) out.old out.new count.old count.new result }
 {
-    let judge = judge_in(slot)?;
+    let Slot::Judge(judge) = slot else {
+        return Err(Refusal::OtherKind);
+    };
     match judge.certificate() {
         Some(view) => copy_certificate(alloc, &view, out, count),
         None => Err(Refusal::NoneThere),

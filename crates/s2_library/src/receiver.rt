@@ -25,7 +25,7 @@ use s2_check::CertView;
 use s2_link::{Link, SetupFault};
 use s2_mode::Counting;
 use s2_modem::Receiver;
-use s2_report::{Figures, Outcome, Step};
+use s2_report::{Figures, Outcome, Step, Totals};
 use s2_scramble::bb_xor_in_place;
 use s2_tuning::{Tuning, tuning_by};
 use std::alloc::Global;
@@ -60,20 +60,35 @@ fn reception_in(slot: &Slot) -> Result<&Reception, Refusal>
     }
 }
 
-/// The receiver alone.
-fn receiver_of(reception: &Reception) -> &Receiver<'static>
-    ensures { result.now ≡ reception.now.receiver }
-{
-    &reception.receiver
+/// What a receiver shows: the number of bytes that it takes next, what it has of its last frame, and its totals.
+#[derive(Clone, Copy)]
+struct Shown<'a> {
+    room: usize,
+    packets: &'a [u8],
+    soft: &'a [i16],
+    word: &'a [bool],
+    message: &'a [bool],
+    totals: Totals,
 }
 
-/// The receiver in a slot.
-fn receiver_in(slot: &Slot) -> Result<&Receiver<'static>, Refusal>
-    ensures found { IfOk result (λ receiver. receiver_in slot.now ≡ Some receiver.now) }
-    ensures other { IfErr result (λ refusal. (refusal ≡ Refusal.OtherKind) × (receiver_in slot.now ≡ None)) }
+/// What the receiver shows. All is read in one place, since the proof of each function that reads a receiver is long.
+fn shown(reception: &Reception) -> Shown<'_>
+    ensures room { room_in (Some reception.now.receiver) ≡ Some result.room }
+    ensures packets { result.packets.now ≡ reception.now.receiver.packets }
+    ensures soft { result.soft.now ≡ reception.now.receiver.last.soft }
+    ensures word { result.word.now ≡ reception.now.receiver.last.bits }
+    ensures message { result.message.now ≡ reception.now.receiver.last.message }
+    ensures totals { result.totals ≡ reception.now.receiver.state.standing.totals }
 {
-    let reception = reception_in(slot)?;
-    Ok(receiver_of(reception))
+    let receiver = &reception.receiver;
+    Shown {
+        room: receiver.room(),
+        packets: receiver.packets(),
+        soft: receiver.soft(),
+        word: receiver.word().truths(),
+        message: receiver.message(),
+        totals: receiver.totals(),
+    }
 }
 
 /// The refusal of a link.
@@ -194,8 +209,8 @@ pub fn receiver_reset(alloc: Global, slot: &mut Slot) -> Result<(), Refusal>
 pub fn receiver_room(slot: &Slot, bytes: &mut usize) -> Result<(), Refusal>
     ensures { Gives (room_in (receiver_in slot.now)) bytes.old bytes.new result }
 {
-    let receiver = receiver_in(slot)?;
-    *bytes = receiver.room();
+    let reception = reception_in(slot)?;
+    *bytes = shown(reception).room;
     Ok(())
 }
 
@@ -229,25 +244,24 @@ pub fn receiver_advance(slot: &mut Slot, bytes: &[u8], step: &mut StepFields) ->
 pub fn receiver_packets(slot: &Slot, out: &mut [u8], count: &mut usize) -> Result<(), Refusal>
     ensures { CopiesOf (listed (λ r. r.packets) (receiver_in slot.now)) out.old out.new count.old count.new result }
 {
-    let receiver = receiver_in(slot)?;
-    copy_items(receiver.packets(), out, count)
+    let reception = reception_in(slot)?;
+    copy_items(shown(reception).packets, out, count)
 }
 
 /// Copies the soft values of the last frame.
 pub fn receiver_soft(slot: &Slot, out: &mut [i16], count: &mut usize) -> Result<(), Refusal>
     ensures { CopiesOf (listed (λ r. r.last.soft) (receiver_in slot.now)) out.old out.new count.old count.new result }
 {
-    let receiver = receiver_in(slot)?;
-    copy_items(receiver.soft(), out, count)
+    let reception = reception_in(slot)?;
+    copy_items(shown(reception).soft, out, count)
 }
 
 /// Copies the decided bits of the last frame.
 pub fn receiver_word(slot: &Slot, out: &mut [u8], count: &mut usize) -> Result<(), Refusal>
     ensures { CopiesOf (listed (λ r. digits_of r.last.bits) (receiver_in slot.now)) out.old out.new count.old count.new result }
 {
-    let receiver = receiver_in(slot)?;
-    let bits = receiver.word();
-    copy_bits(bits.truths(), out, count)
+    let reception = reception_in(slot)?;
+    copy_bits(shown(reception).word, out, count)
 }
 
 /// The bytes of a message, descrambled.
@@ -293,7 +307,7 @@ pub fn receiver_bbframe(
     if !is_delivered(reception.step) {
         return Err(Refusal::NoneThere);
     }
-    let bytes = message_bytes(alloc, receiver_of(reception).message())?;
+    let bytes = message_bytes(alloc, shown(reception).message)?;
     copy_items(&bytes, out, count)
 }
 
@@ -323,8 +337,8 @@ pub fn receiver_certificate(
 ) -> Result<(), Refusal>
     ensures { CopiesMadeOf (received_file (receiver_in slot.now)) out.old out.new count.old count.new result }
 {
-    let receiver = receiver_in(slot)?;
-    match receiver.certificate() {
+    let reception = reception_in(slot)?;
+    match reception.receiver.certificate() {
         Some(view) => copy_certificate(alloc, &view, out, count),
         None => Err(Refusal::NoneThere),
     }
@@ -361,11 +375,11 @@ pub fn receiver_figures(slot: &Slot, out: &mut FiguresFields) -> Result<(), Refu
 pub fn receiver_sums(slot: &Slot, out: &mut FiguresFields) -> Result<(), Refusal>
     ensures { GivesFieldsIf fields.sums_fields (sums_in (receiver_in slot.now)) (nat_eq out.old.size 112) out.old out.new result }
 {
-    let receiver = receiver_in(slot)?;
+    let reception = reception_in(slot)?;
     if out.size != crate::figures::SIZE {
         return Err(Refusal::BadSize);
     }
-    match receiver.totals().sums {
+    match shown(reception).totals.sums {
         Some(sums) => {
             *out = sums_fields(sums);
             Ok(())
@@ -378,10 +392,10 @@ pub fn receiver_sums(slot: &Slot, out: &mut FiguresFields) -> Result<(), Refusal
 pub fn receiver_totals(slot: &Slot, out: &mut TotalsFields) -> Result<(), Refusal>
     ensures { GivesFields fields.totals_fields (totals_in (receiver_in slot.now)) (nat_eq out.old.size 120) out.old out.new result }
 {
-    let receiver = receiver_in(slot)?;
+    let reception = reception_in(slot)?;
     if out.size != crate::totals::SIZE {
         return Err(Refusal::BadSize);
     }
-    *out = totals_fields(receiver.totals());
+    *out = totals_fields(shown(reception).totals);
     Ok(())
 }
