@@ -64,9 +64,6 @@ and_unknown : (known : Bool) → false ≡ (known && false)
 and_unknown true = refl
 and_unknown false = refl
 
-goes_nowhere : (f : Follower) (left : Option (List ℕ)) → GoesOn f f left left
-goes_nowhere f left t whole decisions lines packets ran = ran
-
 word_is : (packed : Option (List ℕ)) (word bits : List Bool) → bits ≡ word → IsWordOf packed word → IsWordOf packed bits
 word_is None word bits is h = tt
 word_is (Some bytes) word bits is h = is ∙ h
@@ -410,19 +407,6 @@ compared_turn t old mid new f f' p turn result kept symbols report evidence j h 
 
 -- ---- faults
 
-pub line_fails : (t : Terms) (old new : Ends) (f f' : Follower) (p : Place) (line : List ℕ) (fault : Fault) → ReadsLine p.line old.report new.report line (Err fault) → TurnIs t old new f f' p (Err fault)
-line_fails t old new f f' p line faults.Read h = tt
-line_fails t old new f f' p line faults.NoMemory h = tt
-line_fails t old new f f' p line faults.Write (is, h) = cc
-line_fails t old new f f' p line faults.TooLong h = inl h
-line_fails t old new f f' p line (faults.Open name) h = inl h
-line_fails t old new f f' p line (faults.UsedTwice name) h = inl h
-line_fails t old new f f' p line (faults.Rows text) h = inl h
-line_fails t old new f f' p line (faults.Refused text) h = inl h
-
-pub find_fails : (t : Terms) (old new : Ends) (f f' : Follower) (p : Place) (fault : Fault) → fault ≡ faults.Read → TurnIs t old new f f' p (Err fault)
-find_fails t old new f f' p fault is = subst (λ x. TurnIs t old new f f' p (Err x)) (sym is) tt
-
 -- ---- terms
 
 pub same_terms : (rows rows' : Rows) (old new : Replayer) → rows' ≡ rows → IsSameReplayer old new → terms_of rows' new ≡ terms_of rows old
@@ -452,10 +436,6 @@ module _ (t : Terms) (old mid : Ends) (f : Follower) (am an : FrameAuditor) (lin
   judged_by terms by_found closing soft by kept goes found_is reads h =
       subst (λ x. JudgedIs x old mid f an.replayer.follower p result) terms
       (judged old mid f am an line entry p found result closing soft (subst (λ x. IsBy x an.replayer.follower) (sym terms) by) kept (record { by = subst (λ x. IsBy x am.replayer.follower) (sym terms) by_found; goes = goes; found_is = found_is; gives = reads }) h)
-
--- a fault of the evidence
-pub judge_fails : (t : Terms) (old new : Ends) (f f' : Follower) (p : Place) (fault : Fault) → JudgedIs t old new f f' p (Err fault) → TurnIs t old new f f' p (Err fault)
-judge_fails t old new f f' p fault h = h
 
 -- ---- soft values
 

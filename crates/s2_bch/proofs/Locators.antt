@@ -39,16 +39,3 @@ module _ {F : Type 0} (field : Operations F) (L : FieldLaws field) where
   length-plus [] (d ∷ g) h = absurd (omega arith)
   length-plus (c ∷ f) [] h = refl
   length-plus (c ∷ f) (d ∷ g) h = ap suc (length-plus f g (omega arith))
-
-  pub dot-step : (f : List F) (s : ℕ → F) (j : ℕ) (t v : F) → j < length f
-      → field.sum t (dot field L (drop j f) (λ k. s (j + k))) ≡ v
-      → field.sum (field.sum t (field.product (get_or f j field.zero) (s j))) (dot field L (drop (j + 1) f) (λ k. s (j + 1 + k))) ≡ v
-  dot-step f s j t v h e =
-      add_assoc t (field.product (get_or f j field.zero) (s j)) _
-      ∙ ap (field.sum t)
-      (ap₂ field.sum
-      (let z : j ≡ j + zero = omega arith in ap (λ n. field.product (get_or f j field.zero) (s n)) z)
-      (dot-same field L (drop (j + 1) f) _ _ (λ k _. let q : j + 1 + k ≡ j + suc k = omega arith in ap s q)
-      ∙ ap (λ n. dot field L (drop n f) (λ k. s (j + suc k))) (add-one j))
-      ∙ ap (λ g. dot field L g (λ k. s (j + k))) (sym (drop-cons f j field.zero h)))
-      ∙ e

@@ -90,9 +90,6 @@ lane_is s s' c c' z z' b w x fits word low s_low c_low s_is c_is z_is =
       small = h.small;
     }
 
-min_swap : (a b c d : ℕ) → min (min a b) (min c d) ≡ min (min a c) (min b d)
-min_swap a b c d = omega arith
-
 least_four : (a b c d p q r s : ℕ) → min (min (min (min (min (min a b) (min c d)) p) q) r) s ≡ min (min (min a p) (min b q)) (min (min c r) (min d s))
 least_four a b c d p q r s =
     let first : min (min (min (min a b) (min c d)) p) q ≡ min (min (min a p) (min b q)) (min c d) = omega arith in

@@ -20,22 +20,3 @@ pub counts_push : (all : List Compared) (answer : Compared) → counts_of (all +
 counts_push all answer =
     made_as _ _ _ _ _ _ _ _ _ _ _ _ _ _ (length-append all (answer ∷ [])) (count_push is_same all answer) (count_push is_equal all answer) (count_push is_worse all answer)
     (count_push is_no_codeword all answer) (count_push is_refused all answer) (count_push is_missing all answer)
-
--- no count is greater than the number of frames
-pub counts_below : (all : List Compared) (n : ℕ) → length all < n → AreBelow n (counts_of all)
-counts_below all n few =
-    let a = count_by-le-length is_same all in
-    let b = count_by-le-length is_equal all in
-    let c = count_by-le-length is_worse all in
-    let d = count_by-le-length is_no_codeword all in
-    let e = count_by-le-length is_refused all in
-    let f = count_by-le-length is_missing all in
-    record {
-      frames = few;
-      same = omega (arith, a, few);
-      equal = omega (arith, b, few);
-      worse = omega (arith, c, few);
-      no_codeword = omega (arith, d, few);
-      refused = omega (arith, e, few);
-      missing = omega (arith, f, few);
-    }

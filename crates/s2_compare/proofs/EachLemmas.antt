@@ -113,12 +113,6 @@ module _ (form : Form) (rows : Rows) (before mid after : Feeds) (frames : List F
         part = subst (λ (from : Option (List ℕ)). AppendsPart (counts_line (counts_of (answers_of frames))) from newer) unprinted (subst (λ (c : Counts). AppendsPart (counts_line c) printed newer) are part);
       })))
 
--- there are more frames than can be counted
-pub ends_full : (form : Form) (rows : Rows) (before mid : Feeds) (frames : List Frame) (start here : Option (List ℕ)) → ComparedSoFar form rows before mid frames start here → length frames ≡ max_frames
-    → ComparesUnder form rows before mid (Err faults.TooLong) start here
-ends_full form rows before mid frames start here so full =
-    record { frames = frames; read_to = mid; printed_to = here; so_far = so; ends = inr (inr (record { full = full; failed = refl; unread = refl; unprinted = refl })) }
-
 -- ---- the rows
 
 no_memory : (known : Option (List ℕ)) (shape : Shape) → IfSome known (λ xs. Follows {V = Rows} (λ rows. rows) (Err faults.NoMemory) (rows_in shape xs))

@@ -104,12 +104,6 @@ pub reciprocal_within : (b : ℕ) (a : Complex) → IsWithin (2 ^ 14) (reciproca
 unfolding reciprocal
 reciprocal_within b a = over_within (divisor b a) (2 ^ 14) (scaled (2 ^ (b + 12)) (conjugate a)) (divisor_some b a) (conjugate_small b a)
 
-pub divisor_most : (b : ℕ) (a : Complex) → b ≤ 23 → energy a ≤ 2 ^ 46 → divisor b a ≤ 2 ^ 46
-unfolding divisor
-divisor_most b a few small =
-    let power : 2 ^ (2 * b) ≤ 2 ^ 46 = pow-le-pow_right {n = 2} (omega arith) {i = 2 * b} {j = 46} (omega (arith, few)) in
-    omega (arith, power, small)
-
 -- shifts that the code makes in 64 bits
 pub shifted_is : (k : ℕ) → k < 64 → 1 * 2 ^ k % 18446744073709551616 ≡ 2 ^ k
 shifted_is k few = one_shl k 64 few

@@ -27,11 +27,6 @@ scaled_within n m a p =
     let size : unsigned_abs (pos n) ≤ n = omega (arith, ints) in
     record { re = product_within (pos n) a.re n m size p.re; im = product_within (pos n) a.im n m size p.im }
 
-pub conjugate_within : (m : ℕ) (a : Complex) → IsWithin m a → IsWithin m (conjugate a)
-conjugate_within m a p =
-    let pi = p.im in
-    record { re = p.re; im = omega (arith, ints, pi) }
-
 difference_within : (x y : ℤ) (k : ℕ) → unsigned_abs x ≤ k → unsigned_abs y ≤ k → unsigned_abs (x -ℤ y) ≤ 2 * k
 difference_within x y k p q = omega (arith, ints, p, q)
 

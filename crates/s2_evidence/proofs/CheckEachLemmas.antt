@@ -54,10 +54,6 @@ one_more before mid after rows files exit old new newer file next line so (piece
       printed = Appends-trans old new newer so.text line so.printed wrote;
     }
 
--- the rows are those for the first certificate, whatever follows
-pub rows_still : (known : Option (List ℕ)) (file : File) (others : List File) (rows : Rows) → AreRowsFor known (file ∷ []) rows → AreRowsFor known (file ∷ others) rows
-rows_still known file others rows h = h
-
 -- ---- the end
 
 module _ (known before mid after : Option (List ℕ)) (rows : Rows) (files : List File) (exit : Exit) (old new : Option (List ℕ)) where
@@ -162,29 +158,6 @@ print_stops known before mid after rows files exit old new newer file next line 
 print_stops known before mid after rows files exit old new newer file next line faults.TooLong so are more took said no_way = absurd no_way
 print_stops known before mid after rows files exit old new newer file next line (faults.Rows words) so are more took said no_way = absurd no_way
 print_stops known before mid after rows files exit old new newer file next line (faults.Refused words) so are more took said no_way = absurd no_way
-
--- the same as a step
-pub next_print_stops : (mid after : Option (List ℕ)) (rows : Rows) (new newer : Option (List ℕ)) (file : File) (next : Exit) (line : List ℕ) (fault : Fault)
-    → TakesPiece mid after (Ok (Some file)) → IsAnswered (rows, file) next line → Prints next line (Err fault) new newer → ChecksNext mid after rows new newer (Err fault)
-next_print_stops mid after rows new newer file next line faults.Write took said part = record { file = file; exit = next; line = line; read = took; said = said; wrote = part }
-next_print_stops mid after rows new newer file next line faults.Read took said no_way = absurd no_way
-next_print_stops mid after rows new newer file next line faults.NoMemory took said no_way = absurd no_way
-next_print_stops mid after rows new newer file next line (faults.Open name) took said no_way = absurd no_way
-next_print_stops mid after rows new newer file next line (faults.UsedTwice name) took said no_way = absurd no_way
-next_print_stops mid after rows new newer file next line faults.TooLong took said no_way = absurd no_way
-next_print_stops mid after rows new newer file next line (faults.Rows words) took said no_way = absurd no_way
-next_print_stops mid after rows new newer file next line (faults.Refused words) took said no_way = absurd no_way
-
--- a fault before the line
-pub next_takes : (mid after : Option (List ℕ)) (rows : Rows) (new newer : Option (List ℕ)) (fault : Fault) → TakesPiece mid after (Err fault) → newer ≡ new → ChecksNext mid after rows new newer (Err fault)
-next_takes mid after rows new newer faults.Write took same = absurd took
-next_takes mid after rows new newer faults.Read took same = (took, same)
-next_takes mid after rows new newer faults.NoMemory took same = (took, same)
-next_takes mid after rows new newer (faults.Open name) took same = (took, same)
-next_takes mid after rows new newer (faults.UsedTwice name) took same = (took, same)
-next_takes mid after rows new newer faults.TooLong took same = (took, same)
-next_takes mid after rows new newer (faults.Rows words) took same = (took, same)
-next_takes mid after rows new newer (faults.Refused words) took same = (took, same)
 
 -- the line of one more certificate is printed
 pub grows : (before mid after : Option (List ℕ)) (rows : Rows) (file : File) (others : List File) (exit : Exit) (old new newer : Option (List ℕ)) (next all : Exit) (count : ℕ)

@@ -19,19 +19,6 @@ module _ {I : Type 0} (Says : I → Exit → List ℕ → Type 0) where
   unfolding SaysEach
   says_none = (refl, refl)
 
-  pub says_one : (input : I) (exit : Exit) (line : List ℕ) → Says input exit line → SaysEach Says (input ∷ []) exit line
-  unfolding SaysEach
-  says_one input exit line said = record {
-    first = exit;
-    line = line;
-    others = exits.Fine;
-    lines = [];
-    said = said;
-    more = (refl, refl);
-    exit_is = sym (worse_fine exit);
-    text_is = sym (append-nil line);
-  }
-
   pub says_more : (inputs : List I) (input : I) (exit next : Exit) (text line : List ℕ) → SaysEach Says inputs exit text → Says input next line
       → SaysEach Says (inputs ++ input ∷ []) (worse exit next) (text ++ line)
   unfolding SaysEach

@@ -80,10 +80,3 @@ refuses Says IsInput view (faults.UsedTwice name) planned g h = g h
 refuses Says IsInput view faults.TooLong planned g h = g h
 refuses Says IsInput view (faults.Rows text) planned g h = g h
 refuses Says IsInput view (faults.Refused text) planned g h = g h
-
--- the counts of failed calls by other names
-pub counts_moved : (ended : Result Exit Fault) (a b a' b' w v : ℕ) → a ≡ a' → b ≡ b' → CommandCounts ended a b w v → CommandCounts ended a' b' w v
-counts_moved ended a b a' b' w v p q h =
-    let P : ℕ → Type 0 = λ x. CommandCounts ended x b w v in
-    let Q : ℕ → Type 0 = λ y. CommandCounts ended a' y w v in
-    subst Q q (subst P p h)

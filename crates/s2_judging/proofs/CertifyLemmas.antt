@@ -39,27 +39,3 @@ leaves_moved tuning IsInput input ended old new is h = record {
   failed = λ e. (let (it, same, done) = h.failed e in (it, subst IsInput (sym same) is, done));
   other = h.other;
 }
-
--- what fails where a text is printed is the writer
-only_write : (exit : Exit) (text : List ℕ) (ended : Result Exit Fault) (old new : Option (List ℕ)) → Prints exit text ended old new → OnErr ended (ended ≡ Err faults.Write)
-only_write exit text (Ok e) old new h = tt
-only_write exit text (Err faults.Write) old new h = refl
-only_write exit text (Err faults.Read) old new h = absurd h
-only_write exit text (Err faults.NoMemory) old new h = absurd h
-only_write exit text (Err (faults.Open name)) old new h = absurd h
-only_write exit text (Err (faults.UsedTwice name)) old new h = absurd h
-only_write exit text (Err faults.TooLong) old new h = absurd h
-only_write exit text (Err (faults.Rows words)) old new h = absurd h
-only_write exit text (Err (faults.Refused words)) old new h = absurd h
-
-writes_only : {T : Type 0} (ended : Result T Fault) (P : Type 0) → OnErr ended (ended ≡ Err faults.Write) → OnErr ended (ended ≢ Err faults.Write → P)
-writes_only (Ok x) P h = tt
-writes_only (Err f) P h = λ other. absurd (other h)
-
--- the verdict was printed behind the certificate, or could not be
-pub printed_behind : (hard : Bool) (tuning : Tuning) (IsInput : Result (Rows × List ℤ) Fault → Type 0) (p : Printed) (ended : Result Exit Fault) (out out' : Option (List ℕ)) (old new : Written)
-    → CommandAnswers (IsJudgedAndCertified hard tuning old new) IsInput (Ok p) → Prints p.exit p.text ended out out' → LeavesCertificate tuning IsInput ended old new
-printed_behind hard tuning IsInput p ended out out' old new (input, is, (said, certified)) prints = record {
-  failed = λ e. (input, is, record { shown = certified.shown; done = inl certified.done });
-  other = writes_only ended (new ≡ old) (only_write p.exit p.text ended out out' prints);
-}

@@ -174,17 +174,6 @@ too_long None after buffer n left within more h = tt
 too_long (Some bytes) None buffer n left within more h = absurd h
 too_long (Some bytes) (Some rest) buffer n left within more h = omega (arith, more, longer bytes rest buffer n within h)
 
-pub nothing_read : (remaining after : Option (List ℕ)) (buffer : List ℕ) (n : ℕ) → n ≡ 0 → Consumes remaining after (take n buffer) → Consumes remaining after []
-nothing_read remaining after buffer n none h = subst (Consumes remaining after) (taken_none n none) h
-  where
-    taken_none : (k : ℕ) → k ≡ 0 → take k buffer ≡ []
-    taken_none zero e = none_of buffer
-      where
-        none_of : (xs : List ℕ) → take 0 xs ≡ []
-        none_of [] = refl
-        none_of (x ∷ xs) = refl
-    taken_none (suc k) e = absurd (omega (arith, e))
-
 pub Spends-refl : (remaining : Option (List ℕ)) (left : ℕ) → Spends remaining left remaining left
 Spends-refl None left = tt
 Spends-refl (Some bytes) left = refl

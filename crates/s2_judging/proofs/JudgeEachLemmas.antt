@@ -96,17 +96,6 @@ module _ (hard : Bool) (rows : Rows) (tuning : Tuning) (before after : Words) (r
   next_cut frame (faults.Rows words) long read no_way = absurd no_way
   next_cut frame (faults.Refused words) long read no_way = absurd no_way
 
--- what fails where a frame is judged is a writer
-pub only_writers : (hard : Bool) (rows : Rows) (tuning : Tuning) (frame : List ℤ) (file file_after : Written) (old new : Option (List ℕ)) (fault : Fault) → JudgesOne hard rows tuning frame file file_after old new (Err fault) → fault ≡ faults.Write
-only_writers hard rows tuning frame file file_after old new faults.Write h = refl
-only_writers hard rows tuning frame file file_after old new faults.Read h = absurd h
-only_writers hard rows tuning frame file file_after old new faults.NoMemory h = absurd h
-only_writers hard rows tuning frame file file_after old new faults.TooLong h = absurd h
-only_writers hard rows tuning frame file file_after old new (faults.Open name) h = absurd h
-only_writers hard rows tuning frame file file_after old new (faults.UsedTwice name) h = absurd h
-only_writers hard rows tuning frame file file_after old new (faults.Rows words) h = absurd h
-only_writers hard rows tuning frame file file_after old new (faults.Refused words) h = absurd h
-
 -- ---- certificates
 
 wrote_bytes : (view : Option View) (old new : Option (List ℕ)) → Writes view old new → Appends old new (certificate_bytes view)

@@ -93,11 +93,6 @@ edges_below code i low k d h =
     let passes : code.has (get_or js k 0) i ≡ true = filter_passes test (upto code.checks) k 0 short in
     omega (arith, get_or-map (λ j. edge_of code j i) js k 0 d short, edge_below code i (get_or js k 0) low below passes)
 
-pub length-edges_at : (code : Code) (i : ℕ) → length (edges_at code i) ≤ code.checks
-length-edges_at code i =
-    let js = checks_of code i in
-    omega (arith, length-map js (λ j. edge_of code j i), length-filter (λ j. code.has j i) (upto code.checks), count_by-le-length (λ j. code.has j i) (upto code.checks), length-range_with_len 0 code.checks)
-
 pub length-members : (code : Code) (j : ℕ) → length (members code j) ≤ code.bits
 length-members code j =
     omega (arith, length-filter (code.has j) (upto code.bits), count_by-le-length (code.has j) (upto code.bits), length-range_with_len 0 code.bits)

@@ -51,9 +51,6 @@ negative_is v low = elim (cases_lt v 32768) [
       )
 ]
 
-pub size_small : (v : ℕ) → v < 65536 → magnitude16 v ≤ 32768
-size_small v low = omega arith
-
 -- the sign of words that are joined bit by bit
 sign_xor : (a b : ℕ) → a < 65536 → b < 65536 → sign16 (bit_xor a b) ≡ (sign16 a + sign16 b) % 2
 sign_xor a b low low' =

@@ -41,9 +41,6 @@ pub number_grows : (n : ℕ) (digits : List ℕ) → n ≤ number_after n digits
 number_grows n [] = omega arith
 number_grows n (d ∷ digits) = omega (arith, number_grows (n * 10 + (d - 48)) digits)
 
-pub number_ends : (xs : List ℕ) (i n : ℕ) → length xs ≤ i → number_after n (drop i xs) ≡ n
-number_ends xs i n h = ap (number_after n) (drop_of_length-le xs h)
-
 pub number_append : (n : ℕ) (xs ys : List ℕ) → number_after n (xs ++ ys) ≡ number_after (number_after n xs) ys
 number_append n [] ys = refl
 number_append n (x ∷ xs) ys = number_append (n * 10 + (x - 48)) xs ys

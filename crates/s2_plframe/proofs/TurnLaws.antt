@@ -43,14 +43,6 @@ one_differs a b (suc n) k lt one = elim (cases_lt k n) [
   | inr above ↦ let here : n ≡ k = omega arith in let is : number (xor (a n) (b n)) ≡ 1 = ap (λ j. number (xor (a j) (b j))) here ∙ ap number one in omega arith
 ]
 
-same_differ : (a c b : ℕ → Bool) (n : ℕ) → ((k : ℕ) → a k ≡ c k) → differences a b n ≡ differences c b n
-unfolding differences
-same_differ a c b zero same = refl
-same_differ a c b (suc n) same =
-    let here = same n in
-    let before = same_differ a c b n same in
-    λ i. before i + number (xor (here i) (b n))
-
 other_way : (a b : ℕ → Bool) (n : ℕ) → differences a b n ≡ differences b a n
 unfolding differences
 other_way a b zero = refl

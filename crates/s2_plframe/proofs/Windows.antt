@@ -90,9 +90,6 @@ window_is odd even value count all small bits =
           ]);
     }
 
-pub held_none : (odd even : ℕ) → held_list odd even 0 ≡ []
-held_none odd even = refl
-
 -- ---- what they are
 
 pub found_is : (m : Mode) (coded d0 d1 d2 d3 : ℕ) (seen : List Decision) (w : ℕ) → AreHeaders m coded d0 d1 d2 d3 → length seen ≡ 90 → IsWindow seen w
@@ -159,18 +156,6 @@ length-sides odd even odd' even' count = length-map-range_with_len (λ k. held_s
 -- the decisions of each rotation are those of two of the four registers
 pub straight_held : (odd even odd' even' count : ℕ) → map (λ (x : Sides). x.straight) (sides_list odd even odd' even' count) ≡ held_list odd even count
 straight_held odd even odd' even' count = map-map _ _ (range_with_len 0 count)
-
-pub turned_0 : (odd even odd' even' count : ℕ) → turned_window 0 (sides_list odd even odd' even' count) ≡ held_list odd even count
-turned_0 odd even odd' even' count = map-map _ _ (range_with_len 0 count)
-
-pub turned_1 : (odd even odd' even' count : ℕ) → turned_window 1 (sides_list odd even odd' even' count) ≡ held_list even odd' count
-turned_1 odd even odd' even' count = map-map _ _ (range_with_len 0 count)
-
-pub turned_2 : (odd even odd' even' count : ℕ) → turned_window 2 (sides_list odd even odd' even' count) ≡ held_list odd' even' count
-turned_2 odd even odd' even' count = map-map _ _ (range_with_len 0 count)
-
-pub turned_3 : (odd even odd' even' count : ℕ) → turned_window 3 (sides_list odd even odd' even' count) ≡ held_list even' odd count
-turned_3 odd even odd' even' count = map-map _ _ (range_with_len 0 count)
 
 module _ (m : Mode) (coded d0 d1 d2 d3 : ℕ) (are : AreHeaders m coded d0 d1 d2 d3) (seen : List Sides) (w_0 w_1 w_2 w_3 : ℕ) (is : AreWindows seen w_0 w_1 w_2 w_3) where
   pub wrong_each : (t : ℕ) → t < 4 → wrong_in coded (in_turn w_0 w_1 w_2 w_3 t) ≡ wrong_at m seen t

@@ -13,19 +13,6 @@ use Rattle.s2_resync.proofs.ResyncLemmas.{Barren, barren_few, barren_without, be
 
 -- ---- bytes that are read
 
-pub held_more : (a r r' : Option (List ℕ)) (old bs : List ℕ) → Keeps a (prepend_known old r) → Consumes r r' bs → Keeps a (prepend_known (old ++ bs) r')
-held_more None r r' old bs kept read = tt
-held_more (Some x) None r' old bs kept read = absurd kept
-held_more (Some x) (Some y) None old bs kept read = absurd read
-held_more (Some x) (Some y) (Some z) old bs kept read = append_assoc old bs z ∙ ap (λ l. old ++ l) (sym read) ∙ kept
-
--- a failed read
-pub held_still : (a r r' : Option (List ℕ)) (old : List ℕ) → Keeps a (prepend_known old r) → Keeps r r' → Keeps a (prepend_known old r')
-held_still None r r' old kept same = tt
-held_still (Some x) None r' old kept same = absurd kept
-held_still (Some x) (Some y) None old kept same = absurd same
-held_still (Some x) (Some y) (Some z) old kept same = ap (λ l. old ++ l) same ∙ kept
-
 -- ---- the same outcome
 
 pub leads_kept : (s : Step) (a b : Option (List ℕ)) → Keeps a b → Leads (step_outcome s a) (step_outcome s b)
@@ -191,12 +178,6 @@ pub reads : (p : Packets) (s0 s : Step) (c0 c : Option (List ℕ)) (packet0 pack
 reads p s0 s c0 c packet0 packet bs rest is led parts =
     subst (λ (o : Option Resynced). Consumes (option_map (λ r. r.given) o) (option_map (λ r. r.given) (packet_outcome rest s c)) bs) (sym is)
     (given_on (packet_outcome packet0 s0 c0) s c packet bs rest led parts).0
-
--- nothing is given
-pub given_still : (o o' : Option Resynced) → Leads o o' → Keeps (option_map (λ r. r.given) o) (option_map (λ r. r.given) o') × KeepsLosses o o'
-given_still None o' led = (tt, tt)
-given_still (Some x) None led = absurd led
-given_still (Some x) (Some y) led = (ap (λ (r : Resynced). r.given) led, (ap (λ (r : Resynced). r.left_out) led, ap (λ (r : Resynced). r.places) led))
 
 no_bytes : (in_step : Bool) → (resync in_step 0 []).given ≡ []
 unfolding resync

@@ -13,11 +13,6 @@ in_from_test : (x : ℕ) (zs : List ℕ) → list_any (λ y. y == x) zs ≡ true
 in_from_test x [] h = absurd (cc)
 in_from_test x (z ∷ zs) h = elim (or_cases (z == x) (list_any (λ y. y == x) zs) h) [ inl e ↦ inl (eqb-true z x e) | inr e ↦ inr (in_from_test x zs e) ]
 
-test_from_in : (x : ℕ) (zs : List ℕ) → In x zs → list_any (λ y. y == x) zs ≡ true
-test_from_in x [] h = absurd h
-test_from_in x (z ∷ zs) (inl e) = or_left (z == x) (list_any (λ y. y == x) zs) (eq-eqb z x e)
-test_from_in x (z ∷ zs) (inr i) = or_right (z == x) (list_any (λ y. y == x) zs) (test_from_in x zs i)
-
 -- a list without one of its elements
 pub record Without (y : ℕ) (zs : List ℕ) : Type 0 where
   pub others : List ℕ

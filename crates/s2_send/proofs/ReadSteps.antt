@@ -58,34 +58,6 @@ module _ (s t : Stream) (bytes : List ℕ) (empty : s.held ≡ []) (not_ready : 
       absurd (omega (arith, refused.grows.bytes, refused.grows.packets, none, beyond, few, full, same.limit, less))
   refused_all Write less refused = absurd refused.refuses
 
--- a stream that has ended
-ended_cut : (packets fields : List (List ℕ)) (S : Slicing) → AreCut packets fields S → AreCut packets fields (record S { closed = true })
-ended_cut packets fields S (inl full) = inl full
-ended_cut packets fields S (inr over) = inr (refl, over.1, over.2)
-
-ended_came : (bytes : List ℕ) (fields : List (List ℕ)) (s : Stream) → Came bytes fields s → Came bytes fields (ended s)
-ended_came bytes fields s h = record {
-  packets = h.packets;
-  each_is_packet = h.each_is_packet;
-  bytes_are = h.bytes_are;
-  packet_count = h.packet_count;
-  field_count = h.field_count;
-  sliced = record { begun = h.sliced.begun; phase = h.sliced.phase; whole = h.sliced.whole };
-  are_cut = ended_cut h.packets fields s.slicing h.are_cut;
-}
-
-ended_stops : (s : Stream) → StopsThere s → s.held ≡ [] → StopsThere (ended s)
-ended_stops s h empty = record {
-  large = h.large;
-  within = h.within;
-  at_limit = λ e. empty;
-  at_end = λ e. empty;
-  at_field = λ e. empty;
-  needed = h.needed;
-  at_refusal = h.at_refusal;
-  part = h.part;
-}
-
 -- ---- from a reader
 
 same_sender : (old new : Sender) → new ≡ record old { stream = new.stream } → SameStream old.stream new.stream → SameSender old new
@@ -147,25 +119,6 @@ module _ (old mid : Sender) (r r' : Option (List ℕ)) (bytes : List ℕ) (consu
 
     same_all : new ≡ record old { stream = new.stream }
     same_all = same ∙ ap (λ (x : Sender). record x { stream = new.stream }) put.same
-
-    pub reads_end : (new.stream ≡ ended mid.stream) × (new.stream.held ≡ []) → ReadsNext old new r r' (Ok false)
-    reads_end closes =
-        let held : mid.stream.held ≡ [] = sym (ap (λ x. x.held) closes.0) ∙ closes.1 in (
-          record {
-            bytes = bytes;
-            consumes = consumes;
-            comes = λ b f came. subst (Came (b ++ bytes) f) (sym closes.0) (ended_came (b ++ bytes) f mid.stream (came_all b f came));
-            stops = subst StopsThere (sym closes.0) (ended_stops mid.stream stops held);
-            same = same_all;
-            limit = record { link = ap (λ x. x.link) same_all; dummy_every = ap (λ x. x.dummy_every) same_all; limit = ap (λ x. x.limit) closes.0 ∙ put.stream.limit };
-            size = ap (λ x. x.slicing.size) closes.0 ∙ put.stream.size;
-          },
-          closes.1,
-          ap (λ x. x.slicing.closed) closes.0,
-          end,
-          ap (λ x. x.packets) closes.0 ∙ packets_are,
-          ap (λ x. x.slicing.waiting) closes.0 ∙ ap (λ x. x.waiting) (put.puts.grows.slicing packets_are),
-        )
 
     -- or cannot end
     cut : (fault : SendFault) → new.stream ≡ mid.stream → Refuses mid.stream fault → ReadsRefused old new r r' fault

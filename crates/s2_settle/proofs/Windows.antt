@@ -58,7 +58,3 @@ module _ (n oldest count : ℕ) (xs : List ℕ) (in_range : oldest < n) (fits : 
         old_item (1 + i) d,
         get_or-window n _ (count - 1) xs next_in_range (omega arith) long i d,
       )))
-
--- a list of length 0
-pub window_none : (oldest : ℕ) (xs : List ℕ) → window oldest 0 xs ≡ []
-window_none oldest xs = refl

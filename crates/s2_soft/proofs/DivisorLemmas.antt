@@ -8,6 +8,3 @@ by_divisors P a b c e f d known = All-contains P divisors d (All-from_recursion 
 
 pub is_some : (d : ℕ) → IsDivisor d → d ≢ 0
 is_some d known = by_divisors (λ d. d ≢ 0) (λ e. omega (arith, e)) (λ e. omega (arith, e)) (λ e. omega (arith, e)) (λ e. omega (arith, e)) (λ e. omega (arith, e)) d known
-
-pub factor_small : (d : ℕ) → IsDivisor d → factor_of d < 65536
-factor_small d known = by_divisors (λ d. factor_of d < 65536) (omega arith) (omega arith) (omega arith) (omega arith) (omega arith) d known

@@ -17,8 +17,5 @@ by_four P a b c d (suc (suc zero)) lt = c
 by_four P a b c d (suc (suc (suc zero))) lt = d
 by_four P a b c d (suc (suc (suc (suc k)))) lt = absurd (omega (arith, lt))
 
-pub four_words : (f : ℕ → ℕ) (a b c d : ℕ) → a ≡ f 0 → b ≡ f 1 → c ≡ f 2 → d ≡ f 3 → (k : ℕ) → k < 4 → lane (a ∷ b ∷ c ∷ d ∷ []) k ≡ f k
-four_words f a b c d = by_four (λ k. lane (a ∷ b ∷ c ∷ d ∷ []) k ≡ f k)
-
 pub four_values : (f : ℕ → ℤ) (a b c d : ℤ) → a ≡ f 0 → b ≡ f 1 → c ≡ f 2 → d ≡ f 3 → (k : ℕ) → k < 4 → get_or (a ∷ b ∷ c ∷ d ∷ []) k (pos 0) ≡ f k
 four_values f a b c d = by_four (λ k. get_or (a ∷ b ∷ c ∷ d ∷ []) k (pos 0) ≡ f k)

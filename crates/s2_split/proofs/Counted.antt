@@ -47,13 +47,6 @@ count_turned p q e (x ∷ xs) rising among fails passes same =
           )
     ]
 
-none_counted : (p : ℕ → Bool) (xs : List ℕ) → count_by p xs ≡ 0 → All (λ x. p x ≡ false) xs
-none_counted p [] none k d within = absurd (omega arith)
-none_counted p (x ∷ xs) none zero d within =
-    elim (counts p x xs) [ inl passes ↦ absurd (omega (arith, passes.1, none)) | inr fails ↦ fails.0 ]
-none_counted p (x ∷ xs) none (suc k) d within =
-    none_counted p xs (omega (arith, count_cons p x xs, none)) k d (omega arith)
-
 -- ---- negative rests
 
 abbrev is_negative_at : List ℤ → ℕ → Bool
@@ -61,11 +54,6 @@ is_negative_at rests i = int_lt (get_or rests i (pos 0)) (pos 0)
 
 at_least : (v : ℤ) → int_lt v (pos 0) ≡ false → pos 0 ≤ℤ v
 at_least v h = grind (arith, ints)
-
--- a check with a count of 0 has no member with a negative rest
-pub none_negative_in : (code : Code) (rests : List ℤ) (counts : List ℕ) (j : ℕ) → AreCounted code rests counts → j < code.checks → get_or counts j 0 ≡ 0 → All (λ i. pos 0 ≤ℤ get_or rests i (pos 0)) (members code j)
-none_negative_in code rests counts j counted low none k d within =
-    at_least (get_or rests (get_or (members code j) k d) (pos 0)) (none_counted (is_negative_at rests) (members code j) (sym (counted.each j low) ∙ none) k d within)
 
 pub few_negative : (code : Code) (rests : List ℤ) (j : ℕ) → negatives_in code rests j ≤ code.bits
 few_negative code rests j =
