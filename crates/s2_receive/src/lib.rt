@@ -64,5 +64,5 @@ pub use limits::MAX_SYMBOLS;
 pub use receiver::Receiver;
 pub use report::{Fault, Received};
 pub use run::{receive_all, receive_bytes, receive_with};
-pub use sinks::Sink;
+pub use sinks::{FrameStart, Sink};
 pub use window::Next;
