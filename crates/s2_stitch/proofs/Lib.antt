@@ -1,0 +1,5 @@
+pub mod RecordLemmas
+pub mod SourceLemmas
+pub mod RecallLemmas
+pub mod StitchLemmas
+pub mod UncertifiedLemmas

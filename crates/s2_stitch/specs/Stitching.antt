@@ -1,0 +1,66 @@
+-- A receiver's run by the decisions of records (own).
+use Rattle.std.specs.Prelude.{◌≡◌, ℕ, Bool, true, false, List, Option, Some, None, Result, Ok, Err, ⊤}
+use Rattle.s2_mode.specs.Streams.{Streams}
+use Rattle.s2_mode.specs.declared.stream_fault.StreamFault.TheVariants as streams
+use Rattle.s2_mode.specs.declared.symbols.Symbol.{Symbol}
+use Rattle.s2_receive.specs.Meeting.{Met}
+use Rattle.s2_receive.specs.Receiving.{Decision, IsLive, Processed, Receiver, Rules, State, rules_of}
+use Rattle.s2_receive.specs.Sinks.{OnlyFailedWith, RunAnswersWith, TakesFrames, Taking, frames_of}
+use Rattle.s2_receive.specs.declared.report.Phase.{Phase}
+use Rattle.s2_receive.specs.declared.report.Phase.TheVariants as phases
+use Rattle.s2_receive.specs.declared.report.Received.{Received}
+use Rattle.s2_stitch.specs.Recalling.{Recalling, is_ahead, recalls}
+use Rattle.s2_stitch.specs.Sources.{AreTrueLeft, CountsSource, Gives, RecordSource}
+use Rattle.s2_stitch.specs.declared.fault.SourceFault.{SourceFault}
+use Rattle.s2_stitch.specs.declared.fault.StitchFault.{StitchFault}
+use Rattle.s2_stitch.specs.declared.fault.StitchFault.TheVariants as faults
+
+-- ---- a decider and its source
+
+-- a frame that is still to come is kept; else the source gives the next one
+abbrev pub HoldsNext : {D Q C : Type 0} → (Q → Option (List ℕ)) → (Q → ℕ) → (C → Option (List ℕ)) → (C → ℕ) → (is_ahead : Bool) → ℕ → (old new : Recalling D) → (source source_new : RecordSource Q C) → Type 0
+HoldsNext records record_reads copy copy_reads true at old new source source_new = (new ≡ old) × (source_new ≡ source)
+HoldsNext records record_reads copy copy_reads false at old new source source_new = (new.is_recalled ≡ false) × Gives records record_reads copy copy_reads at source source_new new.held
+
+-- a decider took from a source what it has for the next frame, at this position or after it
+pub record Supplies {D Q C : Type 0} (records : Q → Option (List ℕ)) (record_reads : Q → ℕ) (copy : C → Option (List ℕ)) (copy_reads : C → ℕ) (at : ℕ) (old new : Recalling D) (source source_new : RecordSource Q C) : Type 0 where
+  pub decider : new.decider ≡ old.decider
+  pub held : HoldsNext records record_reads copy copy_reads (is_ahead at old.held) at old new source source_new
+
+-- The frame that is held and the records that are left are true: they have the decisions that the decider makes by itself
+pub record AreTrue {D Q C : Type 0} (decide : D → List Symbol → Decision) (records : Q → Option (List ℕ)) (copy : C → Option (List ℕ)) (r : Recalling D) (source : RecordSource Q C) : Type 0 where
+  pub held : recalls (decide r.decider) r.held ≡ decide r.decider
+  pub left : AreTrueLeft source.terms (decide r.decider) source.place (records source.records) (copy source.copy)
+
+-- ---- a run
+
+-- the rules of the receiver that decides all frames by itself
+abbrev pub own_rules : {D : Type 0} → (D → List Symbol → Decision) → Receiver (Recalling D) → Rules
+own_rules decide r = rules_of (λ d. decide d.decider) r
+
+-- this was met and processed, and a sink took its frames
+abbrev pub HasMet : {S : Type 0} → Taking S → Rules → (old new : State) → (sink_old sink_new : S) → (before behind : Streams) → Type 0
+HasMet takes rules old new sink_old sink_new before behind = (met : List Met) × Processed rules old new before behind met × TakesFrames takes sink_old sink_new (frames_of rules met)
+
+-- The result of a run is that of the receiver with these rules. Or the source had a fault: everything met before is written
+abbrev pub StitchesAs : {S : Type 0} → (takes fails : Taking S) → Rules → (old new : State) → (sink_old sink_new : S) → (before behind : Streams) → Result Received StitchFault → Type 0
+StitchesAs takes fails rules old new sink_old sink_new before behind (Ok received) = RunAnswersWith takes fails rules old new sink_old sink_new before behind (Ok received)
+StitchesAs takes fails rules old new sink_old sink_new before behind (Err (faults.Stream fault)) = RunAnswersWith takes fails rules old new sink_old sink_new before behind (Err fault)
+StitchesAs takes fails rules old new sink_old sink_new before behind (Err (faults.Source fault)) = HasMet takes rules old new sink_old sink_new before behind
+
+-- only failed calls of the streams and of the sink were counted, as the fault says
+abbrev pub OnlyFaultsOf : (count_old count_new : ℕ) → (before behind : Streams) → Result Received StitchFault → Type 0
+OnlyFaultsOf count_old count_new before behind result =
+    OnlyFailedWith (result ≡ Err (faults.Stream streams.Read)) (result ≡ Err (faults.Stream streams.Write)) count_old count_new before behind
+
+-- the fault of the source, if that is the result
+abbrev pub source_fault : {T : Type 0} → Result T StitchFault → Option SourceFault
+source_fault (Ok value) = None
+source_fault (Err (faults.Stream fault)) = None
+source_fault (Err (faults.Source fault)) = Some fault
+
+-- after a fault of a stream the receiver has failed; after one of the source it may go on
+abbrev pub IsLeftIn : {T : Type 0} → Phase → Result T StitchFault → Type 0
+IsLeftIn phase (Ok value) = phase ≡ phases.Ended
+IsLeftIn phase (Err (faults.Stream fault)) = phase ≡ phases.Failed
+IsLeftIn phase (Err (faults.Source fault)) = IsLive phase
