@@ -27,16 +27,24 @@ pub record Supplies {D Q C : Type 0} (records : Q → Option (List ℕ)) (record
   pub decider : new.decider ≡ old.decider
   pub held : HoldsNext records record_reads copy copy_reads (is_ahead at old.held) at old new source source_new
 
--- The frame that is held and the records that are left are true: they have the decisions that the decider makes by itself
+-- the decision that a decider makes by itself
+abbrev pub own_rule : {D : Type 0} → (D → List Symbol → Decision) → Recalling D → List Symbol → Decision
+own_rule decide r = decide r.decider
+
+-- and its decision, by the frame that it holds
+abbrev pub recall_rule : {D : Type 0} → (D → List Symbol → Decision) → Recalling D → List Symbol → Decision
+recall_rule decide r = recalls (decide r.decider) r.held
+
+-- The frame that is held and the records that are left are true: their decisions are those that the decider makes by itself
 pub record AreTrue {D Q C : Type 0} (decide : D → List Symbol → Decision) (records : Q → Option (List ℕ)) (copy : C → Option (List ℕ)) (r : Recalling D) (source : RecordSource Q C) : Type 0 where
-  pub held : recalls (decide r.decider) r.held ≡ decide r.decider
-  pub left : AreTrueLeft source.terms (decide r.decider) source.place (records source.records) (copy source.copy)
+  pub held : recall_rule decide r ≡ own_rule decide r
+  pub left : AreTrueLeft source.terms (own_rule decide r) source.place (records source.records) (copy source.copy)
 
 -- ---- a run
 
 -- the rules of the receiver that decides all frames by itself
 abbrev pub own_rules : {D : Type 0} → (D → List Symbol → Decision) → Receiver (Recalling D) → Rules
-own_rules decide r = rules_of (λ d. decide d.decider) r
+own_rules decide r = rules_of (own_rule decide) r
 
 -- this was met and processed, and a sink took its frames
 abbrev pub HasMet : {S : Type 0} → Taking S → Rules → (old new : State) → (sink_old sink_new : S) → (before behind : Streams) → Type 0

@@ -85,13 +85,14 @@ impl<'a, D: Decide> Recalling<'a, D> {
 }
 
 impl<'a, D: Decide> Decide for Recalling<'a, D> {
-    ghost use Rattle.s2_stitch.specs.Recalling.{field_by, last_by, recalled, recalls};
+    ghost use Rattle.s2_stitch.specs.Recalling.{field_by, last_by, recalled};
+    ghost use Rattle.s2_stitch.specs.Stitching.{own_rule, recall_rule};
 
     ghost size = { λ r. D.size r.decider };
 
-    ghost decide = { λ r. recalls (D.decide r.decider) r.held };
+    ghost decide = { recall_rule D.decide };
 
-    ghost unaided = { λ r. D.decide r.decider };
+    ghost unaided = { own_rule D.decide };
 
     ghost field = { λ r. field_by D.field r.decider (recalled r) };
 

@@ -4,7 +4,7 @@ ghost use Rattle.s2_mode.specs.Counts.{CanCount};
 ghost use Rattle.s2_receive.specs.Answers.{Between, IsSame};
 ghost use Rattle.s2_receive.specs.Receiving.{IsLive, taken};
 ghost use Rattle.s2_stitch.specs.Sources.{CountsSource};
-ghost use Rattle.s2_stitch.specs.Stitching.{AreTrue, IsLeftIn, OnlyFaultsOf, StitchesAs, own_rules, source_fault};
+ghost use Rattle.s2_stitch.specs.Stitching.{AreTrue, IsLeftIn, OnlyFaultsOf, StitchesAs, own_rule, own_rules, source_fault};
 
 use crate::fault::StitchFault;
 use crate::recalling::Recalling;
@@ -55,7 +55,7 @@ pub fn stitch_with<
     ensures source { CountsSource (source_fault result) (Q.count source.old.records) (Q.count source.new.records) (C.count source.old.copy) (C.count source.new.copy) }
     ensures left { IsLeftIn receiver.new.state.phase result }
     ensures bounded { taken receiver.new.state ≤ receiver.old.limit }
-    ensures same { IsSame (λ d. D.decide d.decider) receiver.old receiver.new }
+    ensures same { IsSame (own_rule D.decide) receiver.old receiver.new }
 {
     let mut all_certified = true;
     'steps: loop {
