@@ -138,6 +138,10 @@ module _ {S : Type 0} (takes fails : Taking S) (rules : Rules) (old new : State)
   fails_so streams.Read (stops, kept) = stops.failed
   fails_so streams.Write (phase, cause) = phase
 
+-- what was met so far, by another name of the state
+pub came_at : {S : Type 0} (takes : Taking S) (rules : Rules) (s t t' : State) (a b : Streams) (k l : S) (certified : Bool) → t' ≡ t → Came rules takes s t a b k l certified → Came rules takes s t' a b k l certified
+came_at takes rules s t t' a b k l certified is came = subst (λ x. Came rules takes s x a b k l certified) (sym is) came
+
 -- what was met so far
 pub met_so : {S : Type 0} (takes : Taking S) (rules : Rules) (s t t' : State) (a b : Streams) (k l : S) (certified : Bool) → t' ≡ t → Came rules takes s t a b k l certified → HasMet takes rules s t' k l a b
 met_so takes rules s t t' a b k l certified is (met, processed, all, took) = (met, subst (λ x. Processed rules s x a b met) (sym is) processed, took)
