@@ -1,5 +1,5 @@
 -- What a source of recorded frames reads.
-use Rattle.std.proofs.Common.{◌≡◌, ◌≢◌, ℕ, ◌+◌, ◌-◌, ◌*◌, ◌<◌, ◌≤◌, max, Bool, true, false, List, [], ◌∷◌, ◌++◌, length, take, drop, Option, Some, None, IfSome, IfOk, Result, Ok, Err, refl, sym, ap, subst, ◌∙◌, arith, append_assoc, length-append}
+use Rattle.std.proofs.Common.{◌≡◌, ◌≢◌, ℕ, ◌+◌, ◌-◌, ◌*◌, ◌<◌, ◌≤◌, max, Bool, true, false, List, [], ◌∷◌, ◌++◌, length, take, drop, Option, Some, None, IfSome, IfOk, Result, Ok, Err, inl, inr, refl, sym, ap, subst, ◌∙◌, arith, append_assoc, length-append}
 use Rattle.std.proofs.KnownBytes.{Consumes-nil, Consumes-trans}
 use Rattle.std.proofs.lemmas.List.{drop-drop, drop_at, take_at}
 use Rattle.std.specs.Io.KnownBytes.{Consumes, IsAtEnd}
@@ -7,13 +7,14 @@ use Rattle.s2_mode.proofs.SymbolLists.{length-symbols, symbols-append}
 use Rattle.s2_mode.specs.Mode.{Mode, n_of, symbols_in}
 use Rattle.s2_mode.specs.Symbols.{YieldsSymbol, symbols_of}
 use Rattle.s2_mode.specs.declared.symbols.Symbol.{Symbol}
+use Rattle.s2_rows.specs.Rows.{Rows}
 use Rattle.s2_receive.specs.Receiving.{Decision}
 use Rattle.s2_stitch.specs.Copies.{CopiesFrame, CountsCopy, ReadsSymbols, SkipsSymbols}
 use Rattle.s2_stitch.specs.Frames.{IsFrameOf, IsTrueRecord, RecordedFrame, Terms, decision_by, frame_at}
 use Rattle.s2_stitch.specs.Reading.{CountsRead, ReadsRecord}
 use Rattle.s2_stitch.specs.Records.{AreRecords, Record, record_at}
-use Rattle.s2_stitch.specs.Sources.{AreRead, AreTrueIn, AreTrueLeft, CountsSource, Gives, GivesBy, IsCopyFrom, ReadsCopy, ReadsFrame, ReadsNext, ReadsResult, RecordSource, fault_in}
-use Rattle.s2_stitch.specs.Usable.{CopiesUsable, ReadsUsable}
+use Rattle.s2_stitch.specs.Sources.{ArePassed, AreRead, AreTrueIn, AreTrueLeft, CountsSource, Gives, GivesBy, IsCopyFrom, IsOfUse, ReadsCopy, ReadsFrame, ReadsNext, ReadsResult, RecordSource, fault_in}
+use Rattle.s2_stitch.specs.Usable.{CopiesUsable, IsUsable, ReadsUsable}
 use Rattle.s2_stitch.specs.declared.fault.SourceFault.{SourceFault}
 use Rattle.s2_stitch.specs.declared.fault.SourceFault.TheVariants as faults
 use Rattle.s2_stitch.specs.declared.next.Usable.{Usable}
@@ -56,6 +57,15 @@ read_end n passed a None c are reads = at a are
 read_end n passed a (Some y) None are reads = absurd reads.0
 read_end n passed None (Some y) (Some z) are reads = tt
 read_end n passed (Some x) (Some y) (Some z) are reads = subst (λ l. AreRecords n passed x l) reads.0 are
+
+-- a record that is of no use is passed, too
+pub passed_more : (rows : Rows) (from : ℕ) (passed : List Record) (r : Record) → ArePassed rows from passed → ¬ IsOfUse rows from r → ArePassed rows from (passed ++ r ∷ [])
+passed_more rows from [] r are none = (none, tt)
+passed_more rows from (first ∷ later) r are none = (are.0, passed_more rows from later r are.1 none)
+
+-- a record that may come from one position on may come from an earlier one
+pub usable_from : (rows : Rows) (n from start : ℕ) (u : Usable) → start ≤ from → IsUsable rows n from u → IsUsable rows n start u
+usable_from rows n from start u before is = let ahead = is.use_of.ahead in record { bits = is.bits; certificate = is.certificate; use_of = record { ahead = omega (arith, before, ahead); reached = is.use_of.reached; suits = is.use_of.suits } }
 
 -- ---- the copy
 
@@ -105,10 +115,10 @@ ends recording place (Some xs) (Some zs) bytes read end from = λ other. absurd 
 
 -- too few symbols are left
 pub copies_short : (size at place k : ℕ) (a c : Option (List ℕ)) → SkipsSymbols k a c false → CopiesFrame size at place place a c None
-copies_short size at place k a c (bytes, read, end) = λ recording from. ends recording place a c bytes read end from
+copies_short size at place k a c (bytes, read, end) = (λ recording from. ends recording place a c bytes read end from, end)
 
 pub copies_cut : (size at place k : ℕ) (a b c : Option (List ℕ)) → SkipsSymbols k a b true → ReadsSymbols size b c None → CopiesFrame size at place place a c None
-copies_cut size at place k a b c (bytes, long, first) (more, read, end) = λ recording from. ends recording place a c (bytes ++ more) (Consumes-trans a b c bytes more first read) end from
+copies_cut size at place k a b c (bytes, long, first) (more, read, end) = (λ recording from. ends recording place a c (bytes ++ more) (Consumes-trans a b c bytes more first read) end from, end)
 
 -- ---- the frame of a record
 
@@ -125,21 +135,21 @@ copied_frame t r size place place_new a c symbols f size_is copies own is = (
 
 -- no frame
 pub copied_none : (t : Terms) (r : Record) (size place place_new : ℕ) (a c : Option (List ℕ)) → CopiesFrame size r.at place place_new a c None → CopiesUsable t r place place_new a c None
-copied_none t r size place place_new a c copies = λ recording from. (copies recording from, tt)
+copied_none t r size place place_new a c (copies, end) = (λ recording from. (copies recording from, tt), end)
 
 -- ---- the next frame
 
 -- a record was read, and then its frame
-pub reads_frame : (t : Terms) (at place place_new : ℕ) (a b c d : Option (List ℕ)) (u : Usable) (result : Result (Option RecordedFrame) SourceFault) → ReadsUsable (n_of t.mode) a b (Some u) → at ≤ u.record.at
+pub reads_frame : (t : Terms) (at place place_new : ℕ) (a b c d : Option (List ℕ)) (u : Usable) (result : Result (Option RecordedFrame) SourceFault) → ReadsUsable t.rows (n_of t.mode) (max at place) a b (Some u) → max at place ≤ u.record.at
     → IfOk result (CopiesUsable t u.record place place_new c d) → ReadsResult t at place place_new a b c d result
-reads_frame t at place place_new a b c d u (Ok None) (passed, are) from copies = record { records = (passed ++ u.record ∷ [], are); copy = copies; from = tt }
-reads_frame t at place place_new a b c d u (Ok (Some f)) (passed, are) from (copies, is) =
-    record { records = (passed, u.record, are, is); copy = copies; from = subst (λ k. at ≤ k) (sym is.place) from }
+reads_frame t at place place_new a b c d u (Ok None) (passed, are, none) from (copies, end) = record { records = (passed ++ u.record ∷ [], are); copy = copies; from = tt; none = λ e. inr end }
+reads_frame t at place place_new a b c d u (Ok (Some f)) (passed, are, none) from (copies, is) =
+    record { records = (passed, u.record, are, none, is); copy = copies; from = subst (λ k. max at place ≤ k) (sym is.place) from; none = λ e. cc }
 reads_frame t at place place_new a b c d u (Err fault) reads from copies = tt
 
 -- there is no record left
-pub reads_none : (t : Terms) (at place : ℕ) (a b c : Option (List ℕ)) → ReadsUsable (n_of t.mode) a b None → ReadsResult t at place place a b c c (Ok None)
-reads_none t at place a b c reads = record { records = reads; copy = λ recording from. (from, tt); from = tt }
+pub reads_none : (t : Terms) (at place : ℕ) (a b c : Option (List ℕ)) → ReadsUsable t.rows (n_of t.mode) (max at place) a b None → ReadsResult t at place place a b c c (Ok None)
+reads_none t at place a b c (passed, are, end) = record { records = (passed, are); copy = λ recording from. (from, tt); from = tt; none = λ e. inl end }
 
 -- what was counted
 pub counts_frame : (q q' c c' : ℕ) (result : Result (Option RecordedFrame) SourceFault) → q' ≡ q → CountsCopy c c' result → CountsSource (fault_in result) q q' c c'
@@ -212,7 +222,7 @@ module _ (t : Terms) (decide : List Symbol → Decision) (at place place_new : �
       let (copy_is, nothing) = reads.copy all.recording all.copy_is in
       (record { recording = all.recording; copy_is = copy_is; true_are = still_true t decide all.recording passed a b are all.true_are }, tt)
   true_next (Some f) reads all =
-      let (passed, r, are, is) = reads.records in
+      let (passed, r, are, none, is) = reads.records in
       let (copy_is, own) = reads.copy all.recording all.copy_is in (
         record { recording = all.recording; copy_is = copy_is; true_are = still_true t decide all.recording (passed ++ r ∷ []) a b are all.true_are },
         true_frame t decide all.recording r f is own (true_last t decide all.recording passed r a b are all.true_are),

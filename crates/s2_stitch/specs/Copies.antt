@@ -22,7 +22,7 @@ ReadsSymbols count old new None = (bytes : List ℕ) × Consumes old new bytes �
 abbrev pub CopiesFrame : (size at place place_new : ℕ) → (old new : Option (List ℕ)) → Option (List Symbol) → Type 0
 CopiesFrame size at place place_new old new (Some symbols) =
     (recording : List Symbol) → IsCopyFrom recording place old → IsCopyFrom recording place_new new × (symbols ≡ take size (drop at recording))
-CopiesFrame size at place place_new old new None = (recording : List Symbol) → IsCopyFrom recording place old → IsCopyFrom recording place_new new
+CopiesFrame size at place place_new old new None = ((recording : List Symbol) → IsCopyFrom recording place old → IsCopyFrom recording place_new new) × IsAtEnd new
 
 -- only a failed read of the copy is counted; the other fault is that memory does not suffice
 abbrev pub CountsCopy : {A : Type 0} → (old new : ℕ) → Result A SourceFault → Type 0

@@ -1,10 +1,15 @@
 -- A source of recorded frames: records, and a copy of the recording (own).
-use Rattle.std.specs.Prelude.{◌≡◌, ◌≢◌, ℕ, ◌+◌, ◌≤◌, List, [], ◌∷◌, ◌++◌, drop, Option, Some, None, IfSome, Result, Ok, Err, ⊤}
+use Rattle.std.specs.Prelude.{◌≡◌, ◌≢◌, ◌⊎◌, ℕ, ◌+◌, ◌≤◌, max, List, [], ◌∷◌, ◌++◌, drop, Option, Some, None, IfSome, Result, Ok, Err, ⊤}
+use Rattle.std.specs.Io.KnownBytes.{IsAtEnd}
 use Rattle.s2_mode.specs.Mode.{n_of}
 use Rattle.s2_mode.specs.Symbols.{symbols_of}
 use Rattle.s2_mode.specs.declared.symbols.Symbol.{Symbol}
+use Rattle.s2_rows.specs.Rows.{Rows}
+use Rattle.s2_certfile.specs.Format.{file_of_bytes}
+use Rattle.s2_check.specs.CertificateFiles.{Suits}
+use Rattle.s2_receive.specs.Limits.{max_symbols}
 use Rattle.s2_receive.specs.Receiving.{Decision}
-use Rattle.s2_stitch.specs.Frames.{IsFrameOf, IsTrueRecord, RecordedFrame, Terms, frame_at}
+use Rattle.s2_stitch.specs.Frames.{IsFrameOf, IsTrueRecord, RecordedFrame, Terms, file_in, frame_at}
 use Rattle.s2_stitch.specs.Reading.{CountsRead}
 use Rattle.s2_stitch.specs.Records.{AreRecords, Record}
 use Rattle.s2_stitch.specs.declared.fault.SourceFault.{SourceFault}
@@ -27,10 +32,21 @@ AreRead n records None new = ⊤
 AreRead n records (Some bytes) None = ⊥
 AreRead n records (Some bytes) (Some left) = AreRecords n records bytes left
 
--- records were read; a frame is that of the last one
-abbrev pub ReadsFrame : Terms → (old new : Option (List ℕ)) → Option RecordedFrame → Type 0
-ReadsFrame t old new None = (passed : List Record) × AreRead (n_of t.mode) passed old new
-ReadsFrame t old new (Some f) = (passed : List Record) × (r : Record) × AreRead (n_of t.mode) (passed ++ r ∷ []) old new × IsFrameOf t r f
+-- a record whose frame may come from this position on, where a receiver can be, and whose certificate suits the rows
+pub record IsOfUse (rows : Rows) (from : ℕ) (r : Record) : Type 0 where
+  pub ahead : from ≤ r.at
+  pub reached : r.at ≤ max_symbols
+  pub suits : IfSome (file_in (file_of_bytes r.certificate)) (Suits rows)
+
+-- none of these records is one
+abbrev pub ArePassed : Rows → (from : ℕ) → List Record → Type 0
+ArePassed rows from [] = ⊤
+ArePassed rows from (r ∷ later) = ¬ IsOfUse rows from r × ArePassed rows from later
+
+-- records were read; a frame is that of the last one, and the others were passed
+abbrev pub ReadsFrame : Terms → (from : ℕ) → (old new : Option (List ℕ)) → Option RecordedFrame → Type 0
+ReadsFrame t from old new None = (passed : List Record) × AreRead (n_of t.mode) passed old new
+ReadsFrame t from old new (Some f) = (passed : List Record) × (r : Record) × AreRead (n_of t.mode) (passed ++ r ∷ []) old new × ArePassed t.rows from passed × IsFrameOf t r f
 
 -- the bytes that are left are those of a recording from this position on, unless none is left
 abbrev pub IsCopyFrom : (recording : List Symbol) → (place : ℕ) → (left : Option (List ℕ)) → Type 0
@@ -42,11 +58,12 @@ abbrev pub ReadsCopy : Terms → (place place_new : ℕ) → (old new : Option (
 ReadsCopy t place place_new old new frame =
     (recording : List Symbol) → IsCopyFrom recording place old → IsCopyFrom recording place_new new × IfSome frame (λ f. f.symbols ≡ frame_at t recording f.at)
 
--- the next frame at this position or after it was read, or none is left
+-- The next frame at this position or after it was read, after what was read of the copy. Or the records or the copy are at their end
 pub record ReadsNext (t : Terms) (at place place_new : ℕ) (records records_new copy copy_new : Option (List ℕ)) (frame : Option RecordedFrame) : Type 0 where
-  pub records : ReadsFrame t records records_new frame
+  pub records : ReadsFrame t (max at place) records records_new frame
   pub copy : ReadsCopy t place place_new copy copy_new frame
-  pub from : IfSome frame (λ f. at ≤ f.at)
+  pub from : IfSome frame (λ f. max at place ≤ f.at)
+  pub none : frame ≡ None → IsAtEnd records_new ⊎ IsAtEnd copy_new
 
 -- the result of reading the next frame
 abbrev pub ReadsResult : Terms → (at place place_new : ℕ) → (records records_new copy copy_new : Option (List ℕ)) → Result (Option RecordedFrame) SourceFault → Type 0

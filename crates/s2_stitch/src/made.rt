@@ -1,9 +1,10 @@
 //! The frame of a record, decided by it.
-ghost use Rattle.std.specs.Prelude.{◌≡◌, IfOk, length};
+ghost use Rattle.std.specs.Prelude.{◌≡◌, IfOk, IfSome, length};
+ghost use Rattle.s2_certfile.specs.Format.{file_of_bytes};
+ghost use Rattle.s2_check.specs.CertificateFiles.{Suits};
 ghost use Rattle.s2_message.specs.Reading.{IsSameReader};
 ghost use Rattle.s2_mode.specs.Mode.{n_of, symbols_in};
-ghost use Rattle.s2_stitch.specs.Frames.{IsFrameOf, terms_by};
-ghost use Rattle.s2_stitch.specs.Usable.{IsUsable};
+ghost use Rattle.s2_stitch.specs.Frames.{IsFrameOf, file_in, terms_by};
 
 use crate::frame::RecordedFrame;
 use crate::next::Usable;
@@ -21,7 +22,9 @@ pub(crate) fn made_frame<'a>(
     usable: Usable,
     symbols: Vec<Symbol>,
 ) -> Result<RecordedFrame<'a>, AllocError>
-    requires usable { IsUsable matrix.now (n_of reader.old.mode) usable }
+    requires bits { length usable.record.bits ≡ n_of reader.old.mode }
+    requires certificate { usable.certificate ≡ file_in (file_of_bytes usable.record.certificate) }
+    requires suits { IfSome usable.certificate (Suits matrix.now) }
     requires symbols { length symbols.items ≡ symbols_in reader.old.mode }
     ensures makes { IfOk result (λ f. (f.symbols ≡ symbols.items) × IsFrameOf (terms_by matrix.now reader.old) usable.record f) }
     ensures same { IsSameReader reader.old reader.new }

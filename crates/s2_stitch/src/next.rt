@@ -1,11 +1,11 @@
 //! The next record whose frame may come.
-ghost use Rattle.std.specs.Prelude.{◌≡◌, ◌≢◌, ◌↔◌, ◌^◌, ◌<◌, ◌≤◌, IfOk, IfSome, IsTrue, Err, length};
+ghost use Rattle.std.specs.Prelude.{◌≡◌, ◌≢◌, ◌↔◌, ◌^◌, ◌<◌, IfNone, IfOk, IfSome, IsTrue, Err};
 ghost use Rattle.s2_certfile.specs.Format.{file_of_bytes};
 ghost use Rattle.s2_check.specs.CertificateFiles.{Suits};
 ghost use Rattle.s2_mode.specs.Counts.{CanCount};
-ghost use Rattle.s2_receive.specs.Limits.{max_symbols};
 ghost use Rattle.s2_stitch.specs.Frames.{file_in};
 ghost use Rattle.s2_stitch.specs.Reading.{CountsRead};
+ghost use Rattle.s2_stitch.specs.Sources.{IsOfUse};
 ghost use Rattle.s2_stitch.specs.Usable.{IsUsable, ReadsUsable};
 
 use crate::read::{RecordFault, read_record};
@@ -56,26 +56,35 @@ fn suits(matrix: &Matrix, certificate: &Option<Certificate>) -> bool
     }
 }
 
-/// A record with its certificate, or nothing if that does not suit the matrix.
-fn usable(alloc: Global, matrix: &Matrix, own: Record) -> Result<Option<Usable>, RecordFault>
+/// A record with its certificate. Nothing if its frame begins before this position or where no receiver can be, or if its certificate
+/// does not suit the matrix.
+fn usable(
+    alloc: Global,
+    matrix: &Matrix,
+    from: u64,
+    own: Record,
+) -> Result<Option<Usable>, RecordFault>
     ensures same { IfOk result (λ o. IfSome o (λ u. u.record ≡ own)) }
-    ensures certificate { IfOk result (λ o. IfSome o (λ u. u.certificate ≡ file_in (file_of_bytes u.record.certificate))) }
-    ensures suits { IfOk result (λ o. IfSome o (λ u. IfSome u.certificate (Suits matrix.now))) }
+    ensures certificate { IfOk result (λ o. IfSome o (λ u. u.certificate ≡ file_in (file_of_bytes own.certificate))) }
+    ensures of_use { IfOk result (λ o. IfSome o (λ u. IsOfUse matrix.now from own)) }
+    ensures passed { IfOk result (λ o. IfNone o (¬ IsOfUse matrix.now from own)) }
     ensures no_read { result ≢ Err RecordFault.Read }
 {
-    let certificate = certificate_in(alloc, &own.certificate)?;
-    if suits(matrix, &certificate) {
-        Ok(Some(Usable {
-            record: own,
-            certificate,
-        }))
-    } else {
-        Ok(None)
+    if own.at < from || own.at > MAX_SYMBOLS {
+        return Ok(None);
     }
+    let certificate = certificate_in(alloc, &own.certificate)?;
+    if !suits(matrix, &certificate) {
+        return Ok(None);
+    }
+    Ok(Some(Usable {
+        record: own,
+        certificate,
+    }))
 }
 
-/// The next record at this position or after it, with a certificate that suits the matrix, if it has one. Other records are
-/// passed. `None` at the end of the records.
+/// The next record whose frame may come from this position on. Other records are passed: those before it, and those whose certificate does
+/// not suit the matrix. `None` at the end of the records.
 pub(crate) fn next_usable<Q: CountedRead>(
     alloc: Global,
     matrix: &Matrix,
@@ -85,21 +94,17 @@ pub(crate) fn next_usable<Q: CountedRead>(
 ) -> Result<Option<Usable>, RecordFault>
     requires count { CanCount (Q.count records.old) }
     requires bits { bits < 2 ^ 32 }
-    ensures reads { IfOk result (ReadsUsable bits (Q.remaining records.old) (Q.remaining records.new)) }
-    ensures usable { IfOk result (λ o. IfSome o (IsUsable matrix.now bits)) }
-    ensures from { IfOk result (λ o. IfSome o (λ u. (from ≤ u.record.at) × (u.record.at ≤ max_symbols))) }
+    ensures reads { IfOk result (ReadsUsable matrix.now bits from (Q.remaining records.old) (Q.remaining records.new)) }
+    ensures usable { IfOk result (λ o. IfSome o (IsUsable matrix.now bits from)) }
     ensures counts { CountsRead (Q.count records.old) (Q.count records.new) result }
 {
     'records: for _passed in 0..u64::MAX {
         let Some(record) = read_record(alloc, records, bits)? else {
             return Ok(None);
         };
-        if from <= record.at && record.at <= MAX_SYMBOLS {
-            let next = usable(alloc, matrix, record)?;
-            if next.is_some() {
-                return Ok(next);
-            }
+        if let Some(usable) = usable(alloc, matrix, from, record)? {
+            return Ok(Some(usable));
         }
     }
-    Ok(None)
+    Err(RecordFault::NotARecord)
 }

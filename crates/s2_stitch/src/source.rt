@@ -3,7 +3,6 @@ ghost use Rattle.std.specs.Prelude.{◌≡◌, ◌^◌, ◌<◌, ◌≤◌, IfOk
 ghost use Rattle.s2_message.specs.Reading.{IsSameReader};
 ghost use Rattle.s2_mode.specs.Counts.{CanCount};
 ghost use Rattle.s2_mode.specs.Mode.{n_of, symbols_in};
-ghost use Rattle.s2_receive.specs.Limits.{max_symbols};
 ghost use Rattle.s2_stitch.specs.Copies.{CountsCopy};
 ghost use Rattle.s2_stitch.specs.Frames.{IsFrameOf, terms_by};
 ghost use Rattle.s2_stitch.specs.Sources.{CountsSource, Gives, ReadsResult, fault_in};
@@ -34,8 +33,7 @@ fn frame_of<'a, C: CountedRead>(
 ) -> Result<Option<RecordedFrame<'a>>, SourceFault>
     requires mode { mode ≡ reader.old.mode }
     requires count { CanCount (C.count copy.old) }
-    requires usable { IsUsable matrix.now (n_of reader.old.mode) usable }
-    requires from { (place.old ≤ usable.record.at) × (usable.record.at ≤ max_symbols) }
+    requires usable { IsUsable matrix.now (n_of reader.old.mode) place.old usable }
     ensures frame { IfOk result (CopiesUsable (terms_by matrix.now reader.old) usable.record place.old place.new (C.remaining copy.old) (C.remaining copy.new)) }
     ensures same { IsSameReader reader.old reader.new }
     ensures counts { CountsCopy (C.count copy.old) (C.count copy.new) result }
