@@ -154,10 +154,9 @@ reads_none t at place a b c (passed, are, end) = record { records = (passed, are
 -- what was counted
 pub counts_frame : (q q' c c' : ℕ) (result : Result (Option RecordedFrame) SourceFault) → q' ≡ q → CountsCopy c c' result → CountsSource (fault_in result) q q' c c'
 counts_frame q q' c c' (Ok frame) same counts = (same, counts)
-counts_frame q q' c c' (Err (faults.Records record_faults.Read)) same (counts, is) = cc
-counts_frame q q' c c' (Err (faults.Records record_faults.NotARecord)) same (counts, is) = cc
-counts_frame q q' c c' (Err (faults.Records record_faults.NoMemory)) same (counts, is) = (same, counts)
-counts_frame q q' c c' (Err faults.Copy) same counts = (same, counts)
+counts_frame q q' c c' (Err (faults.Records fault)) same counts = absurd counts
+counts_frame q q' c c' (Err faults.Recording) same counts = (same, counts)
+counts_frame q q' c c' (Err faults.NoMemory) same counts = (same, counts)
 
 pub counts_record : (q q' c : ℕ) (fault : RecordFault) → CountsRead {A = Option Usable} q q' (Err fault) → CountsSource (fault_in {A = Option RecordedFrame} (Err (faults.Records fault))) q q' c c
 counts_record q q' c record_faults.Read counts = (counts, refl)

@@ -6,7 +6,6 @@ use Rattle.s2_mode.specs.declared.symbols.Symbol.{Symbol}
 use Rattle.s2_stitch.specs.Sources.{IsCopyFrom}
 use Rattle.s2_stitch.specs.declared.fault.SourceFault.{SourceFault}
 use Rattle.s2_stitch.specs.declared.fault.SourceFault.TheVariants as faults
-use Rattle.s2_stitch.specs.declared.read.RecordFault.TheVariants as record_faults
 
 -- so many symbols were read; or the copy is at its end
 abbrev pub SkipsSymbols : ℕ → (old new : Option (List ℕ)) → Bool → Type 0
@@ -24,8 +23,9 @@ CopiesFrame size at place place_new old new (Some symbols) =
     (recording : List Symbol) → IsCopyFrom recording place old → IsCopyFrom recording place_new new × (symbols ≡ take size (drop at recording))
 CopiesFrame size at place place_new old new None = ((recording : List Symbol) → IsCopyFrom recording place old → IsCopyFrom recording place_new new) × IsAtEnd new
 
--- only a failed read of the copy is counted; the other fault is that memory does not suffice
+-- only a failed read of the copy is counted
 abbrev pub CountsCopy : {A : Type 0} → (old new : ℕ) → Result A SourceFault → Type 0
 CountsCopy old new (Ok value) = new ≡ old
-CountsCopy old new (Err (faults.Records fault)) = (new ≡ old) × (fault ≡ record_faults.NoMemory)
-CountsCopy old new (Err faults.Copy) = new ≡ old + 1
+CountsCopy old new (Err (faults.Records fault)) = ⊥
+CountsCopy old new (Err faults.Recording) = new ≡ old + 1
+CountsCopy old new (Err faults.NoMemory) = new ≡ old

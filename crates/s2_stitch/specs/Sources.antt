@@ -74,7 +74,8 @@ ReadsResult t at place place_new records records_new copy copy_new (Err fault) =
 abbrev pub CountsSource : Option SourceFault → (records records_new copy copy_new : ℕ) → Type 0
 CountsSource None q q' c c' = (q' ≡ q) × (c' ≡ c)
 CountsSource (Some (faults.Records fault)) q q' c c' = CountsRead {A = ⊤} q q' (Err fault) × (c' ≡ c)
-CountsSource (Some faults.Copy) q q' c c' = (q' ≡ q) × (c' ≡ c + 1)
+CountsSource (Some faults.Recording) q q' c c' = (q' ≡ q) × (c' ≡ c + 1)
+CountsSource (Some faults.NoMemory) q q' c c' = (q' ≡ q) × (c' ≡ c)
 
 -- the fault of a result
 abbrev pub fault_in : {A : Type 0} → Result A SourceFault → Option SourceFault

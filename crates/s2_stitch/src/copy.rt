@@ -5,7 +5,6 @@ ghost use Rattle.s2_receive.specs.Limits.{max_symbols};
 ghost use Rattle.s2_stitch.specs.Copies.{CopiesFrame, CountsCopy, ReadsSymbols, SkipsSymbols};
 
 use crate::fault::SourceFault;
-use crate::read::RecordFault;
 use s2_mode::{CountedRead, Symbol, read_full, read_symbol, symbols_into};
 use std::alloc::Global;
 
@@ -16,7 +15,7 @@ fn skip<C: CountedRead>(copy: &mut C, symbols: u64) -> Result<bool, SourceFault>
     ensures counts { CountsCopy (C.count copy.old) (C.count copy.new) result }
 {
     'symbols: for _skipped in 0..symbols {
-        let Some(_) = read_symbol(copy).map_err(|_| SourceFault::Copy)? else {
+        let Some(_symbol) = read_symbol(copy).map_err(|_| SourceFault::Recording)? else {
             return Ok(false);
         };
     }
@@ -35,10 +34,11 @@ fn read_symbols<C: CountedRead>(
     ensures long { IfOk result (λ o. IfSome o (λ v. length v.items ≡ size)) }
     ensures counts { CountsCopy (C.count copy.old) (C.count copy.new) result }
 {
-    let no_memory = SourceFault::Records(RecordFault::NoMemory);
-    let mut bytes = vec![in alloc; 0u8; 4 * size].map_err(|_| no_memory)?;
-    let mut symbols = vec![in alloc; Symbol { i: 0, q: 0 }; size].map_err(|_| no_memory)?;
-    let count = read_full(copy, &mut bytes).map_err(|_| SourceFault::Copy)?;
+    let mut bytes = vec![in alloc; 0u8; 4 * size].map_err(|_| SourceFault::NoMemory)?;
+    let mut symbols = vec![in alloc; Symbol { i: 0, q: 0 }; size].map_err(
+        |_| SourceFault::NoMemory,
+    )?;
+    let count = read_full(copy, &mut bytes).map_err(|_| SourceFault::Recording)?;
     if count < 4 * size {
         return Ok(None);
     }

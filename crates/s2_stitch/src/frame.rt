@@ -15,6 +15,7 @@ use std::marker::Model;
 /// A frame that a record decided. It is lent as a decided frame.
 ///
 /// In contracts, it is its position in the recording, its symbols, the decision on it, and the data field that is lent with it.
+#[derive(Drop)]
 pub struct RecordedFrame<'a> {
     pub(crate) matrix: &'a Matrix,
     pub(crate) at: u64,
@@ -25,22 +26,6 @@ pub struct RecordedFrame<'a> {
     pub(crate) message: Vec<bool>,
     pub(crate) decided: Decided,
     pub(crate) field: Vec<u8>,
-}
-
-impl<'a> Drop for RecordedFrame<'a> {
-    fn drop(self) {
-        let RecordedFrame {
-            matrix: _,
-            at: _,
-            symbols: _,
-            soft: _,
-            word: _,
-            certificate: _,
-            message: _,
-            decided: _,
-            field: _,
-        } = self;
-    }
 }
 
 impl<'a> Model for RecordedFrame<'a> {

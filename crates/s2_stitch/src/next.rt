@@ -17,18 +17,10 @@ use s2_receive::MAX_SYMBOLS;
 use std::alloc::Global;
 
 /// A record with its certificate, if it has one.
+#[derive(Drop)]
 pub(crate) struct Usable {
     pub(crate) record: Record,
     pub(crate) certificate: Option<Certificate>,
-}
-
-impl Drop for Usable {
-    fn drop(self) {
-        let Usable {
-            record: _,
-            certificate: _,
-        } = self;
-    }
 }
 
 /// The certificate of a record. No bytes are none.

@@ -13,7 +13,6 @@ use crate::fault::SourceFault;
 use crate::frame::RecordedFrame;
 use crate::made::made_frame;
 use crate::next::{Usable, next_usable};
-use crate::read::RecordFault;
 use s2_matrix::Matrix;
 use s2_message::{FrameOptions, FrameReader};
 use s2_mode::{CountedRead, Mode};
@@ -42,7 +41,7 @@ fn frame_of<'a, C: CountedRead>(
     match copy_frame(alloc, copy, place, at, mode.symbols())? {
         Some(symbols) => match made_frame(alloc, matrix, reader, usable, symbols) {
             Ok(frame) => Ok(Some(frame)),
-            Err(_) => Err(SourceFault::Records(RecordFault::NoMemory)),
+            Err(_) => Err(SourceFault::NoMemory),
         },
         None => Ok(None),
     }
