@@ -14,11 +14,11 @@ use Rattle.s2_stitch.specs.Recalling.{are_same, holds, is_same, last_by, recalls
 
 pub symbol_decides : (a b : Symbol) → Decides (is_same a b) (a ≡ b)
 symbol_decides a b =
-    Decides-like (is_same a b) (λ (both : (a.i ≡ b.i) × (a.q ≡ b.q)). λ k. record { i = both.0 k; q = both.1 k }) (λ is. (ap (λ (s : Symbol). s.i) is, ap (λ (s : Symbol). s.q) is))
+    Decides-like {P = (a.i ≡ b.i) × (a.q ≡ b.q)} {Q = a ≡ b} (is_same a b) (λ (both : (a.i ≡ b.i) × (a.q ≡ b.q)). λ k. record { i = both.0 k; q = both.1 k }) (λ is. (ap (λ (s : Symbol). s.i) is, ap (λ (s : Symbol). s.q) is))
     (Decides-and (int_eq a.i b.i) (int_eq a.q b.q) (Decides-int_eq a.i b.i) (Decides-int_eq a.q b.q))
 
 pub symbols_decide : (xs ys : List Symbol) → Decides (are_same xs ys) (xs ≡ ys)
-symbols_decide xs ys = slice_eq-Decides symbol_decides xs ys (are_same xs ys) refl
+symbols_decide xs ys = slice_eq-Decides {E = is_same} symbol_decides xs ys (are_same xs ys) refl
 
 -- ---- the rule
 

@@ -65,7 +65,7 @@ passed_more rows from (first ∷ later) r are none = (are.0, passed_more rows fr
 
 -- a record that may come from one position on may come from an earlier one
 pub usable_from : (rows : Rows) (n from start : ℕ) (u : Usable) → start ≤ from → IsUsable rows n from u → IsUsable rows n start u
-usable_from rows n from start u before is = let ahead = is.use_of.ahead in record { bits = is.bits; certificate = is.certificate; use_of = record { ahead = omega (arith, before, ahead); reached = is.use_of.reached; suits = is.use_of.suits } }
+usable_from rows n from start u before is = let ahead = is.of_use.ahead in record { bits = is.bits; certificate = is.certificate; of_use = record { ahead = omega (arith, before, ahead); reached = is.of_use.reached; suits = is.of_use.suits } }
 
 -- ---- the copy
 
@@ -84,11 +84,11 @@ module _ (recording : List Symbol) (size at place : ℕ) where
   -- a frame is copied
   copied : (xs ys zs bytes more : List ℕ) → place ≤ at → 0 < size → xs ≡ bytes ++ ys → ys ≡ more ++ zs → length bytes ≡ 4 * (at - place) → length more ≡ 4 * size → (xs ≢ [] → drop place recording ≡ symbols_of xs)
       → (drop (at + size) recording ≡ symbols_of zs) × (symbols_of more ≡ take size (drop at recording))
-  copied xs ys zs bytes more after some first then long more_long from =
-      let all : length xs ≡ length bytes + (length more + length zs) = ap length first ∙ length-append bytes ys ∙ ap (λ n. length bytes + n) (ap length then ∙ length-append more zs) in
+  copied xs ys zs bytes more after some first next_is long more_long from =
+      let all : length xs ≡ length bytes + (length more + length zs) = ap length first ∙ length-append bytes ys ∙ ap (λ n. length bytes + n) (ap length next_is ∙ length-append more zs) in
       let there = from (λ none. absurd (omega (arith, ap length none, all, more_long, some))) in
       let skipped : symbols_of xs ≡ symbols_of bytes ++ symbols_of ys = ap symbols_of first ∙ symbols-append (at - place) bytes ys long in
-      let own : symbols_of ys ≡ symbols_of more ++ symbols_of zs = ap symbols_of then ∙ symbols-append size more zs more_long in
+      let own : symbols_of ys ≡ symbols_of more ++ symbols_of zs = ap symbols_of next_is ∙ symbols-append size more zs more_long in
       let count : length (symbols_of bytes) ≡ at - place = length-symbols (at - place) bytes long in
       let own_count : length (symbols_of more) ≡ size = length-symbols size more more_long in
       let place_is : place + (at - place) ≡ at = omega (arith, after) in
@@ -103,8 +103,8 @@ pub copies_whole : (size at place : ℕ) (a b c : Option (List ℕ)) (symbols : 
 copies_whole size at place None b c symbols after some skips reads = λ recording from. absurd from
 copies_whole size at place (Some xs) None c symbols after some (bytes, long, read) reads = absurd read
 copies_whole size at place (Some xs) (Some ys) None symbols after some skips (more, more_long, is, read) = absurd read
-copies_whole size at place (Some xs) (Some ys) (Some zs) symbols after some (bytes, long, first) (more, more_long, is, then) = λ recording from. (
-    let (left, own) = copied recording size at place xs ys zs bytes more after some first then long more_long from in (λ other. left, is ∙ own)
+copies_whole size at place (Some xs) (Some ys) (Some zs) symbols after some (bytes, long, first) (more, more_long, is, next_is) = λ recording from. (
+    let (left, own) = copied recording size at place xs ys zs bytes more after some first next_is long more_long from in (λ other. left, is ∙ own)
     )
 
 -- a copy at its end is one from any position on
@@ -142,14 +142,14 @@ copied_none t r size place place_new a c (copies, end) = (λ recording from. (co
 -- a record was read, and then its frame
 pub reads_frame : (t : Terms) (at place place_new : ℕ) (a b c d : Option (List ℕ)) (u : Usable) (result : Result (Option RecordedFrame) SourceFault) → ReadsUsable t.rows (n_of t.mode) (max at place) a b (Some u) → max at place ≤ u.record.at
     → IfOk result (CopiesUsable t u.record place place_new c d) → ReadsResult t at place place_new a b c d result
-reads_frame t at place place_new a b c d u (Ok None) (passed, are, none) from (copies, end) = record { records = (passed ++ u.record ∷ [], are); copy = copies; from = tt; none = λ e. inr end }
+reads_frame t at place place_new a b c d u (Ok None) (passed, are, none) from (copies, end) = record { reads = (passed ++ u.record ∷ [], are); copies = copies; from = tt; none = λ e. inr end }
 reads_frame t at place place_new a b c d u (Ok (Some f)) (passed, are, none) from (copies, is) =
-    record { records = (passed, u.record, are, none, is); copy = copies; from = subst (λ k. max at place ≤ k) (sym is.place) from; none = λ e. cc }
+    record { reads = (passed, u.record, are, none, is); copies = copies; from = subst (λ k. max at place ≤ k) (sym is.place) from; none = λ e. cc }
 reads_frame t at place place_new a b c d u (Err fault) reads from copies = tt
 
 -- there is no record left
 pub reads_none : (t : Terms) (at place : ℕ) (a b c : Option (List ℕ)) → ReadsUsable t.rows (n_of t.mode) (max at place) a b None → ReadsResult t at place place a b c c (Ok None)
-reads_none t at place a b c (passed, are, end) = record { records = (passed, are); copy = λ recording from. (from, tt); from = tt; none = λ e. inl end }
+reads_none t at place a b c (passed, are, end) = record { reads = (passed, are); copies = λ recording from. (from, tt); from = tt; none = λ e. inl end }
 
 -- what was counted
 pub counts_frame : (q q' c c' : ℕ) (result : Result (Option RecordedFrame) SourceFault) → q' ≡ q → CountsCopy c c' result → CountsSource (fault_in result) q q' c c'
@@ -217,12 +217,12 @@ module _ (t : Terms) (decide : List Symbol → Decision) (recording : List Symbo
 module _ (t : Terms) (decide : List Symbol → Decision) (at place place_new : ℕ) (a b c d : Option (List ℕ)) where
   pub true_next : (frame : Option RecordedFrame) → ReadsNext t at place place_new a b c d frame → AreTrueLeft t decide place a c → AreTrueLeft t decide place_new b d × IfSome frame (λ f. f.decision ≡ decide f.symbols)
   true_next None reads all =
-      let (passed, are) = reads.records in
-      let (copy_is, nothing) = reads.copy all.recording all.copy_is in
+      let (passed, are) = reads.reads in
+      let (copy_is, nothing) = reads.copies all.recording all.copy_is in
       (record { recording = all.recording; copy_is = copy_is; true_are = still_true t decide all.recording passed a b are all.true_are }, tt)
   true_next (Some f) reads all =
-      let (passed, r, are, none, is) = reads.records in
-      let (copy_is, own) = reads.copy all.recording all.copy_is in (
+      let (passed, r, are, none, is) = reads.reads in
+      let (copy_is, own) = reads.copies all.recording all.copy_is in (
         record { recording = all.recording; copy_is = copy_is; true_are = still_true t decide all.recording (passed ++ r ∷ []) a b are all.true_are },
         true_frame t decide all.recording r f is own (true_last t decide all.recording passed r a b are all.true_are),
       )

@@ -60,8 +60,8 @@ ReadsCopy t place place_new old new frame =
 
 -- The next frame at this position or after it was read, after what was read of the copy. Or the records or the copy are at their end
 pub record ReadsNext (t : Terms) (at place place_new : ℕ) (records records_new copy copy_new : Option (List ℕ)) (frame : Option RecordedFrame) : Type 0 where
-  pub records : ReadsFrame t (max at place) records records_new frame
-  pub copy : ReadsCopy t place place_new copy copy_new frame
+  pub reads : ReadsFrame t (max at place) records records_new frame
+  pub copies : ReadsCopy t place place_new copy copy_new frame
   pub from : IfSome frame (λ f. max at place ≤ f.at)
   pub none : frame ≡ None → IsAtEnd records_new ⊎ IsAtEnd copy_new
 

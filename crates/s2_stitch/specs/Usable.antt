@@ -12,7 +12,7 @@ use Rattle.s2_stitch.specs.declared.next.Usable.{Usable}
 pub record IsUsable (rows : Rows) (n from : ℕ) (u : Usable) : Type 0 where
   pub bits : length u.record.bits ≡ n
   pub certificate : u.certificate ≡ file_in (file_of_bytes u.record.certificate)
-  pub use_of : IsOfUse rows from u.record
+  pub of_use : IsOfUse rows from u.record
 
 -- records were read up to this one, or to their end, and the others were passed
 abbrev pub ReadsUsable : Rows → (n from : ℕ) → (old new : Option (List ℕ)) → Option Usable → Type 0

@@ -47,9 +47,8 @@ pub fn stitch_with<
     requires report { CanCount (W.count report.old) }
     requires live { IsLive receiver.old.state.phase }
     requires whole { source.old.fault ≡ None }
-    ensures runs { AreTrue D.decide Q.remaining C.remaining receiver.old.decider source.old
-        → Between (StitchesAs K.takes K.fails (own_rules D.decide receiver.old) receiver.old.state receiver.new.state sink.old sink.new) R.remaining R.count
-        P.contents P.count W.contents W.count reader.old packets.old report.old reader.new packets.new report.new result }
+    ensures runs { AreTrue D.decide Q.remaining C.remaining receiver.old.decider source.old → Between (StitchesAs K.takes K.fails (own_rules D.decide receiver.old) receiver.old.state receiver.new.state sink.old sink.new)
+        R.remaining R.count P.contents P.count W.contents W.count reader.old packets.old report.old reader.new packets.new report.new result }
     ensures counts { Between (OnlyFaultsOf (K.count sink.old) (K.count sink.new)) R.remaining R.count
         P.contents P.count W.contents W.count reader.old packets.old report.old reader.new packets.new report.new result }
     ensures source { CountsSource (source_fault result) (Q.count source.old.records) (Q.count source.new.records) (C.count source.old.copy) (C.count source.new.copy) }
