@@ -165,31 +165,31 @@ counts_record q q' c record_faults.NoMemory counts = (counts, refl)
 
 -- ---- a source
 
-module _ {Q C : Type 0} (records : Q → Option (List ℕ)) (record_reads : Q → ℕ) (copy : C → Option (List ℕ)) (copy_reads : C → ℕ) (at : ℕ) (old new : RecordSource Q C) where
+module _ (at : ℕ) (old new : RecordSource) where
   -- it gives what was read
   pub gives_frame : (frame : Option RecordedFrame) → new.terms ≡ old.terms → old.fault ≡ None → new.fault ≡ None
-      → ReadsResult old.terms at old.place new.place (records old.records) (records new.records) (copy old.copy) (copy new.copy) (Ok frame)
-      → CountsSource None (record_reads old.records) (record_reads new.records) (copy_reads old.copy) (copy_reads new.copy) → Gives records record_reads copy copy_reads at old new frame
+      → ReadsResult old.terms at old.place new.place old.records new.records old.copy new.copy (Ok frame)
+      → CountsSource None old.record_reads new.record_reads old.copy_reads new.copy_reads → Gives at old new frame
   gives_frame frame terms whole still reads counts = record {
     terms = terms;
-    gives = λ e. subst (λ f. GivesBy records copy f at old new frame) (sym still) reads;
-    counts = λ e. subst (λ f. CountsSource f (record_reads old.records) (record_reads new.records) (copy_reads old.copy) (copy_reads new.copy)) (sym still) counts;
+    gives = λ e. subst (λ f. GivesBy f at old new frame) (sym still) reads;
+    counts = λ e. subst (λ f. CountsSource f old.record_reads new.record_reads old.copy_reads new.copy_reads) (sym still) counts;
     stopped = λ other. absurd (other whole);
   }
 
   -- or it stops with a fault
   pub gives_fault : (fault : SourceFault) → new.terms ≡ old.terms → old.fault ≡ None → new.fault ≡ Some fault
-      → CountsSource (Some fault) (record_reads old.records) (record_reads new.records) (copy_reads old.copy) (copy_reads new.copy) → Gives records record_reads copy copy_reads at old new None
+      → CountsSource (Some fault) old.record_reads new.record_reads old.copy_reads new.copy_reads → Gives at old new None
   gives_fault fault terms whole is counts = record {
     terms = terms;
-    gives = λ e. subst (λ f. GivesBy records copy f at old new None) (sym is) refl;
-    counts = λ e. subst (λ f. CountsSource f (record_reads old.records) (record_reads new.records) (copy_reads old.copy) (copy_reads new.copy)) (sym is) counts;
+    gives = λ e. subst (λ f. GivesBy f at old new None) (sym is) refl;
+    counts = λ e. subst (λ f. CountsSource f old.record_reads new.record_reads old.copy_reads new.copy_reads) (sym is) counts;
     stopped = λ other. absurd (other whole);
   }
 
 -- after a fault it stays as it is
-pub gives_nothing : {Q C : Type 0} (records : Q → Option (List ℕ)) (record_reads : Q → ℕ) (copy : C → Option (List ℕ)) (copy_reads : C → ℕ) (at : ℕ) (s : RecordSource Q C) (fault : SourceFault) → s.fault ≡ Some fault → Gives records record_reads copy copy_reads at s s None
-gives_nothing records record_reads copy copy_reads at s fault is = record { terms = refl; gives = λ none. cc; counts = λ none. cc; stopped = λ other. (refl, refl) }
+pub gives_nothing : (at : ℕ) (s : RecordSource) (fault : SourceFault) → s.fault ≡ Some fault → Gives at s s None
+gives_nothing at s fault is = record { terms = refl; gives = λ none. cc; counts = λ none. cc; stopped = λ other. (refl, refl) }
 
 -- ---- true records
 
@@ -214,15 +214,19 @@ module _ (t : Terms) (decide : List Symbol → Decision) (recording : List Symbo
       is.decided ∙ ap (λ s. decision_by t s r) there ∙ so ∙ ap decide (sym there)
 
 -- after the next frame was read, all is still true
-module _ (t : Terms) (decide : List Symbol → Decision) (at place place_new : ℕ) (a b c d : Option (List ℕ)) where
-  pub true_next : (frame : Option RecordedFrame) → ReadsNext t at place place_new a b c d frame → AreTrueLeft t decide place a c → AreTrueLeft t decide place_new b d × IfSome frame (λ f. f.decision ≡ decide f.symbols)
+module _ (decide : List Symbol → Decision) (at : ℕ) (old new : RecordSource) (terms : new.terms ≡ old.terms) where
+  left_true : (recording : List Symbol) (read : List Record) → AreRead (n_of old.terms.mode) read old.records new.records → IsCopyFrom recording new.place new.copy → AreTrueIn old.terms decide recording old.records → AreTrueLeft decide new
+  left_true recording read are copy_is all =
+      record { recording = recording; copy_is = copy_is; true_are = subst (λ t. AreTrueIn t decide recording new.records) (sym terms) (still_true old.terms decide recording read old.records new.records are all) }
+
+  pub true_next : (frame : Option RecordedFrame) → ReadsNext old.terms at old.place new.place old.records new.records old.copy new.copy frame → AreTrueLeft decide old → AreTrueLeft decide new × IfSome frame (λ f. f.decision ≡ decide f.symbols)
   true_next None reads all =
       let (passed, are) = reads.reads in
       let (copy_is, nothing) = reads.copies all.recording all.copy_is in
-      (record { recording = all.recording; copy_is = copy_is; true_are = still_true t decide all.recording passed a b are all.true_are }, tt)
+      (left_true all.recording passed are copy_is all.true_are, tt)
   true_next (Some f) reads all =
       let (passed, r, are, none, is) = reads.reads in
       let (copy_is, own) = reads.copies all.recording all.copy_is in (
-        record { recording = all.recording; copy_is = copy_is; true_are = still_true t decide all.recording (passed ++ r ∷ []) a b are all.true_are },
-        true_frame t decide all.recording r f is own (true_last t decide all.recording passed r a b are all.true_are),
+        left_true all.recording (passed ++ r ∷ []) are copy_is all.true_are,
+        true_frame old.terms decide all.recording r f is own (true_last old.terms decide all.recording passed r old.records new.records are all.true_are),
       )

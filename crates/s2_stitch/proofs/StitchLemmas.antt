@@ -28,32 +28,30 @@ use Rattle.s2_stitch.proofs.SourceLemmas.{true_next}
 
 -- ---- a supply
 
-module _ {D Q C : Type 0} (decide : D → List Symbol → Decision) (records : Q → Option (List ℕ)) (record_reads : Q → ℕ) (copy : C → Option (List ℕ)) (copy_reads : C → ℕ) (at : ℕ) (old new : Recalling D) (s s' : RecordSource Q C)
-    (supplies : Supplies records record_reads copy copy_reads at old new s s') (whole : s.fault ≡ None) where
+module _ {D : Type 0} (at : ℕ) (old new : Recalling D) (s s' : RecordSource) (supplies : Supplies at old new s s') (whole : s.fault ≡ None) where
   -- what is true stays true
-  pub true_supplied : s'.fault ≡ None → AreTrue decide records copy old s → AreTrue decide records copy new s'
-  true_supplied still all = by (is_ahead at old.held) supplies.held
+  pub true_supplied : (decide : D → List Symbol → Decision) → s'.fault ≡ None → AreTrue decide old s → AreTrue decide new s'
+  true_supplied decide still all = by (is_ahead at old.held) supplies.held
     where
-      by : (ahead : Bool) → HoldsNext records record_reads copy copy_reads ahead at old new s s' → AreTrue decide records copy new s'
-      by true (same, same_source) = subst (λ r. AreTrue decide records copy r s') (sym same) (subst (λ x. AreTrue decide records copy old x) (sym same_source) all)
+      by : (ahead : Bool) → HoldsNext ahead at old new s s' → AreTrue decide new s'
+      by true (same, same_source) = subst (λ r. AreTrue decide r s') (sym same) (subst (λ x. AreTrue decide old x) (sym same_source) all)
       by false (none, gives) =
-          let reads = subst (λ f. GivesBy records copy f at s s' new.held) still (gives.gives whole) in
-          let (left, held) = true_next s.terms (decide old.decider) at s.place s'.place (records s.records) (records s'.records) (copy s.copy) (copy s'.copy) new.held reads all.left in
+          let reads = subst (λ f. GivesBy f at s s' new.held) still (gives.gives whole) in
+          let (left, held) = true_next (decide old.decider) at s s' gives.terms new.held reads all.left in
           let own : decide new.decider ≡ decide old.decider = ap decide supplies.decider in
           record {
             held = subst (λ r. recalls r new.held ≡ r) (sym own) (rule_is (decide old.decider) new.held held);
-            left = subst (λ r. AreTrueLeft s'.terms r s'.place (records s'.records) (copy s'.copy)) (sym own)
-                (subst (λ t. AreTrueLeft t (decide old.decider) s'.place (records s'.records) (copy s'.copy)) (sym gives.terms) left);
+            left = subst (λ r. AreTrueLeft r s') (sym own) left;
           }
 
   -- only failed reads are counted
-  pub counted_supplied : CountsSource s'.fault (record_reads s.records) (record_reads s'.records) (copy_reads s.copy) (copy_reads s'.copy)
+  pub counted_supplied : CountsSource s'.fault s.record_reads s'.record_reads s.copy_reads s'.copy_reads
   counted_supplied = by (is_ahead at old.held) supplies.held
     where
-      by : (ahead : Bool) → HoldsNext records record_reads copy copy_reads ahead at old new s s' → CountsSource s'.fault (record_reads s.records) (record_reads s'.records) (copy_reads s.copy) (copy_reads s'.copy)
+      by : (ahead : Bool) → HoldsNext ahead at old new s s' → CountsSource s'.fault s.record_reads s'.record_reads s.copy_reads s'.copy_reads
       by true (same, same_source) =
-          subst (λ (x : RecordSource Q C). CountsSource x.fault (record_reads s.records) (record_reads x.records) (copy_reads s.copy) (copy_reads x.copy)) (sym same_source)
-          (subst (λ f. CountsSource f (record_reads s.records) (record_reads s.records) (copy_reads s.copy) (copy_reads s.copy)) (sym whole) (refl, refl))
+          subst (λ (x : RecordSource). CountsSource x.fault s.record_reads x.record_reads s.copy_reads x.copy_reads) (sym same_source)
+          (subst (λ f. CountsSource f s.record_reads s.record_reads s.copy_reads s.copy_reads) (sym whole) (refl, refl))
       by false (none, gives) = gives.counts whole
 
 -- without a fault nothing is counted
@@ -107,20 +105,19 @@ module _ {D : Type 0} (decide : D → List Symbol → Decision) where
   }
 
   -- what is true stays true in a step
-  pub true_stepped : {Q C : Type 0} (records : Q → Option (List ℕ)) (copy : C → Option (List ℕ)) (old new : Receiver (Recalling D)) (s : RecordSource Q C) → IsSame (recall_rule decide) old new → own_rule decide new.decider ≡ own_rule decide old.decider
-      → AreTrue decide records copy old.decider s → AreTrue decide records copy new.decider s
-  true_stepped records copy old new s same own all = record {
+  pub true_stepped : (old new : Receiver (Recalling D)) (s : RecordSource) → IsSame (recall_rule decide) old new → own_rule decide new.decider ≡ own_rule decide old.decider
+      → AreTrue decide old.decider s → AreTrue decide new.decider s
+  true_stepped old new s same own all = record {
     held = ap (λ (x : Rules). x.decide) same.rules ∙ all.held ∙ sym own;
-    left = subst (λ r. AreTrueLeft s.terms r s.place (records s.records) (copy s.copy)) (sym own) all.left;
+    left = subst (λ r. AreTrueLeft r s) (sym own) all.left;
   }
 
   -- if all is true, the rules are those of the receiver that decides by itself
   rules_own : (r : Receiver (Recalling D)) → recall_rule decide r.decider ≡ own_rule decide r.decider → rules_of (recall_rule decide) r ≡ own_rules decide r
   rules_own r is = λ i. record { finds = found_as r.sought r.max_header_errors; size = symbols_in r.sought.mode; resync = r.resync; decide = is i; limit = r.limit }
 
-  pub rules_true : {Q C : Type 0} (records : Q → Option (List ℕ)) (copy : C → Option (List ℕ)) (start mid : Receiver (Recalling D)) (s : RecordSource Q C) → IsSame (own_rule decide) start mid → AreTrue decide records copy mid.decider s
-      → rules_of (recall_rule decide) mid ≡ own_rules decide start
-  rules_true records copy start mid s same all = rules_own mid all.held ∙ same.rules
+  pub rules_true : (start mid : Receiver (Recalling D)) (s : RecordSource) → IsSame (own_rule decide) start mid → AreTrue decide mid.decider s → rules_of (recall_rule decide) mid ≡ own_rules decide start
+  rules_true start mid s same all = rules_own mid all.held ∙ same.rules
 
 module _ {S : Type 0} (takes fails : Taking S) (rules : Rules) (old new : State) (b c : Streams) (l m : S) where
   -- a step that was not the last brings the end nearer

@@ -35,6 +35,7 @@ abbrev pub recalled_by : (is_recalled : Bool) → Option RecordedFrame → Optio
 recalled_by true held = held
 recalled_by false held = None
 
+-- the same of a recalling decider
 abbrev pub recalled : {D : Type 0} → Recalling D → Option RecordedFrame
 recalled r = recalled_by r.is_recalled r.held
 

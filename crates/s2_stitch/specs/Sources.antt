@@ -15,14 +15,21 @@ use Rattle.s2_stitch.specs.Records.{AreRecords, Record}
 use Rattle.s2_stitch.specs.declared.fault.SourceFault.{SourceFault}
 use Rattle.s2_stitch.specs.declared.fault.SourceFault.TheVariants as faults
 
--- a source: how frames are read, the readers of the records and of the copy, the copy's position in symbols, and the fault that
--- stopped it
-pub record RecordSource (Q C : Type 0) : Type 0 where
+-- a source: how frames are read, the unread bytes of the records and of the copy, if they are known, and how many reads of each have
+-- failed. Then the copy's position in symbols, and the fault that stopped the source
+pub record RecordSource : Type 0 where
   pub terms : Terms
-  pub records : Q
-  pub copy : C
+  pub records : Option (List ℕ)
+  pub copy : Option (List ℕ)
+  pub record_reads : ℕ
+  pub copy_reads : ℕ
   pub place : ℕ
   pub fault : Option SourceFault
+
+-- one of two readers
+abbrev pub source_by : {Q C : Type 0} → (Q → Option (List ℕ)) → (Q → ℕ) → (C → Option (List ℕ)) → (C → ℕ) → Terms → Q → C → (place : ℕ) → Option SourceFault → RecordSource
+source_by remaining count remaining_copy count_copy t records copy place fault =
+    record { terms = t; records = remaining records; copy = remaining_copy copy; record_reads = count records; copy_reads = count_copy copy; place = place; fault = fault }
 
 -- ---- what is read
 
@@ -83,15 +90,15 @@ fault_in (Ok value) = None
 fault_in (Err fault) = Some fault
 
 -- the next frame was read, or none is left; after a fault there is none
-abbrev pub GivesBy : {Q C : Type 0} → (Q → Option (List ℕ)) → (C → Option (List ℕ)) → Option SourceFault → ℕ → (old new : RecordSource Q C) → Option RecordedFrame → Type 0
-GivesBy records copy None at old new frame = ReadsNext old.terms at old.place new.place (records old.records) (records new.records) (copy old.copy) (copy new.copy) frame
-GivesBy records copy (Some fault) at old new frame = frame ≡ None
+abbrev pub GivesBy : Option SourceFault → ℕ → (old new : RecordSource) → Option RecordedFrame → Type 0
+GivesBy None at old new frame = ReadsNext old.terms at old.place new.place old.records new.records old.copy new.copy frame
+GivesBy (Some fault) at old new frame = frame ≡ None
 
 -- What a source gives for the next frame, at this position or after it. After a fault it gives nothing and reads nothing
-pub record Gives {Q C : Type 0} (records : Q → Option (List ℕ)) (record_reads : Q → ℕ) (copy : C → Option (List ℕ)) (copy_reads : C → ℕ) (at : ℕ) (old new : RecordSource Q C) (frame : Option RecordedFrame) : Type 0 where
+pub record Gives (at : ℕ) (old new : RecordSource) (frame : Option RecordedFrame) : Type 0 where
   pub terms : new.terms ≡ old.terms
-  pub gives : old.fault ≡ None → GivesBy records copy new.fault at old new frame
-  pub counts : old.fault ≡ None → CountsSource new.fault (record_reads old.records) (record_reads new.records) (copy_reads old.copy) (copy_reads new.copy)
+  pub gives : old.fault ≡ None → GivesBy new.fault at old new frame
+  pub counts : old.fault ≡ None → CountsSource new.fault old.record_reads new.record_reads old.copy_reads new.copy_reads
   pub stopped : old.fault ≢ None → (new ≡ old) × (frame ≡ None)
 
 -- ---- true records
@@ -103,7 +110,7 @@ AreTrueIn t decide recording (Some bytes) =
     (before : List Record) (r : Record) (rest : List ℕ) → AreRecords (n_of t.mode) (before ++ r ∷ []) bytes rest → IsTrueRecord t decide recording r
 
 -- the records that are left are true for the recording that the copy is of
-pub record AreTrueLeft (t : Terms) (decide : List Symbol → Decision) (place : ℕ) (records copy : Option (List ℕ)) : Type 0 where
+pub record AreTrueLeft (decide : List Symbol → Decision) (s : RecordSource) : Type 0 where
   pub recording : List Symbol
-  pub copy_is : IsCopyFrom recording place copy
-  pub true_are : AreTrueIn t decide recording records
+  pub copy_is : IsCopyFrom recording s.place s.copy
+  pub true_are : AreTrueIn s.terms decide recording s.records

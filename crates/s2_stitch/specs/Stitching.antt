@@ -3,6 +3,7 @@ use Rattle.std.specs.Prelude.{◌≡◌, ℕ, Bool, true, false, List, Option, S
 use Rattle.s2_mode.specs.Streams.{Streams}
 use Rattle.s2_mode.specs.declared.stream_fault.StreamFault.TheVariants as streams
 use Rattle.s2_mode.specs.declared.symbols.Symbol.{Symbol}
+use Rattle.s2_receive.specs.Answers.{Between}
 use Rattle.s2_receive.specs.Meeting.{Met}
 use Rattle.s2_receive.specs.Receiving.{Decision, IsLive, Processed, Receiver, Rules, State, rules_of}
 use Rattle.s2_receive.specs.Sinks.{OnlyFailedWith, RunAnswersWith, TakesFrames, Taking, frames_of}
@@ -18,14 +19,14 @@ use Rattle.s2_stitch.specs.declared.fault.StitchFault.TheVariants as faults
 -- ---- a decider and its source
 
 -- a frame that is still to come is kept; else the source gives the next one
-abbrev pub HoldsNext : {D Q C : Type 0} → (Q → Option (List ℕ)) → (Q → ℕ) → (C → Option (List ℕ)) → (C → ℕ) → (is_ahead : Bool) → ℕ → (old new : Recalling D) → (source source_new : RecordSource Q C) → Type 0
-HoldsNext records record_reads copy copy_reads true at old new source source_new = (new ≡ old) × (source_new ≡ source)
-HoldsNext records record_reads copy copy_reads false at old new source source_new = (new.is_recalled ≡ false) × Gives records record_reads copy copy_reads at source source_new new.held
+abbrev pub HoldsNext : {D : Type 0} → (is_ahead : Bool) → ℕ → (old new : Recalling D) → (source source_new : RecordSource) → Type 0
+HoldsNext true at old new source source_new = (new ≡ old) × (source_new ≡ source)
+HoldsNext false at old new source source_new = (new.is_recalled ≡ false) × Gives at source source_new new.held
 
 -- a decider took from a source what it has for the next frame, at this position or after it
-pub record Supplies {D Q C : Type 0} (records : Q → Option (List ℕ)) (record_reads : Q → ℕ) (copy : C → Option (List ℕ)) (copy_reads : C → ℕ) (at : ℕ) (old new : Recalling D) (source source_new : RecordSource Q C) : Type 0 where
+pub record Supplies {D : Type 0} (at : ℕ) (old new : Recalling D) (source source_new : RecordSource) : Type 0 where
   pub decider : new.decider ≡ old.decider
-  pub held : HoldsNext records record_reads copy copy_reads (is_ahead at old.held) at old new source source_new
+  pub held : HoldsNext (is_ahead at old.held) at old new source source_new
 
 -- the decision that a decider makes by itself
 abbrev pub own_rule : {D : Type 0} → (D → List Symbol → Decision) → Recalling D → List Symbol → Decision
@@ -36,9 +37,9 @@ abbrev pub recall_rule : {D : Type 0} → (D → List Symbol → Decision) → R
 recall_rule decide r = recalls (decide r.decider) r.held
 
 -- The frame that is held and the records that are left are true: their decisions are those that the decider makes by itself
-pub record AreTrue {D Q C : Type 0} (decide : D → List Symbol → Decision) (records : Q → Option (List ℕ)) (copy : C → Option (List ℕ)) (r : Recalling D) (source : RecordSource Q C) : Type 0 where
+pub record AreTrue {D : Type 0} (decide : D → List Symbol → Decision) (r : Recalling D) (source : RecordSource) : Type 0 where
   pub held : recall_rule decide r ≡ own_rule decide r
-  pub left : AreTrueLeft source.terms (own_rule decide r) source.place (records source.records) (copy source.copy)
+  pub left : AreTrueLeft (own_rule decide r) source
 
 -- ---- a run
 
@@ -55,6 +56,14 @@ abbrev pub StitchesAs : {S : Type 0} → (takes fails : Taking S) → Rules → 
 StitchesAs takes fails rules old new sink_old sink_new before behind (Ok received) = RunAnswersWith takes fails rules old new sink_old sink_new before behind (Ok received)
 StitchesAs takes fails rules old new sink_old sink_new before behind (Err (faults.Stream fault)) = RunAnswersWith takes fails rules old new sink_old sink_new before behind (Err fault)
 StitchesAs takes fails rules old new sink_old sink_new before behind (Err (faults.Source fault)) = HasMet takes rules old new sink_old sink_new before behind
+
+-- the same from a receiver to another, with a source, a sink, a reader and two writers, if the frame that is held and the records that
+-- are left are true
+abbrev pub StitchesIfTrue :
+    {D S R P W : Type 0} → (D → List Symbol → Decision) → (takes fails : Taking S) → (R → Option (List ℕ)) → (R → ℕ) → (P → Option (List ℕ)) → (P → ℕ) → (W → Option (List ℕ)) → (W → ℕ)
+    → Receiver (Recalling D) → RecordSource → S → R → P → W → Receiver (Recalling D) → S → R → P → W → Result Received StitchFault → Type 0
+StitchesIfTrue decide takes fails taken reads given writes out prints old source k r p w new k' r' p' w' result =
+    AreTrue decide old.decider source → Between (StitchesAs takes fails (own_rules decide old) old.state new.state k k') taken reads given writes out prints r p w r' p' w' result
 
 -- only failed calls of the streams and of the sink were counted, as the fault says
 abbrev pub OnlyFaultsOf : (count_old count_new : ℕ) → (before behind : Streams) → Result Received StitchFault → Type 0

@@ -135,9 +135,9 @@ impl<'a, D: Decide, Q: CountedRead, C: CountedRead> Supplied<RecordSource<'a, Q,
     ghost use Rattle.s2_mode.specs.Counts.{CanCount};
     ghost use Rattle.s2_stitch.specs.Stitching.{Supplies};
 
-    ghost can = { λ s. CanCount (Q.count s.records) × CanCount (C.count s.copy) };
+    ghost can = { λ s. CanCount s.record_reads × CanCount s.copy_reads };
 
-    ghost supplies = { Supplies Q.remaining Q.count C.remaining C.count };
+    ghost supplies = { Supplies };
 
     /// Keeps the frame that it holds if that is still to come, else takes the next one.
     fn supply(&mut self, alloc: Global, source: &mut RecordSource<'a, Q, C>, at: u64) {

@@ -4,7 +4,7 @@ ghost use Rattle.s2_mode.specs.Counts.{CanCount};
 ghost use Rattle.s2_receive.specs.Answers.{Between, IsSame};
 ghost use Rattle.s2_receive.specs.Receiving.{IsLive, taken};
 ghost use Rattle.s2_stitch.specs.Sources.{CountsSource};
-ghost use Rattle.s2_stitch.specs.Stitching.{AreTrue, IsLeftIn, OnlyFaultsOf, StitchesAs, own_rule, own_rules, source_fault};
+ghost use Rattle.s2_stitch.specs.Stitching.{IsLeftIn, OnlyFaultsOf, StitchesIfTrue, own_rule, source_fault};
 
 use crate::fault::StitchFault;
 use crate::recalling::Recalling;
@@ -39,19 +39,19 @@ pub fn stitch_with<
     packets: &mut P,
     report: &mut W,
 ) -> Result<Received, StitchFault>
-    requires records { CanCount (Q.count source.old.records) }
-    requires copy { CanCount (C.count source.old.copy) }
+    requires records { CanCount source.old.record_reads }
+    requires copy { CanCount source.old.copy_reads }
     requires reader { CanCount (R.count reader.old) }
     requires sink { CanCount (K.count sink.old) }
     requires packets { CanCount (P.count packets.old) }
     requires report { CanCount (W.count report.old) }
     requires live { IsLive receiver.old.state.phase }
     requires whole { source.old.fault ≡ None }
-    ensures runs { AreTrue D.decide Q.remaining C.remaining receiver.old.decider source.old → Between (StitchesAs K.takes K.fails (own_rules D.decide receiver.old) receiver.old.state receiver.new.state sink.old sink.new)
-        R.remaining R.count P.contents P.count W.contents W.count reader.old packets.old report.old reader.new packets.new report.new result }
+    ensures runs { StitchesIfTrue D.decide K.takes K.fails R.remaining R.count P.contents P.count W.contents W.count
+        receiver.old source.old sink.old reader.old packets.old report.old receiver.new sink.new reader.new packets.new report.new result }
     ensures counts { Between (OnlyFaultsOf (K.count sink.old) (K.count sink.new)) R.remaining R.count
         P.contents P.count W.contents W.count reader.old packets.old report.old reader.new packets.new report.new result }
-    ensures source { CountsSource (source_fault result) (Q.count source.old.records) (Q.count source.new.records) (C.count source.old.copy) (C.count source.new.copy) }
+    ensures source { CountsSource (source_fault result) source.old.record_reads source.new.record_reads source.old.copy_reads source.new.copy_reads }
     ensures left { IsLeftIn receiver.new.state.phase result }
     ensures bounded { taken receiver.new.state ≤ receiver.old.limit }
     ensures same { IsSame (own_rule D.decide) receiver.old receiver.new }

@@ -5,7 +5,7 @@ ghost use Rattle.s2_mode.specs.Counts.{CanCount};
 ghost use Rattle.s2_mode.specs.Mode.{n_of, symbols_in};
 ghost use Rattle.s2_stitch.specs.Copies.{CountsCopy};
 ghost use Rattle.s2_stitch.specs.Frames.{IsFrameOf, terms_by};
-ghost use Rattle.s2_stitch.specs.Sources.{CountsSource, Gives, ReadsResult, fault_in};
+ghost use Rattle.s2_stitch.specs.Sources.{CountsSource, Gives, ReadsResult, fault_in, source_by};
 ghost use Rattle.s2_stitch.specs.Usable.{CopiesUsable, IsUsable};
 
 use crate::copy::copy_frame;
@@ -74,7 +74,8 @@ fn next_frame<'a, Q: CountedRead, C: CountedRead>(
 
 /// Reads records, and beside them a copy of the recording that they are of. Both are read once, in order.
 ///
-/// In contracts, it is how frames are read, the two readers, the copy's position in symbols, and the fault that stopped it.
+/// In contracts, it is how frames are read, the unread bytes of the two readers, how many reads of each have failed, the copy's
+/// position in symbols, and the fault that stopped it.
 pub struct RecordSource<'a, Q: CountedRead, C: CountedRead> {
     matrix: &'a Matrix,
     mode: Mode,
@@ -102,11 +103,11 @@ impl<'a, Q: CountedRead + Drop, C: CountedRead + Drop> Drop for RecordSource<'a,
 impl<'a, Q: CountedRead, C: CountedRead> Model for RecordSource<'a, Q, C> {
     ghost use Rattle.std.specs.Prelude.{◌≡◌};
     ghost use Rattle.s2_stitch.specs.Frames.{terms_by};
-    ghost use Rattle.s2_stitch.specs.Sources.{RecordSource as RecordSourceValue};
+    ghost use Rattle.s2_stitch.specs.Sources.{RecordSource as RecordSourceValue, source_by};
 
-    ghost Value = { RecordSourceValue Q C };
+    ghost Value = { RecordSourceValue };
 
-    ghost view = { λ s. record { terms = terms_by s.matrix.now s.reader; records = s.records; copy = s.copy; place = s.place; fault = s.fault } };
+    ghost view = { λ s. source_by Q.remaining Q.count C.remaining C.count (terms_by s.matrix.now s.reader) s.records s.copy s.place s.fault };
 
     ghost invariant = { λ s. s.mode ≡ s.reader.mode };
 }
@@ -126,9 +127,8 @@ impl<'a, Q: CountedRead, C: CountedRead> RecordSource<'a, Q, C> {
     where
         Q: Drop,
         C: Drop,
-        ensures terms { IfOk result (λ s. s.terms ≡ record { rows = matrix.now; mode = mode; number = number; options = options }) }
-        ensures readers { IfOk result (λ s. (s.records ≡ records) × (s.copy ≡ copy)) }
-        ensures begun { IfOk result (λ s. (s.place ≡ 0) × (s.fault ≡ None)) }
+        ensures { IfOk result (λ s. s ≡ source_by Q.remaining Q.count C.remaining C.count
+            (record { rows = matrix.now; mode = mode; number = number; options = options }) records copy 0 None) }
     {
         let reader = FrameReader::new(alloc, mode, number, options)?;
         Ok(RecordSource {
@@ -153,9 +153,9 @@ impl<'a, Q: CountedRead, C: CountedRead> RecordSource<'a, Q, C> {
     /// the position up to which the copy was read, and records whose certificate does not suit the matrix. `None` at the end of the
     /// records, if the copy ends before the frame is whole, and after a fault.
     pub fn next(&mut self, alloc: Global, at: u64) -> Option<RecordedFrame<'a>>
-        requires records { CanCount (Q.count self.old.records) }
-        requires copy { CanCount (C.count self.old.copy) }
-        ensures { Gives Q.remaining Q.count C.remaining C.count at self.old self.new result }
+        requires records { CanCount self.old.record_reads }
+        requires copy { CanCount self.old.copy_reads }
+        ensures { Gives at self.old self.new result }
     {
         if self.fault.is_some() {
             return None;

@@ -24,7 +24,7 @@ returns-in-Some-clause-runs g c = λ all.
 pub returns-in-Some-clause-source : goal.returns-in-Some-clause-source
 returns-in-Some-clause-source g c =
     let so = c.steps.invariant in
-    counted_fault _ _ _ _ _ _ _ _ c.in-Some.ensures (counted_supplied g.D.Decide.decide g.Q.CountedRead.remaining g.Q.Counted.count g.C.CountedRead.remaining g.C.Counted.count _ _ _ _ _ c.supply.ensures.supplies so.whole) so.read.0 so.read.1
+    counted_fault _ _ _ _ _ _ _ _ c.in-Some.ensures (counted_supplied _ _ _ _ _ c.supply.ensures.supplies so.whole) so.read.0 so.read.1
 
 pub returns-in-Some-clause-left : goal.returns-in-Some-clause-left
 returns-in-Some-clause-left g c =
@@ -43,9 +43,9 @@ returns-then-eq-clause-runs g c = λ all.
     let state = ap (λ (r : Receiver (Recalling g.row.D.Denot)). r.state) c.supply.ensures.rest in
     let whole : c.supply.new.source.fault ≡ None = search common in
     let (now, came) = so.came all in
-    let so_mid = true_supplied decide g.Q.CountedRead.remaining g.Q.Counted.count g.C.CountedRead.remaining g.C.Counted.count _ _ mid.decider _ c.supply.new.source supplies so.whole whole now in
+    let so_mid = true_supplied _ _ mid.decider _ c.supply.new.source supplies so.whole decide whole now in
     let same = same_both decide c.args.receiver.now c.steps.receiver mid so.same (same_supplied decide c.steps.receiver mid c.supply.ensures.rest supplies.decider) in
-    let rules = rules_true decide g.Q.CountedRead.remaining g.C.CountedRead.remaining c.args.receiver.now mid c.supply.new.source same so_mid in
+    let rules = rules_true decide c.args.receiver.now mid c.supply.new.source same so_mid in
     let live = subst (λ (s : State). IsLive s.phase) (sym state) so.live in
     let (run, took) = finishes _ g.K.Sink.takes g.K.Sink.fails _ _ _ rules c.in-Ok.step c.steps.all_certified (search common) (came_at g.K.Sink.takes _ _ _ mid.state _ _ _ _ _ state came) (c.in-Ok.ensures.steps.live live) in
     ((run, search common, search common), took)
@@ -70,14 +70,14 @@ steps-preserved g c =
     let live = subst (λ (s : State). IsLive s.phase) (sym state) so.live in
     let answers = c.in-Ok.ensures.steps.live live in
     let (none, kept_count) = c.in-Ok.ensures.steps.counts.no_write (λ x. cc) in
-    let counted = counted_supplied decide g.Q.CountedRead.remaining g.Q.Counted.count g.C.CountedRead.remaining g.C.Counted.count _ _ mid.decider _ source supplies so.whole in
+    let counted = counted_supplied _ _ mid.decider _ source supplies so.whole in
     record {
       came = λ all. (
           let (now, came) = so.came all in
-          let so_mid = true_supplied decide g.Q.CountedRead.remaining g.Q.Counted.count g.C.CountedRead.remaining g.C.Counted.count _ _ mid.decider _ source supplies so.whole whole now in
-          let rules = rules_true decide g.Q.CountedRead.remaining g.C.CountedRead.remaining c.args.receiver.now mid source same so_mid in
+          let so_mid = true_supplied _ _ mid.decider _ source supplies so.whole decide whole now in
+          let rules = rules_true decide c.args.receiver.now mid source same so_mid in
           let on = goes _ g.K.Sink.takes g.K.Sink.fails _ _ _ rules c.in-Ok.step c.steps.all_certified (λ e. search common) (came_at g.K.Sink.takes _ _ _ mid.state _ _ _ _ _ state came) answers live in
-          (true_stepped decide g.Q.CountedRead.remaining g.C.CountedRead.remaining mid new source c.next_with.ensures.same c.next_with.ensures.unaided so_mid, rw c.is_certified_step-all_certified.ensures on.0)
+          (true_stepped decide mid new source c.next_with.ensures.same c.next_with.ensures.unaided so_mid, rw c.is_certified_step-all_certified.ensures on.0)
           );
       same = same_both decide c.args.receiver.now mid new same (same_stepped decide mid new c.next_with.ensures.same c.next_with.ensures.unaided);
       live = (nears g.K.Sink.takes g.K.Sink.fails _ mid.state new.state _ _ _ _ c.in-Ok.step (λ e. search common) answers live).0;
@@ -112,9 +112,9 @@ returns-in-Err-clause-runs g c = λ all.
     let state = ap (λ (r : Receiver (Recalling g.row.D.Denot)). r.state) c.supply.ensures.rest in
     let whole : c.supply.new.source.fault ≡ None = search common in
     let (now, came) = so.came all in
-    let so_mid = true_supplied decide g.Q.CountedRead.remaining g.Q.Counted.count g.C.CountedRead.remaining g.C.Counted.count _ _ mid.decider _ c.supply.new.source supplies so.whole whole now in
+    let so_mid = true_supplied _ _ mid.decider _ c.supply.new.source supplies so.whole decide whole now in
     let same = same_both decide c.args.receiver.now c.steps.receiver mid so.same (same_supplied decide c.steps.receiver mid c.supply.ensures.rest supplies.decider) in
-    let rules = rules_true decide g.Q.CountedRead.remaining g.C.CountedRead.remaining c.args.receiver.now mid c.supply.new.source same so_mid in
+    let rules = rules_true decide c.args.receiver.now mid c.supply.new.source same so_mid in
     let live = subst (λ (s : State). IsLive s.phase) (sym state) so.live in
     let told = sym c.of_stream.ensures in
     breaks_off _ g.K.Sink.takes g.K.Sink.fails _ _ _ rules c.steps.all_certified c.of_stream.result (came_at g.K.Sink.takes _ _ _ mid.state _ _ _ _ _ state came) (rw told at (c.in-Err.ensures.steps.live live)) so.counts.0

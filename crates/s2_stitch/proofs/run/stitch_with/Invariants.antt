@@ -12,8 +12,8 @@ abbrev pub invariant-steps : goal.invariant-steps
 invariant-steps g l =
     let ends = streams_by g.R.CountedRead.remaining g.R.Counted.count g.P.CountedWrite.contents g.P.Counted.count g.W.CountedWrite.contents g.W.Counted.count in
     record {
-      came : AreTrue g.D.Decide.decide g.Q.CountedRead.remaining g.C.CountedRead.remaining l.fn.receiver.decider l.fn.source
-          → AreTrue g.D.Decide.decide g.Q.CountedRead.remaining g.C.CountedRead.remaining l.receiver.decider l.source
+      came : AreTrue g.D.Decide.decide l.fn.receiver.decider l.fn.source
+          → AreTrue g.D.Decide.decide l.receiver.decider l.source
           × Came (own_rules g.D.Decide.decide l.fn.receiver) g.K.Sink.takes l.fn.receiver.state l.receiver.state (ends l.fn.reader l.fn.packets l.fn.report) (ends l.reader l.packets l.report) l.fn.sink l.sink l.all_certified;
       same : IsSame (own_rule g.D.Decide.decide) l.fn.receiver l.receiver;
       live : IsLive l.receiver.state.phase;
@@ -21,7 +21,7 @@ invariant-steps g l =
       counts :
           (g.R.Counted.count l.reader ≡ g.R.Counted.count l.fn.reader) × (g.K.Sink.count l.sink ≡ g.K.Sink.count l.fn.sink) × (g.P.Counted.count l.packets ≡ g.P.Counted.count l.fn.packets)
           × (g.W.Counted.count l.report ≡ g.W.Counted.count l.fn.report);
-      read : (g.Q.Counted.count l.source.records ≡ g.Q.Counted.count l.fn.source.records) × (g.C.Counted.count l.source.copy ≡ g.C.Counted.count l.fn.source.copy);
+      read : (l.source.record_reads ≡ l.fn.source.record_reads) × (l.source.copy_reads ≡ l.fn.source.copy_reads);
     }
 
 -- how many frames, and the end, may still be met at most
