@@ -1,10 +1,11 @@
 -- Frames that are decided by records.
-use Rattle.std.proofs.Common.{◌≡◌, ℕ, ℤ, Bool, List, length, take, drop, Option, Some, None, IfSome, Result, Ok, Err, refl, sym, ap, subst, ◌∙◌}
+use Rattle.std.proofs.Common.{◌≡◌, ℕ, ℤ, Bool, List, length, take, drop, Option, Some, None, IfSome, IsSome, ◌↔◌, refl, sym, ap, subst, ◌∙◌}
 use Rattle.s2_mode.specs.Mode.{Mode, symbols_in}
 use Rattle.s2_mode.specs.declared.symbols.Symbol.{Symbol}
 use Rattle.s2_rows.specs.Rows.{Rows}
 use Rattle.s2_certfile.specs.File.{File}
 use Rattle.s2_certfile.specs.Format.{file_of_bytes}
+use Rattle.s2_check.specs.CertificateFiles.{Suits, view_of}
 use Rattle.s2_check.specs.Views.{View}
 use Rattle.s2_check.specs.declared.verdict.Verdict.{Verdict}
 use Rattle.s2_receive.specs.Receiving.{Decision}
@@ -43,3 +44,8 @@ module _ (rows : Rows) (old mid new : FrameReader) (r : Record) (symbols : List 
       (λ i. shown_decision soft r.bits certificate (message_is i) d (field_is i))
       ∙ decides certificate
       ∙ (λ i. decision_with (same.mode i) (same.number i) (same.options i) symbols (soft_is i) r.verdict r.bits (certificate_of rows (file_is i)) r.rounds)
+
+-- a certificate that suits the rows is lent as a view
+pub lent : (rows : Rows) (file : File) (view : Option View) → Suits rows file → (IsSome view ↔ Suits rows file) → IfSome view (λ v. v ≡ view_of rows file) → view ≡ certificate_of rows (Some file)
+lent rows file None suits found value = let none = found.1 suits in cc
+lent rows file (Some v) suits found value = ap (λ x. Some x) value
