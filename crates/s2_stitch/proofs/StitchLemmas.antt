@@ -18,7 +18,7 @@ use Rattle.s2_receive.specs.declared.report.Phase.TheVariants as phases
 use Rattle.s2_receive.specs.declared.report.Received.{Received}
 use Rattle.s2_receive.proofs.RunLemmas.{Came, breaks_off, finishes, goes, processed_none}
 use Rattle.s2_stitch.specs.Recalling.{Recalling, is_ahead, recalls}
-use Rattle.s2_stitch.specs.Sources.{AreTrueLeft, CountsSource, GivesBy, RecordSource}
+use Rattle.s2_stitch.specs.Sources.{AreTrueLeft, CountsSource, Gives, GivesBy, RecordSource}
 use Rattle.s2_stitch.specs.Stitching.{AreTrue, HasMet, HoldsNext, OnlyFaultsOf, StitchesAs, Supplies, own_rule, own_rules, recall_rule}
 use Rattle.s2_stitch.specs.declared.fault.SourceFault.{SourceFault}
 use Rattle.s2_stitch.specs.declared.fault.StitchFault.{StitchFault}
@@ -53,6 +53,14 @@ module _ {D : Type 0} (at : ℕ) (old new : Recalling D) (s s' : RecordSource) (
           subst (λ (x : RecordSource). CountsSource x.fault s.record_reads x.record_reads s.copy_reads x.copy_reads) (sym same_source)
           (subst (λ f. CountsSource f s.record_reads s.record_reads s.copy_reads s.copy_reads) (sym whole) (refl, refl))
       by false (none, gives) = gives.counts whole
+
+-- a frame that is still to come is kept
+pub kept_so : {D : Type 0} (at : ℕ) (r : Recalling D) (s : RecordSource) → is_ahead at r.held ≡ true → Supplies at r r s s
+kept_so at r s ahead = record { decider = refl; held = subst (λ b. HoldsNext b at r r s s) (sym ahead) (refl, refl) }
+
+-- else the source gives the next one
+pub given_so : {D : Type 0} (at : ℕ) (old new : Recalling D) (s s' : RecordSource) → is_ahead at old.held ≡ false → new.decider ≡ old.decider → new.is_recalled ≡ false → Gives at s s' new.held → Supplies at old new s s'
+given_so at old new s s' passed kept none gives = record { decider = kept; held = subst (λ b. HoldsNext b at old new s s') (sym passed) (none, gives) }
 
 -- without a fault nothing is counted
 pub counted_none : (fault : Option SourceFault) (q q' c c' p r : ℕ) → fault ≡ None → CountsSource fault q q' c c' → q ≡ p → c ≡ r → (q' ≡ p) × (c' ≡ r)
