@@ -7,7 +7,7 @@ use Rattle.s2_stitch.specs.Sources.{IsCopyFrom}
 use Rattle.s2_stitch.specs.declared.fault.SourceFault.{SourceFault}
 use Rattle.s2_stitch.specs.declared.fault.SourceFault.TheVariants as faults
 
--- so many symbols were read; or the copy is at its end
+-- this number of symbols was read; or the copy is at its end
 abbrev pub SkipsSymbols : ℕ → (old new : Option (List ℕ)) → Bool → Type 0
 SkipsSymbols count old new true = (bytes : List ℕ) × (length bytes ≡ 4 * count) × Consumes old new bytes
 SkipsSymbols count old new false = (bytes : List ℕ) × Consumes old new bytes × IsAtEnd new

@@ -1,4 +1,4 @@
--- What is read of a reader of records (own).
+-- The results of reading a record (own).
 use Rattle.std.specs.Prelude.{◌≡◌, ℕ, ◌+◌, ◌≤◌, List, [], ◌∷◌, ◌++◌, length, Option, Some, None, IfSome, Result, Ok, Err, ⊤}
 use Rattle.std.specs.Io.KnownBytes.{Consumes, IsAtEnd}
 use Rattle.s2_stitch.specs.Records.{Record, front, max_certificate, record_at, verdict_of}

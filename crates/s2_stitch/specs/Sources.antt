@@ -31,7 +31,7 @@ abbrev pub source_by : {Q C : Type 0} → (Q → Option (List ℕ)) → (Q → �
 source_by remaining count remaining_copy count_copy t records copy place fault =
     record { terms = t; records = remaining records; copy = remaining_copy copy; record_reads = count records; copy_reads = count_copy copy; place = place; fault = fault }
 
--- ---- what is read
+-- ---- reading
 
 -- these records were read, one after another, and no others
 abbrev pub AreRead : (n : ℕ) → List Record → (old new : Option (List ℕ)) → Type 0
@@ -39,7 +39,7 @@ AreRead n records None new = ⊤
 AreRead n records (Some bytes) None = ⊥
 AreRead n records (Some bytes) (Some left) = AreRecords n records bytes left
 
--- a record whose frame may come from this position on, where a receiver can be, and whose certificate suits the rows
+-- A record whose frame may come from this position on, within the symbols that a receiver takes. Its certificate suits the rows
 pub record IsOfUse (rows : Rows) (from : ℕ) (r : Record) : Type 0 where
   pub ahead : from ≤ r.at
   pub reached : r.at ≤ max_symbols
@@ -65,7 +65,8 @@ abbrev pub ReadsCopy : Terms → (place place_new : ℕ) → (old new : Option (
 ReadsCopy t place place_new old new frame =
     (recording : List Symbol) → IsCopyFrom recording place old → IsCopyFrom recording place_new new × IfSome frame (λ f. f.symbols ≡ frame_at t recording f.at)
 
--- The next frame at this position or after it was read, after what was read of the copy. Or the records or the copy are at their end
+-- The next frame at this position or after it was read, not before the position up to which the copy was read. Or the records or the
+-- copy are at their end
 pub record ReadsNext (t : Terms) (at place place_new : ℕ) (records records_new copy copy_new : Option (List ℕ)) (frame : Option RecordedFrame) : Type 0 where
   pub reads : ReadsFrame t (max at place) records records_new frame
   pub copies : ReadsCopy t place place_new copy copy_new frame

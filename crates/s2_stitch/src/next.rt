@@ -48,8 +48,8 @@ fn suits(matrix: &Matrix, certificate: &Option<Certificate>) -> bool
     }
 }
 
-/// A record with its certificate. Nothing if its frame begins before this position or where no receiver can be, or if its certificate
-/// does not suit the matrix.
+/// A record with its certificate. Nothing if its frame begins before this position or after the last symbol that a receiver can reach,
+/// or if its certificate does not suit the matrix.
 fn usable(
     alloc: Global,
     matrix: &Matrix,

@@ -26,7 +26,7 @@ pub enum RecordFault {
     NoMemory,
 }
 
-/// What is in front of the decided bits.
+/// The front of a record: all numbers before its decided bits, and the verdict.
 #[derive(Clone, Copy)]
 pub(crate) struct Front {
     pub(crate) at: u64,

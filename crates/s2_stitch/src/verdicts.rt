@@ -16,7 +16,7 @@ pub(crate) fn verdict_byte(verdict: Verdict) -> u8
     }
 }
 
-/// The verdict that a byte stands for.
+/// The verdict of this byte.
 pub(crate) fn verdict_of(byte: u8) -> Option<Verdict>
     ensures { result ≡ verdict_of byte }
 {

@@ -35,9 +35,9 @@ fn put_bits(block: &mut Vec<u8>, word: &Bits) -> Result<(), AllocError>
     Ok(())
 }
 
-/// Puts the record of a decision into a block, in place of what the block has: the position of the frame, the rounds of min-sum,
-/// the verdict, the decided bits, and the file of their certificate, which is empty if there is none. `AllocError` only if the block
-/// has no room for it and memory does not suffice.
+/// Replaces the bytes of a block with the record of a decision: the position of the frame, the rounds of min-sum, the verdict, the
+/// decided bits, and the file of their certificate. The file is empty if there is no certificate. `AllocError` only if the block has no
+/// room for the record and memory does not suffice.
 pub fn record_into(
     block: &mut Vec<u8>,
     at: u64,
