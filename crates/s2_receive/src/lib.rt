@@ -67,10 +67,7 @@ pub use frame::Frame;
 pub use limits::MAX_SYMBOLS;
 pub use receiver::Receiver;
 pub use report::{Fault, Received};
-pub use run::{
-    is_certified_step, receive_all, receive_all, receive_bytes, receive_bytes, receive_with,
-    receive_with,
-};
+pub use run::{is_certified_step, receive_all, receive_bytes, receive_with};
 pub use sinks::{FrameStart, Sink};
 pub use supplied::Supplied;
 pub use window::Next;
