@@ -3,7 +3,7 @@ use Rattle.s2_mode.specs.Streams.{streams_by}
 use Rattle.s2_receive.specs.Receiving.{IsLive, Receiver, State, rank}
 use Rattle.s2_receive.proofs.RunLemmas.{breaks_off, finishes, goes, processed_none}
 use Rattle.s2_stitch.specs.Recalling.{Recalling}
-use Rattle.s2_stitch.proofs.StitchLemmas.{came_at, counted_fault, counted_none, counted_supplied, counts_end, counts_fault, counts_source, ends as ends_so, fails_so, from_start, met_so, nears, rules_true, same_both, same_none, same_stepped, same_supplied, true_stepped, true_supplied}
+use Rattle.s2_stitch.proofs.StitchLemmas.{came_at, counted_fault, counted_none, counted_supplied, counts_end, counts_fault, counts_source, ends as ends_so, fails_so, from_start, met_so, nears, rank_few, rules_true, same_both, same_none, same_stepped, same_supplied, true_stepped, true_supplied}
 use Rattle.s2_stitch.proofs.run.stitch_with.Goals as goal
 
 pub steps-init : goal.steps-init
@@ -93,9 +93,9 @@ steps-smaller g c =
     let new = c.next_with.new.self in
     let state = ap (λ (r : Receiver (Recalling g.row.D.Denot)). r.state) c.supply.ensures.rest in
     let live = subst (λ (s : State). IsLive s.phase) (sym state) so.live in
-    let less = (nears g.K.Sink.takes g.K.Sink.fails _ mid.state new.state _ _ _ _ c.in-Ok.step (λ e. search common) (c.in-Ok.ensures.steps.live live)).1 in
+    let less = (nears g.K.Sink.takes g.K.Sink.fails _ mid.state new.state _ _ _ _ c.in-Ok.step (λ e. search common) (c.in-Ok.ensures.steps.live live) live).1 in
     let before : c.steps.receiver.state.standing.totals.frames + rank c.steps.receiver.state.phase ≡ mid.state.standing.totals.frames + rank mid.state.phase = ap (λ (s : State). s.standing.totals.frames + rank s.phase) (sym state) in
-    omega (arith, less, before, c.in-Ok.ensures.counted)
+    omega (arith, less, before, rank_few new.state.phase, c.in-Ok.ensures.counted)
 
 pub of_stream-requires : goal.of_stream-requires
 of_stream-requires g c =
