@@ -1,10 +1,10 @@
 -- Frames that are decided by records.
-use Rattle.std.proofs.Common.{◌≡◌, ℕ, ℤ, Bool, List, length, take, drop, Option, Some, None, IfSome, IsSome, ◌↔◌, refl, sym, ap, subst, ◌∙◌}
+use Rattle.std.proofs.Common.{◌≡◌, ℕ, ℤ, Bool, List, [], length, take, drop, Option, Some, None, IfSome, IsSome, ◌↔◌, refl, sym, ap, subst, ◌∙◌}
 use Rattle.s2_mode.specs.Mode.{Mode, symbols_in}
 use Rattle.s2_mode.specs.declared.symbols.Symbol.{Symbol}
 use Rattle.s2_rows.specs.Rows.{Rows}
 use Rattle.s2_certfile.specs.File.{File}
-use Rattle.s2_certfile.specs.Format.{file_of_bytes}
+use Rattle.s2_certfile.specs.Format.{file_of_bytes, front_at}
 use Rattle.s2_check.specs.CertificateFiles.{Suits, view_of}
 use Rattle.s2_check.specs.Views.{View}
 use Rattle.s2_check.specs.declared.verdict.Verdict.{Verdict}
@@ -19,7 +19,7 @@ use Rattle.s2_stitch.specs.Records.{Record}
 
 -- no bytes are no file
 pub no_file : file_in (file_of_bytes []) ≡ None
-unfolding file_of_bytes
+unfolding file_of_bytes front_at
 no_file = refl
 
 pub made_true : MadeTrueLaw

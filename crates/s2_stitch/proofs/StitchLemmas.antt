@@ -1,5 +1,5 @@
 -- A run by the decisions of records, step by step.
-use Rattle.std.proofs.Common.{◌≡◌, ◌≢◌, ℕ, ◌+◌, ◌<◌, ◌⊎◌, Bool, true, false, ◌&&◌, List, [], Option, Some, None, Result, Ok, Err, inl, inr, refl, sym, ap, subst, ◌∙◌}
+use Rattle.std.proofs.Common.{◌≡◌, ◌≢◌, ℕ, ◌+◌, ◌<◌, ◌≤◌, ◌⊎◌, Bool, true, false, ◌&&◌, List, [], Option, Some, None, Result, Ok, Err, inl, inr, refl, sym, ap, subst, ◌∙◌, arith}
 use Rattle.s2_mode.specs.Mode.{symbols_in}
 use Rattle.s2_mode.specs.Streams.{NoneFailed, OneFailed, Streams}
 use Rattle.s2_mode.specs.declared.stream_fault.StreamFault.{StreamFault}
@@ -14,6 +14,7 @@ use Rattle.s2_receive.specs.Sinks.{OnlyFailedWith, RunAnswersWith, StepAnswersWi
 use Rattle.s2_receive.specs.Windows.{found_as}
 use Rattle.s2_receive.specs.declared.report.Fault.{Fault}
 use Rattle.s2_receive.specs.declared.report.Fault.TheVariants as faults
+use Rattle.s2_receive.specs.declared.report.Phase.{Phase}
 use Rattle.s2_receive.specs.declared.report.Phase.TheVariants as phases
 use Rattle.s2_receive.specs.declared.report.Received.{Received}
 use Rattle.s2_receive.proofs.RunLemmas.{Came, breaks_off, finishes, goes, processed_none}
@@ -142,6 +143,13 @@ module _ {S : Type 0} (takes fails : Taking S) (rules : Rules) (old new : State)
   pub fails_so : (fault : StreamFault) → StepAnswersWith takes fails rules old new l m b c (Err (fault_of fault)) → new.phase ≡ phases.Failed
   fails_so streams.Read (stops, kept) = stops.failed
   fails_so streams.Write (phase, cause) = phase
+
+-- a phase is at most two steps from the first one
+pub rank_few : (phase : Phase) → rank phase ≤ 2
+rank_few phases.Searching = omega arith
+rank_few phases.Closing = omega arith
+rank_few phases.Ended = omega arith
+rank_few phases.Failed = omega arith
 
 -- what was met so far, by another name of the state
 pub came_at : {S : Type 0} (takes : Taking S) (rules : Rules) (s t t' : State) (a b : Streams) (k l : S) (certified : Bool) → t' ≡ t → Came rules takes s t a b k l certified → Came rules takes s t' a b k l certified
