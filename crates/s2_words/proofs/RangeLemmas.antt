@@ -1,4 +1,4 @@
--- The texts of seeds.
+-- The texts of numbers.
 use Rattle.std.proofs.Common.{◌≡◌, ◌≢◌, ℕ, zero, suc, ◌+◌, ◌<◌, ◌⊎◌, inl, inr, List, ◌∙◌, sym, subst, ap, arith, length, get_or, drop}
 use Rattle.std.proofs.lemmas.Bool.{cases_eq}
 use Rattle.std.proofs.lemmas.Grind.{get_or_after_one}
@@ -6,7 +6,7 @@ use Rattle.std.proofs.lemmas.List.{length-drop}
 use Rattle.std.proofs.lemmas.Str.Parse.{IsNumeralModel, not_in_digits, numerals_by_value, tells_digits, without_leading_plus_none, without_leading_plus_plus}
 use Rattle.std.specs.Int.{IsInRange}
 use Rattle.std.specs.Str.Parse.{AllDigits, digits_value, without_leading_plus}
-use Rattle.s2_words.specs.SeedRanges.{IsSeedText, HasNoPoint}
+use Rattle.s2_words.specs.Ranges.{HasNoPoint, IsNumberText}
 
 own : IsNumeralModel (AllDigits 10) (digits_value 10)
 own = numerals_by_value (AllDigits 10) tells_digits
@@ -31,10 +31,10 @@ by_plus : (text : List ℕ) → (get_or text 0 0 ≡ 43) ⊎ (get_or text 0 0 �
 by_plus text (inl plus) all = after_plus text plus (subst (λ ds. AllDigits 10 ds) (without_leading_plus_plus text plus) all)
 by_plus text (inr none) all = without_point text (subst (λ ds. AllDigits 10 ds) (without_leading_plus_none text none) all)
 
--- a seed's text has no point
-pub no_point : (seed : ℕ) (text : List ℕ) → IsSeedText seed text → HasNoPoint text
-no_point seed text is = by_plus text (cases_eq (get_or text 0 0) 43) is.0.1
+-- a number's text has no point
+pub no_point : (number : ℕ) (text : List ℕ) → IsNumberText number text → HasNoPoint text
+no_point number text is = by_plus text (cases_eq (get_or text 0 0) 43) is.0.1
 
--- a text is that of one seed
-pub same_seed : (s t : ℕ) (text : List ℕ) → IsSeedText s text → IsSeedText t text → s ≡ t
-same_seed s t text h k = sym h.1 ∙ k.1
+-- a text is that of one number
+pub same_number : (s t : ℕ) (text : List ℕ) → IsNumberText s text → IsNumberText t text → s ≡ t
+same_number s t text h k = sym h.1 ∙ k.1
