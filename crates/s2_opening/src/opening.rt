@@ -1,5 +1,5 @@
 //! Opens the files of a command in the order of the command line.
-ghost use Rattle.std.specs.Prelude.{◌≡◌, ◌+◌, ◌<◌, ◌≤◌, false, IfOk, IfSome, OnOk};
+ghost use Rattle.std.specs.Prelude.{◌≡◌, ◌+◌, ◌^◌, ◌<◌, ◌≤◌, false, IfOk, IfSome, OnOk};
 
 use crate::opens::{Opens, Unserved};
 use s2_about::{FileSums, Hashed, SharedSum};
@@ -148,6 +148,16 @@ fn length_within(first: Option<u32>, length: Option<u64>) -> Option<u64> {
     }
 }
 
+/// The number of symbols to examine.
+fn examined(first: Option<u32>) -> Option<u64>
+    ensures { IfSome result (λ n. n < 2 ^ 62) }
+{
+    match first {
+        Some(first) => Some(u64::from(first)),
+        None => None,
+    }
+}
+
 /// Opens the recording of `scan`, limited to the symbols to examine.
 pub fn open_scan<'a, 'm, P: Opens<'a>, M: Meter>(
     opener: &mut P,
@@ -159,7 +169,7 @@ pub fn open_scan<'a, 'm, P: Opens<'a>, M: Meter>(
 {
     let symbols = opener.read(words.symbols)?;
     meter.expect(length_within(words.first, opener.last_length()));
-    Ok(Beginning::new(Watched::new(symbols, meter), words.first))
+    Ok(Beginning::new(Watched::new(symbols, meter), examined(words.first)))
 }
 
 /// Opens the files of `join`: BBFRAMEs with a buffer, and packets. The packets of a frame are written at once, so they

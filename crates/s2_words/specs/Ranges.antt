@@ -23,7 +23,7 @@ IsSeedsText seeds text = IsRangeText (seeds.first, seeds.last) text
 
 -- the largest position in a recording, in symbols
 abbrev pub max_position : ℕ
-max_position = 2 ^ 62
+max_position = 2 ^ 60
 
 -- the symbols of a piece: the position of the first, and that after the last
 pub record IsPieceText (piece : Piece) (text : List ℕ) : Type 0 where

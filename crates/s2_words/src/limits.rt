@@ -35,4 +35,4 @@ pub const LEAST_ESN0: i32 = -1000;
 pub const MAX_ESN0: i32 = 4000;
 
 /// The largest position in a recording, in symbols.
-pub const MAX_POSITION: u64 = 1 << 62;
+pub const MAX_POSITION: u64 = 1 << 60;

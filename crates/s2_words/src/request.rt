@@ -246,8 +246,8 @@ pub struct Piece {
 }
 
 /// `demod`: a link, the tuning, the notes, N if every N-th frame has a line (0: each frame has one), whether progress
-/// is shown, the records, the piece of a recording if it receives only one, and the files. Of a piece, `packets` is the file of
-/// its records.
+/// is shown, the records, and the files. `piece` is the piece of a recording if only that is received; then `packets` is the file
+/// of its records.
 #[derive(Clone, Copy)]
 pub struct DemodArguments<'a> {
     pub link: LinkArguments,
