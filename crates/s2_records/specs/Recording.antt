@@ -1,8 +1,11 @@
 -- The records of the frames of a piece of a recording (own).
-use Rattle.std.specs.Prelude.{◌≡◌, ℕ, Bool, if◌then◌else◌, List, [], Option, Some, None}
+use Rattle.std.specs.Prelude.{◌≡◌, ℕ, Bool, true, false, if◌then◌else◌, List, [], Option, Some, None, Ok, ⊤}
 use Rattle.std.specs.List.{flat_map}
 use Rattle.std.specs.Io.KnownBytes.{Appends}
 use Rattle.s2_mode.specs.Pieces.{AppendsPart}
+use Rattle.s2_certfile.specs.Format.{file_of_bytes}
+use Rattle.s2_check.specs.CertificateBytes.{bytes_of, file_of}
+use Rattle.s2_check.specs.Views.{View}
 use Rattle.s2_report.specs.Figures.{saturated}
 use Rattle.s2_report.specs.declared.figures.Figures.{Figures}
 use Rattle.s2_receive.specs.Receiving.{Decision}
@@ -39,9 +42,16 @@ pub record Recorder (W : Type 0) : Type 0 where
   pub records : ℕ
   pub refused : ℕ
 
+-- the file of a certificate is read again as this certificate's, if it is recorded
+abbrev pub IsReadBack : (certificates : Bool) → Option View → Type 0
+IsReadBack true (Some view) = file_of_bytes (bytes_of view) ≡ Ok (file_of view)
+IsReadBack true None = ⊤
+IsReadBack false certificate = ⊤
+
 -- its writer took exactly the record of a frame
 pub record GainsRecord {W : Type 0} (contents : W → Option (List ℕ)) (old new : Recorder W) (at : ℕ) (decision : Decision) : Type 0 where
   pub bytes : Appends (contents old.to) (contents new.to) (record_bytes (record_of old.certificates (saturated old.from at) decision))
+  pub read_back : IsReadBack old.certificates decision.certificate
   pub counted : new.records ≡ saturated old.records 1
   pub same : (new.from ≡ old.from) × (new.certificates ≡ old.certificates)
 

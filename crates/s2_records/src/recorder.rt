@@ -1,8 +1,9 @@
 //! The records of the frames of a piece of a recording.
-ghost use Rattle.std.specs.Prelude.{◌≡◌, ◌≤◌, IfOk, OnOk, length};
-ghost use Rattle.s2_check.specs.CertificateBytes.{bytes_of};
+ghost use Rattle.std.specs.Prelude.{◌≡◌, ◌≤◌, IfOk, Ok, OnOk, length};
+ghost use Rattle.s2_certfile.specs.Format.{file_of_bytes};
+ghost use Rattle.s2_check.specs.CertificateBytes.{bytes_of, file_of};
 ghost use Rattle.s2_stitch.specs.Records.{max_certificate, record_bytes};
-ghost use Rattle.s2_records.specs.Recording.{record_of, recorded_certificate, rounds_of};
+ghost use Rattle.s2_records.specs.Recording.{IsReadBack, record_of, recorded_certificate, rounds_of};
 
 use s2_check::CertView;
 use s2_mode::{Counted, CountedWrite, Counting, WriteFault, write_full};
@@ -25,6 +26,7 @@ fn rounds_of(figures: Option<Figures>) -> u32
 /// The file of a certificate.
 fn file_of(alloc: Global, certificate: &CertView<'_>) -> Result<Vec<u8>, AllocError>
     ensures bytes { IfOk result (λ v. v.items ≡ bytes_of certificate.now) }
+    ensures read_back { OnOk result (file_of_bytes (bytes_of certificate.now) ≡ Ok (file_of certificate.now)) }
     ensures few { IfOk result (λ v. length v.items ≤ max_certificate) }
 {
     let mut file = Counting::new(Vec::new(alloc));
@@ -41,6 +43,7 @@ fn recorded_certificate(
     frame: &Frame<'_>,
 ) -> Result<Vec<u8>, AllocError>
     ensures bytes { IfOk result (λ v. v.items ≡ recorded_certificate certificates frame.now) }
+    ensures read_back { OnOk result (IsReadBack certificates frame.now.certificate) }
     ensures few { IfOk result (λ v. length v.items ≤ max_certificate) }
 {
     match &frame.certificate {
@@ -57,7 +60,8 @@ fn put_record(
     at: u64,
     frame: &Frame<'_>,
 ) -> Result<(), AllocError>
-    ensures { OnOk result (block.new.items ≡ record_bytes (record_of certificates at frame.now)) }
+    ensures bytes { OnOk result (block.new.items ≡ record_bytes (record_of certificates at frame.now)) }
+    ensures read_back { OnOk result (IsReadBack certificates frame.now.certificate) }
 {
     let certificate = recorded_certificate(alloc, certificates, frame)?;
     record_into(
