@@ -170,6 +170,5 @@ unfolding frame_decision
 true_record link tuning recording certified at back = cases certified back
   where
     cases : (b : Bool) → IsReadBack b (made link tuning recording at (d link tuning recording at).certificate (own link tuning recording at)).certificate → decision_by (terms_on link tuning) (symbols link tuning recording at) (record_of b at (frame_decision link tuning (symbols link tuning recording at))) ≡ decides_on b link tuning (symbols link tuning recording at)
-    unfolding frame_decision
     cases true back = by link tuning recording at true back
     cases false back = by link tuning recording at false back
