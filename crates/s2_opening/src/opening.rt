@@ -1,5 +1,6 @@
 //! Opens the files of a command in the order of the command line.
 ghost use Rattle.std.specs.Prelude.{◌≡◌, ◌+◌, ◌^◌, ◌<◌, ◌≤◌, false, IfOk, IfSome, OnOk};
+ghost use Rattle.std.specs.Option.{ForSome};
 
 use crate::opens::{Opens, Unserved};
 use s2_about::{FileSums, Hashed, SharedSum};
@@ -69,7 +70,7 @@ fn read_named<'a, 'h, P: Opens<'a>>(
     name: Option<&'a str>,
     sum: Option<&'h SharedSum>,
 ) -> Result<Option<Hashed<'h, P::Input>>, Unserved<'a>>
-    requires room { P.opened opener.old < 8 }
+    requires room { P.opened opener.old < 10 }
     ensures count { OnOk result (P.opened opener.new ≤ P.opened opener.old + 1) }
     ensures fresh { IfOk result (λ made. IfSome made (λ file. P.Input.count file.inner ≡ 0)) }
 {
@@ -136,12 +137,12 @@ pub fn open_noise<'a, 'm, P: Opens<'a>, M: Meter>(
     ))
 }
 
-/// The bytes that are read of a recording of this length, if that is known.
-fn length_within(first: Option<u32>, length: Option<u64>) -> Option<u64> {
-    let Some(first) = first else {
+/// The bytes that are read of a recording of this length, if that is known, when only its first symbols are read.
+pub fn length_within(symbols: Option<u64>, length: Option<u64>) -> Option<u64> {
+    let Some(symbols) = symbols else {
         return length;
     };
-    let most = 4 * u64::from(first);
+    let most = symbols.saturating_mul(4);
     match length {
         Some(length) => Some(length.min(most)),
         None => Some(most),
@@ -150,7 +151,7 @@ fn length_within(first: Option<u32>, length: Option<u64>) -> Option<u64> {
 
 /// The number of symbols to examine.
 fn examined(first: Option<u32>) -> Option<u64>
-    ensures { IfSome result (λ n. n < 2 ^ 62) }
+    ensures { ForSome result (λ n. n < 2 ^ 62) }
 {
     match first {
         Some(first) => Some(u64::from(first)),
