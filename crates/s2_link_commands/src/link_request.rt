@@ -309,7 +309,7 @@ fn run_on_files<
             notes,
         ),
         LinkRequest::Demod(_, options) => run_receiver(
-            setup, options, false, files, None, records, console, notes, alloc,
+            setup, options, false, files, beside, records, console, notes, alloc,
         ),
         LinkRequest::Run(_, options) => {
             run_command(alloc, setup, options, files, &mut records.0, console, notes)
