@@ -126,6 +126,8 @@ impl<'a> Decide for Decider<'a> {
 
     ghost decide = { decides };
 
+    ghost unaided = { decides };
+
     ghost field = { λ d. d.field };
 
     ghost last = { λ d. d.last };

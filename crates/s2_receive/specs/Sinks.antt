@@ -14,7 +14,7 @@ use Rattle.s2_report.specs.declared.report.Step.{Step}
 use Rattle.s2_report.specs.declared.report.Step.TheVariants as steps
 use Rattle.s2_receive.specs.Meeting.{Met, frame, cut, ended, is_gap}
 use Rattle.s2_receive.specs.Receiving.{Rules, Decision, State, Receiver, IsLive, Meets, Reaches, StepAnswers, Processed, BreaksOff, StopsAfter, BreaksAfter, left_in, rules_of, taken}
-use Rattle.s2_receive.specs.Answers.{Seen, NextAnswers, RunAnswers}
+use Rattle.s2_receive.specs.Answers.{Between, Seen, NextAnswers, RunAnswers, seen_by}
 
 -- ---- sinks
 
@@ -122,6 +122,13 @@ pub record NextWith {S : Type 0} (takes fails : Taking S) (count : S → ℕ) (o
   pub not_failed : count sink_new ≡ count sink_old → NextAnswers old new before behind result
   pub bounded : taken new.state ≤ old.rules.limit
   pub counts : OnlyFailedWith (result ≡ Err faults.Read) (result ≡ Err faults.Write) (count sink_old) (count sink_new) before behind
+
+-- the same from a receiver to another, with a sink, a reader and two writers
+abbrev pub StepsWith :
+    {D S R P W : Type 0} → (D → List Symbol → Decision) → (D → Decision) → (takes fails : Taking S) → (S → ℕ) → (R → Option (List ℕ)) → (R → ℕ) → (P → Option (List ℕ)) → (P → ℕ) → (W → Option (List ℕ)) → (W → ℕ)
+    → Receiver D → S → R → P → W → Receiver D → S → R → P → W → Result Step Fault → Type 0
+StepsWith decide last takes fails count taken reads given writes out prints old k r p w new k' r' p' w' =
+    Between (NextWith takes fails count (seen_by decide last old) (seen_by decide last new) k k') taken reads given writes out prints r p w r' p' w'
 
 -- ---- whole runs with a sink
 
