@@ -50,7 +50,7 @@ fn suits(matrix: &Matrix, certificate: &Option<Certificate>) -> bool
 
 /// A record with its certificate. Nothing if its frame begins before this position or after the last symbol that a receiver can reach,
 /// or if its certificate does not suit the matrix.
-fn usable(
+fn usable_record(
     alloc: Global,
     matrix: &Matrix,
     from: u64,
@@ -94,7 +94,7 @@ pub(crate) fn next_usable<Q: CountedRead>(
         let Some(record) = read_record(alloc, records, bits)? else {
             return Ok(None);
         };
-        if let Some(usable) = usable(alloc, matrix, from, record)? {
+        if let Some(usable) = usable_record(alloc, matrix, from, record)? {
             return Ok(Some(usable));
         }
     }

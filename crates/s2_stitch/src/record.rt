@@ -6,24 +6,13 @@ use std::marker::Model;
 
 /// The decision on the frame that begins at a position of a recording: position, rounds of min-sum, verdict, decided bits, and the
 /// file of their certificate, which is empty if there is none.
+#[derive(Drop)]
 pub struct Record {
     pub at: u64,
     pub rounds: u32,
     pub verdict: Verdict,
     pub word: Bits,
     pub certificate: Vec<u8>,
-}
-
-impl Drop for Record {
-    fn drop(self) {
-        let Record {
-            at: _,
-            rounds: _,
-            verdict: _,
-            word: _,
-            certificate: _,
-        } = self;
-    }
 }
 
 impl Model for Record {
