@@ -169,8 +169,9 @@ pub fn open_scan<'a, 'm, P: Opens<'a>, M: Meter>(
     ensures { IfOk result (λ file. P.Input.count file.inner.inner ≡ 0) }
 {
     let symbols = opener.read(words.symbols)?;
-    meter.expect(length_within(words.first, opener.last_length()));
-    Ok(Beginning::new(Watched::new(symbols, meter), examined(words.first)))
+    let first = examined(words.first);
+    meter.expect(length_within(first, opener.last_length()));
+    Ok(Beginning::new(Watched::new(symbols, meter), first))
 }
 
 /// Opens the files of `join`: BBFRAMEs with a buffer, and packets. The packets of a frame are written at once, so they

@@ -1,5 +1,5 @@
 -- What `stitch` receives, writes and reports (own).
-use Rattle.std.specs.Prelude.{◌≡◌, ◌⊎◌, ℕ, Bool, if◌then◌else◌, List, ◌++◌, codes, Option, Result, Ok, Err}
+use Rattle.std.specs.Prelude.{◌≡◌, ◌⊎◌, ℕ, Bool, if◌then◌else◌, List, ◌++◌, codes, Option, None, Result, Ok, Err}
 use Rattle.s2_mode.specs.Mode.{Mode}
 use Rattle.s2_mode.specs.declared.symbols.Symbol.{Symbol}
 use Rattle.s2_rows.specs.Rows.{Rows}
@@ -12,7 +12,7 @@ use Rattle.s2_receive.specs.Sinks.{Taking}
 use Rattle.s2_receive.specs.declared.report.Received.{Received}
 use Rattle.s2_stitch.specs.Frames.{Terms}
 use Rattle.s2_stitch.specs.Laws.{uncertified}
-use Rattle.s2_stitch.specs.Sources.{AreTrueLeft}
+use Rattle.s2_stitch.specs.Sources.{AreTrueLeft, RecordSource}
 use Rattle.s2_stitch.specs.Stitching.{HasMet}
 use Rattle.s2_stitch.specs.declared.fault.SourceFault.{SourceFault}
 use Rattle.s2_stitch.specs.declared.fault.SourceFault.TheVariants as sources
@@ -53,9 +53,14 @@ pub record Unread : Type 0 where
 abbrev pub unread_by : {Q C : Type 0} → (Q → Option (List ℕ)) → (C → Option (List ℕ)) → Q → C → Unread
 unread_by records copy q c = record { records = records q; copy = copy c }
 
+-- a source of them that is not begun, of which no read has failed
+abbrev pub new_source : Link → Tuning → Unread → RecordSource
+new_source link tuning unread =
+    record { terms = terms_on link tuning; records = unread.records; copy = unread.copy; record_reads = 0; copy_reads = 0; place = 0; fault = None }
+
 -- each record has this decision on the frame at its position of the recording
 abbrev pub AreTrueBy : (List Symbol → Decision) → Link → Tuning → Unread → Type 0
-AreTrueBy decide link tuning unread = AreTrueLeft (terms_on link tuning) decide 0 unread.records unread.copy
+AreTrueBy decide link tuning unread = AreTrueLeft decide (new_source link tuning unread)
 
 -- ---- the reception
 
@@ -64,7 +69,8 @@ abbrev pub fault_of : SourceFault → Fault
 fault_of (sources.Records records.Read) = faults.Refused (codes "records: " ++ codes "cannot read")
 fault_of (sources.Records records.NotARecord) = faults.Refused (codes "records: " ++ codes "not the record of a decision")
 fault_of (sources.Records records.NoMemory) = faults.NoMemory
-fault_of sources.Copy = faults.Refused (codes "symbols, read again: " ++ codes "cannot read")
+fault_of sources.Recording = faults.Refused (codes "symbols, read again: " ++ codes "cannot read")
+fault_of sources.NoMemory = faults.NoMemory
 
 -- it stopped at a record: everything met before is written, and the sinks took its frames
 abbrev pub StopsAtRecord : {K : Type 0} → (takes : Taking K) → Rules → (old new : Ends K) → Result Received Fault → Type 0

@@ -18,6 +18,10 @@ pub(crate) fn fault_of(fault: SourceFault) -> Fault<'static>
             Fault::about("records: ", FaultText::of("not the record of a decision"))
         }
         SourceFault::Records(RecordFault::NoMemory) => Fault::NoMemory,
-        SourceFault::Copy => Fault::about("symbols, read again: ", FaultText::of("cannot read")),
+        SourceFault::NoMemory => Fault::NoMemory,
+        SourceFault::Recording => Fault::about(
+            "symbols, read again: ",
+            FaultText::of("cannot read"),
+        ),
     }
 }

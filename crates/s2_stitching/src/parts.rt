@@ -2,6 +2,7 @@
 ghost use Rattle.std.specs.Prelude.{◌≡◌, IfOk, None};
 ghost use Rattle.s2_mode.specs.Mode.{symbols_in};
 ghost use Rattle.s2_receive.specs.Receiving.{begun};
+ghost use Rattle.s2_stitch.specs.Sources.{source_by};
 ghost use Rattle.s2_stitch.specs.Stitching.{own_rules};
 ghost use Rattle.s2_stitching.specs.Stitches.{rules_with, terms_on};
 
@@ -44,9 +45,7 @@ pub(crate) fn source_of<'a, Q: CountedRead + Drop, C: CountedRead + Drop>(
     records: Q,
     copy: C,
 ) -> Result<RecordSource<'a, Q, C>, AllocError>
-    ensures terms { IfOk result (λ s. s.terms ≡ terms_on link.now tuning) }
-    ensures readers { IfOk result (λ s. (s.records ≡ records) × (s.copy ≡ copy)) }
-    ensures begun { IfOk result (λ s. (s.place ≡ 0) × (s.fault ≡ None)) }
+    ensures { IfOk result (λ s. s ≡ source_by Q.remaining Q.count C.remaining C.count (terms_on link.now tuning) records copy 0 None) }
 {
     RecordSource::new(
         alloc,

@@ -38,8 +38,8 @@ fn stitch_to_end<
     packets: &mut W,
     out: &mut O,
 ) -> Result<Received, Fault<'static>>
-    requires records { CanCount (Q.count source.old.records) }
-    requires copy { CanCount (C.count source.old.copy) }
+    requires records { CanCount source.old.record_reads }
+    requires copy { CanCount source.old.copy_reads }
     requires whole { source.old.fault ≡ None }
     requires symbols { CanCount (S.count symbols.old) }
     requires sinks { CanCount (K.count sinks.old) }
@@ -47,7 +47,7 @@ fn stitch_to_end<
     requires out { CanCount (O.count out.old) }
     requires begun { receiver.old.state ≡ begun }
     ensures receives { let ends = streams_by S.remaining S.count W.contents W.count O.contents O.count in
-        AreTrue D.decide Q.remaining C.remaining receiver.old.decider source.old → StitchesToEnd K.takes K.fails (own_rules D.decide receiver.old)
+        AreTrue D.decide receiver.old.decider source.old → StitchesToEnd K.takes K.fails (own_rules D.decide receiver.old)
         (ends_of (ends symbols.old packets.old out.old) sinks.old) (ends_of (ends symbols.new packets.new out.new) sinks.new) result }
     ensures causes { let ends = streams_by S.remaining S.count W.contents W.count O.contents O.count in
         CausesWith K.count (ends_of (ends symbols.old packets.old out.old) sinks.old) (ends_of (ends symbols.new packets.new out.new) sinks.new) result }
@@ -80,8 +80,8 @@ fn stitch_begun<
     packets: &mut Destination<W>,
     out: &mut O,
 ) -> Result<Received, Fault<'static>>
-    requires records { CanCount (Q.count source.old.records) }
-    requires copy { CanCount (C.count source.old.copy) }
+    requires records { CanCount source.old.record_reads }
+    requires copy { CanCount source.old.copy_reads }
     requires whole { source.old.fault ≡ None }
     requires symbols { CanCount (S.count symbols.old) }
     requires sinks { CanCount (K.count sinks.old) }
@@ -90,7 +90,7 @@ fn stitch_begun<
     requires out { CanCount (O.count out.old) }
     requires begun { receiver.old.state ≡ begun }
     ensures receives { let ends = streams_by S.remaining S.count W.contents W.count O.contents O.count in
-        BeginsWith (λ before behind ended. AreTrue D.decide Q.remaining C.remaining receiver.old.decider source.old → StitchesToEnd K.takes K.fails (own_rules D.decide receiver.old) before behind ended)
+        BeginsWith (λ before behind ended. AreTrue D.decide receiver.old.decider source.old → StitchesToEnd K.takes K.fails (own_rules D.decide receiver.old) before behind ended)
         packets.new.begun (ends_of (ends symbols.old packets.old.to out.old) sinks.old) (ends_of (ends symbols.new packets.new.to out.new) sinks.new) result }
     ensures causes { let ends = streams_by S.remaining S.count W.contents W.count O.contents O.count in
         CausesWith K.count (ends_of (ends symbols.old packets.old.to out.old) sinks.old) (ends_of (ends symbols.new packets.new.to out.new) sinks.new) result }
