@@ -24,7 +24,7 @@ struct Placed<'t> {
 }
 
 /// The parts of the line of a frame or of a cut frame.
-fn placed(line: &str) -> Option<Placed<'_>> {
+fn parts_of(line: &str) -> Option<Placed<'_>> {
     let (before, rest) = line.split_once(" at ")?;
     if !before.starts_with("frame ") && before != "cut" {
         return None;
@@ -65,7 +65,7 @@ impl<W: CountedWrite> Moved<W> {
         requires { CanCount (W.count self.old.inner) }
         ensures { CountsFault (W.count self.old.inner) (W.count self.new.inner) result }
     {
-        match placed(str::from_utf8(line).unwrap_or("")) {
+        match parts_of(str::from_utf8(line).unwrap_or("")) {
             Some(parts) => self.write_placed(parts),
             None => write_full(&mut self.inner, line),
         }
