@@ -15,7 +15,7 @@ use std::alloc::{AllocError, Global};
 use std::marker::Model;
 
 /// How frames are read by a tuning.
-fn options_of(tuning: Tuning) -> FrameOptions
+pub fn options_of(tuning: Tuning) -> FrameOptions
     ensures { result ≡ options_of tuning }
 {
     FrameOptions {
