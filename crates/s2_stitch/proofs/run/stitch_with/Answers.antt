@@ -1,9 +1,8 @@
-use Rattle.std.proofs.Common.{◌≡◌, ◌+◌, ◌∙◌, [], None, Some, Ok, Err, arith, refl, sym, ap, subst, rules as common}
-use Rattle.s2_mode.specs.Streams.{streams_by}
+use Rattle.std.proofs.Common.{◌≡◌, ◌+◌, ◌∙◌, [], None, Err, arith, refl, sym, ap, subst, rules as common}
 use Rattle.s2_receive.specs.Receiving.{IsLive, Receiver, State, rank}
 use Rattle.s2_receive.proofs.RunLemmas.{breaks_off, finishes, goes, processed_none}
 use Rattle.s2_stitch.specs.Recalling.{Recalling}
-use Rattle.s2_stitch.proofs.StitchLemmas.{came_at, counted_fault, counted_none, counted_supplied, counts_end, counts_fault, counts_source, ends as ends_so, fails_so, from_start, met_so, nears, rank_few, rules_true, same_both, same_none, same_stepped, same_supplied, true_stepped, true_supplied}
+use Rattle.s2_stitch.proofs.StitchLemmas.{came_at, counted_fault, counted_none, counted_supplied, counts_fault, ends as ends_so, fails_so, from_start, met_so, nears, rank_few, rules_true, same_both, same_none, same_stepped, same_supplied, true_stepped, true_supplied}
 use Rattle.s2_stitch.proofs.run.stitch_with.Goals as goal
 
 pub steps-init : goal.steps-init

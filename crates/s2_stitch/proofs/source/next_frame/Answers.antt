@@ -1,4 +1,4 @@
-use Rattle.std.proofs.Common.{◌≤◌, ◌∙◌, max, Some, None, ap, arith, subst, rules}
+use Rattle.std.proofs.Common.{◌∙◌, max, Some, None, ap, arith, subst}
 use Rattle.s2_mode.specs.Mode.{n_of}
 use Rattle.s2_stitch.specs.Frames.{terms_by}
 use Rattle.s2_stitch.specs.Usable.{IsUsable, ReadsUsable}
