@@ -1,25 +1,21 @@
 -- Frames that are decided by records.
-use Rattle.std.proofs.Common.{◌≡◌, ℕ, ℤ, Bool, List, length, take, drop, Option, Some, None, IfSome, IsSome, ◌↔◌, refl, sym, ap, subst, ◌∙◌}
-use Rattle.s2_mode.specs.Mode.{Mode, symbols_in}
+use Rattle.std.proofs.Common.{◌≡◌, ℕ, ℤ, Bool, List, [], Option, Some, None, IfSome, IsSome, ◌↔◌, refl, sym, ap, ◌∙◌}
 use Rattle.s2_mode.specs.declared.symbols.Symbol.{Symbol}
 use Rattle.s2_rows.specs.Rows.{Rows}
 use Rattle.s2_certfile.specs.File.{File}
-use Rattle.s2_certfile.specs.Format.{file_of_bytes}
+use Rattle.s2_certfile.specs.Format.{file_of_bytes, front_at}
 use Rattle.s2_check.specs.CertificateFiles.{Suits, view_of}
 use Rattle.s2_check.specs.Views.{View}
-use Rattle.s2_check.specs.declared.verdict.Verdict.{Verdict}
-use Rattle.s2_receive.specs.Receiving.{Decision}
 use Rattle.s2_receive.specs.declared.decider.Decided.{Decided}
 use Rattle.s2_message.specs.Decisions.{decision_with, message_of, soft_frame}
-use Rattle.s2_message.specs.Reading.{DecidesBy, FrameReader, IsSameReader, decision_held}
-use Rattle.s2_message.specs.declared.options.FrameOptions.{FrameOptions}
-use Rattle.s2_stitch.specs.Frames.{IsTrueRecord, RecordedFrame, Terms, certificate_of, decision_by, file_in, frame_at, shown_decision, terms_by}
+use Rattle.s2_message.specs.Reading.{DecidesBy, FrameReader, IsSameReader}
+use Rattle.s2_stitch.specs.Frames.{certificate_of, decision_by, file_in, frame_at, shown_decision, terms_by}
 use Rattle.s2_stitch.specs.Laws.{MadeTrueLaw}
 use Rattle.s2_stitch.specs.Records.{Record}
 
 -- no bytes are no file
 pub no_file : file_in (file_of_bytes []) ≡ None
-unfolding file_of_bytes
+unfolding file_of_bytes front_at
 no_file = refl
 
 pub made_true : MadeTrueLaw

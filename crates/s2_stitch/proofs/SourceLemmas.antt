@@ -1,10 +1,10 @@
 -- What a source of recorded frames reads.
-use Rattle.std.proofs.Common.{◌≡◌, ◌≢◌, ℕ, ◌+◌, ◌-◌, ◌*◌, ◌<◌, ◌≤◌, max, Bool, true, false, List, [], ◌∷◌, ◌++◌, length, take, drop, Option, Some, None, IfSome, IfOk, Result, Ok, Err, inl, inr, refl, sym, ap, subst, ◌∙◌, arith, append_assoc, length-append}
+use Rattle.std.proofs.Common.{◌≡◌, ◌≢◌, ℕ, ◌+◌, ◌-◌, ◌*◌, ◌<◌, ◌≤◌, max, true, false, List, [], ◌∷◌, ◌++◌, length, take, drop, Option, Some, None, IfSome, IfOk, Result, Ok, Err, inl, inr, refl, sym, ap, subst, ◌∙◌, arith, append_assoc, length-append}
 use Rattle.std.proofs.KnownBytes.{Consumes-nil, Consumes-trans}
 use Rattle.std.proofs.lemmas.List.{drop-drop, drop_at, take_at}
 use Rattle.std.specs.Io.KnownBytes.{Consumes, IsAtEnd}
 use Rattle.s2_mode.proofs.SymbolLists.{length-symbols, symbols-append}
-use Rattle.s2_mode.specs.Mode.{Mode, n_of, symbols_in}
+use Rattle.s2_mode.specs.Mode.{n_of, symbols_in}
 use Rattle.s2_mode.specs.Symbols.{YieldsSymbol, symbols_of}
 use Rattle.s2_mode.specs.declared.symbols.Symbol.{Symbol}
 use Rattle.s2_rows.specs.Rows.{Rows}
@@ -12,8 +12,8 @@ use Rattle.s2_receive.specs.Receiving.{Decision}
 use Rattle.s2_stitch.specs.Copies.{CopiesFrame, CountsCopy, ReadsSymbols, SkipsSymbols}
 use Rattle.s2_stitch.specs.Frames.{IsFrameOf, IsTrueRecord, RecordedFrame, Terms, decision_by, frame_at}
 use Rattle.s2_stitch.specs.Reading.{CountsRead, ReadsRecord}
-use Rattle.s2_stitch.specs.Records.{AreRecords, Record, record_at}
-use Rattle.s2_stitch.specs.Sources.{ArePassed, AreRead, AreTrueIn, AreTrueLeft, CountsSource, Gives, GivesBy, IsCopyFrom, IsOfUse, ReadsCopy, ReadsFrame, ReadsNext, ReadsResult, RecordSource, fault_in}
+use Rattle.s2_stitch.specs.Records.{AreRecords, Record}
+use Rattle.s2_stitch.specs.Sources.{ArePassed, AreRead, AreTrueIn, AreTrueLeft, CountsSource, Gives, GivesBy, IsCopyFrom, IsOfUse, ReadsNext, ReadsResult, RecordSource, fault_in}
 use Rattle.s2_stitch.specs.Usable.{CopiesUsable, IsUsable, ReadsUsable}
 use Rattle.s2_stitch.specs.declared.fault.SourceFault.{SourceFault}
 use Rattle.s2_stitch.specs.declared.fault.SourceFault.TheVariants as faults

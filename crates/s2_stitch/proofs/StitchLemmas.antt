@@ -1,5 +1,5 @@
 -- A run by the decisions of records, step by step.
-use Rattle.std.proofs.Common.{◌≡◌, ◌≢◌, ℕ, ◌+◌, ◌<◌, ◌⊎◌, Bool, true, false, ◌&&◌, List, [], Option, Some, None, Result, Ok, Err, inl, inr, refl, sym, ap, subst, ◌∙◌}
+use Rattle.std.proofs.Common.{◌≡◌, ◌≢◌, ℕ, ◌+◌, ◌<◌, ◌≤◌, ◌⊎◌, Bool, true, false, List, [], Option, Some, None, Result, Ok, Err, refl, sym, ap, subst, ◌∙◌, arith}
 use Rattle.s2_mode.specs.Mode.{symbols_in}
 use Rattle.s2_mode.specs.Streams.{NoneFailed, OneFailed, Streams}
 use Rattle.s2_mode.specs.declared.stream_fault.StreamFault.{StreamFault}
@@ -9,19 +9,19 @@ use Rattle.s2_report.specs.declared.report.Step.{Step}
 use Rattle.s2_report.specs.declared.report.Step.TheVariants as steps
 use Rattle.s2_receive.specs.Answers.{IsSame}
 use Rattle.s2_receive.specs.Faults.{fault_of}
-use Rattle.s2_receive.specs.Receiving.{Decision, IsLive, Processed, Receiver, Rules, State, is_certified_step, rank, rules_of}
-use Rattle.s2_receive.specs.Sinks.{OnlyFailedWith, RunAnswersWith, StepAnswersWith, TakesFrames, Taking, frames_of}
+use Rattle.s2_receive.specs.Receiving.{Decision, IsLive, Processed, Receiver, Rules, State, rank, rules_of}
+use Rattle.s2_receive.specs.Sinks.{OnlyFailedWith, StepAnswersWith, Taking}
 use Rattle.s2_receive.specs.Windows.{found_as}
 use Rattle.s2_receive.specs.declared.report.Fault.{Fault}
 use Rattle.s2_receive.specs.declared.report.Fault.TheVariants as faults
+use Rattle.s2_receive.specs.declared.report.Phase.{Phase}
 use Rattle.s2_receive.specs.declared.report.Phase.TheVariants as phases
 use Rattle.s2_receive.specs.declared.report.Received.{Received}
-use Rattle.s2_receive.proofs.RunLemmas.{Came, breaks_off, finishes, goes, processed_none}
+use Rattle.s2_receive.proofs.RunLemmas.{Came, finishes, goes, processed_none}
 use Rattle.s2_stitch.specs.Recalling.{Recalling, is_ahead, recalls}
 use Rattle.s2_stitch.specs.Sources.{AreTrueLeft, CountsSource, Gives, GivesBy, RecordSource}
-use Rattle.s2_stitch.specs.Stitching.{AreTrue, HasMet, HoldsNext, OnlyFaultsOf, StitchesAs, Supplies, own_rule, own_rules, recall_rule}
+use Rattle.s2_stitch.specs.Stitching.{AreTrue, HasMet, HoldsNext, OnlyFaultsOf, Supplies, own_rule, own_rules, recall_rule}
 use Rattle.s2_stitch.specs.declared.fault.SourceFault.{SourceFault}
-use Rattle.s2_stitch.specs.declared.fault.StitchFault.{StitchFault}
 use Rattle.s2_stitch.specs.declared.fault.StitchFault.TheVariants as stitch_faults
 use Rattle.s2_stitch.proofs.RecallLemmas.{rule_is}
 use Rattle.s2_stitch.proofs.SourceLemmas.{true_next}
@@ -142,6 +142,13 @@ module _ {S : Type 0} (takes fails : Taking S) (rules : Rules) (old new : State)
   pub fails_so : (fault : StreamFault) → StepAnswersWith takes fails rules old new l m b c (Err (fault_of fault)) → new.phase ≡ phases.Failed
   fails_so streams.Read (stops, kept) = stops.failed
   fails_so streams.Write (phase, cause) = phase
+
+-- a phase is at most two steps from the first one
+pub rank_few : (phase : Phase) → rank phase ≤ 2
+rank_few phases.Searching = omega arith
+rank_few phases.Closing = omega arith
+rank_few phases.Ended = omega arith
+rank_few phases.Failed = omega arith
 
 -- what was met so far, by another name of the state
 pub came_at : {S : Type 0} (takes : Taking S) (rules : Rules) (s t t' : State) (a b : Streams) (k l : S) (certified : Bool) → t' ≡ t → Came rules takes s t a b k l certified → Came rules takes s t' a b k l certified

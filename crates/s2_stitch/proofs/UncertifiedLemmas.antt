@@ -1,9 +1,8 @@
 -- Lines and packets do not depend on certificates.
-use Rattle.std.proofs.Common.{◌≡◌, ℕ, List, [], ◌∷◌, ◌++◌, refl, ap, ◌∙◌}
-use Rattle.s2_mode.specs.declared.symbols.Symbol.{Symbol}
+use Rattle.std.proofs.Common.{◌≡◌, List, [], ◌∷◌, ◌++◌, refl, ap, ◌∙◌}
 use Rattle.s2_receive.specs.Meeting.{Met, frame, cut, ended}
-use Rattle.s2_receive.specs.Receiving.{Decision, Rules, Standing, after, all_lines, all_packets, at_start, line_of, packets_of}
-use Rattle.s2_receive.specs.Halves.{IsOwn, lines_in, met_in}
+use Rattle.s2_receive.specs.Receiving.{Rules, Standing, after, all_lines, all_packets, at_start, line_of, packets_of}
+use Rattle.s2_receive.specs.Halves.{lines_in, met_in}
 use Rattle.s2_stitch.specs.Laws.{UncertifiedLaw, uncertified}
 
 module _ (rules : Rules) where

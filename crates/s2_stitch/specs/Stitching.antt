@@ -1,5 +1,5 @@
 -- A receiver's run by the decisions of records (own).
-use Rattle.std.specs.Prelude.{◌≡◌, ℕ, Bool, true, false, List, Option, Some, None, Result, Ok, Err, ⊤}
+use Rattle.std.specs.Prelude.{◌≡◌, ℕ, Bool, true, false, List, Option, Some, None, Result, Ok, Err}
 use Rattle.s2_mode.specs.Streams.{Streams}
 use Rattle.s2_mode.specs.declared.stream_fault.StreamFault.TheVariants as streams
 use Rattle.s2_mode.specs.declared.symbols.Symbol.{Symbol}
@@ -11,7 +11,7 @@ use Rattle.s2_receive.specs.declared.report.Phase.{Phase}
 use Rattle.s2_receive.specs.declared.report.Phase.TheVariants as phases
 use Rattle.s2_receive.specs.declared.report.Received.{Received}
 use Rattle.s2_stitch.specs.Recalling.{Recalling, is_ahead, recalls}
-use Rattle.s2_stitch.specs.Sources.{AreTrueLeft, CountsSource, Gives, RecordSource}
+use Rattle.s2_stitch.specs.Sources.{AreTrueLeft, Gives, RecordSource}
 use Rattle.s2_stitch.specs.declared.fault.SourceFault.{SourceFault}
 use Rattle.s2_stitch.specs.declared.fault.StitchFault.{StitchFault}
 use Rattle.s2_stitch.specs.declared.fault.StitchFault.TheVariants as faults

@@ -1,9 +1,8 @@
-use Rattle.std.proofs.Common.{◌≡◌, ◌∙◌, [], None, Some, Ok, Err, arith, refl, sym, ap, subst, rules as common}
-use Rattle.s2_mode.specs.Streams.{streams_by}
-use Rattle.s2_receive.specs.Receiving.{IsLive, Receiver, State}
+use Rattle.std.proofs.Common.{◌≡◌, ◌+◌, ◌∙◌, [], None, Err, arith, refl, sym, ap, subst, rules as common}
+use Rattle.s2_receive.specs.Receiving.{IsLive, Receiver, State, rank}
 use Rattle.s2_receive.proofs.RunLemmas.{breaks_off, finishes, goes, processed_none}
 use Rattle.s2_stitch.specs.Recalling.{Recalling}
-use Rattle.s2_stitch.proofs.StitchLemmas.{came_at, counted_fault, counted_none, counted_supplied, counts_end, counts_fault, counts_source, ends as ends_so, fails_so, from_start, met_so, nears, rules_true, same_both, same_none, same_stepped, same_supplied, true_stepped, true_supplied}
+use Rattle.s2_stitch.proofs.StitchLemmas.{came_at, counted_fault, counted_none, counted_supplied, counts_fault, ends as ends_so, fails_so, from_start, met_so, nears, rank_few, rules_true, same_both, same_none, same_stepped, same_supplied, true_stepped, true_supplied}
 use Rattle.s2_stitch.proofs.run.stitch_with.Goals as goal
 
 pub steps-init : goal.steps-init
@@ -38,7 +37,7 @@ pub returns-then-eq-clause-runs : goal.returns-then-eq-clause-runs
 returns-then-eq-clause-runs g c = λ all.
     let decide = g.D.Decide.decide in
     let so = c.steps.invariant in
-    let mid = c.supply.new.receiver in
+    let mid = c.supply.new.self in
     let supplies = c.supply.ensures.supplies in
     let state = ap (λ (r : Receiver (Recalling g.row.D.Denot)). r.state) c.supply.ensures.rest in
     let whole : c.supply.new.source.fault ≡ None = search common in
@@ -54,14 +53,14 @@ pub returns-then-eq-clause-left : goal.returns-then-eq-clause-left
 returns-then-eq-clause-left g c =
     let state = ap (λ (r : Receiver (Recalling g.row.D.Denot)). r.state) c.supply.ensures.rest in
     let live = subst (λ (s : State). IsLive s.phase) (sym state) c.steps.invariant.live in
-    ends_so g.K.Sink.takes g.K.Sink.fails _ c.supply.new.receiver.state c.next_with.new.receiver.state _ _ _ _ c.in-Ok.step (search common) (c.in-Ok.ensures.steps.live live)
+    ends_so g.K.Sink.takes g.K.Sink.fails _ c.supply.new.self.state c.next_with.new.self.state _ _ _ _ c.in-Ok.step (search common) (c.in-Ok.ensures.steps.live live)
 
 pub steps-preserved : goal.steps-preserved
 steps-preserved g c =
     let decide = g.D.Decide.decide in
     let so = c.steps.invariant in
-    let mid = c.supply.new.receiver in
-    let new = c.next_with.new.receiver in
+    let mid = c.supply.new.self in
+    let new = c.next_with.new.self in
     let source = c.supply.new.source in
     let supplies = c.supply.ensures.supplies in
     let state = ap (λ (r : Receiver (Recalling g.row.D.Denot)). r.state) c.supply.ensures.rest in
@@ -89,13 +88,13 @@ steps-preserved g c =
 pub steps-smaller : goal.steps-smaller
 steps-smaller g c =
     let so = c.steps.invariant in
-    let mid = c.supply.new.receiver in
-    let new = c.next_with.new.receiver in
+    let mid = c.supply.new.self in
+    let new = c.next_with.new.self in
     let state = ap (λ (r : Receiver (Recalling g.row.D.Denot)). r.state) c.supply.ensures.rest in
     let live = subst (λ (s : State). IsLive s.phase) (sym state) so.live in
-    let less = (nears g.K.Sink.takes g.K.Sink.fails _ mid.state new.state _ _ _ _ c.in-Ok.step (λ e. search common) (c.in-Ok.ensures.steps.live live)).1 in
+    let less = (nears g.K.Sink.takes g.K.Sink.fails _ mid.state new.state _ _ _ _ c.in-Ok.step (λ e. search common) (c.in-Ok.ensures.steps.live live) live).1 in
     let before : c.steps.receiver.state.standing.totals.frames + rank c.steps.receiver.state.phase ≡ mid.state.standing.totals.frames + rank mid.state.phase = ap (λ (s : State). s.standing.totals.frames + rank s.phase) (sym state) in
-    omega (arith, less, before, c.in-Ok.ensures.counted)
+    omega (arith, less, before, rank_few new.state.phase, c.in-Ok.ensures.counted)
 
 pub of_stream-requires : goal.of_stream-requires
 of_stream-requires g c =
@@ -107,7 +106,7 @@ pub returns-in-Err-clause-runs : goal.returns-in-Err-clause-runs
 returns-in-Err-clause-runs g c = λ all.
     let decide = g.D.Decide.decide in
     let so = c.steps.invariant in
-    let mid = c.supply.new.receiver in
+    let mid = c.supply.new.self in
     let supplies = c.supply.ensures.supplies in
     let state = ap (λ (r : Receiver (Recalling g.row.D.Denot)). r.state) c.supply.ensures.rest in
     let whole : c.supply.new.source.fault ≡ None = search common in
@@ -130,4 +129,4 @@ pub returns-in-Err-clause-left : goal.returns-in-Err-clause-left
 returns-in-Err-clause-left g c =
     let state = ap (λ (r : Receiver (Recalling g.row.D.Denot)). r.state) c.supply.ensures.rest in
     let live = subst (λ (s : State). IsLive s.phase) (sym state) c.steps.invariant.live in
-    fails_so g.K.Sink.takes g.K.Sink.fails _ c.supply.new.receiver.state c.next_with.new.receiver.state _ _ _ _ c.of_stream.result (rw (sym c.of_stream.ensures) at (c.in-Err.ensures.steps.live live))
+    fails_so g.K.Sink.takes g.K.Sink.fails _ c.supply.new.self.state c.next_with.new.self.state _ _ _ _ c.of_stream.result (rw (sym c.of_stream.ensures) at (c.in-Err.ensures.steps.live live))

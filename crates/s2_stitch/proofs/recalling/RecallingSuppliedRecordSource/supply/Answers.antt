@@ -1,4 +1,4 @@
-use Rattle.std.proofs.Common.{◌∙◌, refl, subst, sym}
+use Rattle.std.proofs.Common.{◌∙◌, false, refl, subst, sym}
 use Rattle.s2_stitch.specs.Recalling.{Recalling}
 use Rattle.s2_stitch.specs.Stitching.{Supplies}
 use Rattle.s2_stitch.proofs.StitchLemmas.{given_so, kept_so}
@@ -10,4 +10,8 @@ returns-then-is_ahead-clause-supplies g c =
 
 pub returns-clause-supplies : goal.returns-clause-supplies
 returns-clause-supplies g c =
-    subst (λ (r : Recalling g.row.D.Denot). Supplies c.args.at r _ c.args.source.now c.next.new.self) c.self.view_is (given_so c.args.at _ _ c.args.source.now c.next.new.self (sym c.is_ahead.ensures ∙ c.if-is_ahead.false) refl refl c.next.ensures)
+    let inside = c.self.inside in
+    let old : Recalling g.row.D.Denot = record { decider = inside.decider; held = inside.held; is_recalled = inside.is_recalled } in
+    let new : Recalling g.row.D.Denot = record { decider = inside.decider; held = c.next.result; is_recalled = false } in
+    subst (λ (r : Recalling g.row.D.Denot). Supplies c.args.at r new c.args.source.now c.next.new.self) c.self.view_is
+    (given_so c.args.at old new c.args.source.now c.next.new.self (sym c.is_ahead.ensures ∙ c.if-is_ahead.false) refl refl c.next.ensures)

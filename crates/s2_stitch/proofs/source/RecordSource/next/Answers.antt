@@ -1,7 +1,5 @@
-use Rattle.std.proofs.Common.{◌≡◌, ◌∙◌, None, Some, refl, rules, subst, sym}
-use Rattle.s2_stitch.specs.Sources.{Gives, RecordSource}
-use Rattle.s2_stitch.proofs.FrameLemmas.{same_terms}
-use Rattle.s2_stitch.proofs.SourceLemmas.{gives_fault, gives_frame, gives_nothing}
+use Rattle.std.proofs.Common.{◌≡◌, None, refl, rules}
+use Rattle.s2_stitch.proofs.SourceLemmas.{gives_fault, gives_frame}
 use Rattle.s2_stitch.proofs.source.RecordSource.next.Goals as goal
 
 pub returns-in-Ok : goal.returns-in-Ok
