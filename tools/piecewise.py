@@ -73,7 +73,7 @@ def program_of(chosen):
 
 
 def line_of(name, text, files, options):
-    """The arguments: the tool's options, the words of demod's options, in which an output is an Output, and the files."""
+    """The arguments: the tool's options, the words of demod's options, in which an output is an Output, and files. Another number of them is refused."""
     words = argparse.ArgumentParser(name, description=text, formatter_class=argparse.RawDescriptionHelpFormatter, allow_abbrev=False)
     # 2 means that something was lost
     words.error = lambda message: words.exit(1, f"{name}: {message}; see tools/{name} --help\n")
@@ -93,8 +93,8 @@ def line_of(name, text, files, options):
             chosen.words += [option, *map(Output, [value] if equals else itertools.islice(rest, 1))]
         else:
             chosen.words += [word, *itertools.islice(rest, int(word in values))]
-    if len(chosen.files) != len(files.split()):
-        words.error(f"the files are {files}")
+    if len(chosen.files) != files:
+        os.execv(chosen.s2, ["s2", "demod", *chosen.files, *chosen.words])
     # the call for a piece, which writes no files of records and shows no progress
     chosen.call = [chosen.s2, "demod", *(os.devnull if isinstance(it, Output) else it for it in chosen.words if it != "--progress")]
     return chosen
@@ -111,7 +111,7 @@ def outputs_of(chosen, inputs, files):
     is_well = is_well and all(os.path.isfile(it) and os.access(it, os.R_OK) and it not in ("-", "/dev/stdin") for it in inputs)
     tried = [*chosen.call, files[0], "-", os.devnull]
     if not is_well or subprocess.run(tried, stdin=subprocess.DEVNULL, capture_output=True, check=False).returncode:
-        os.execv(chosen.s2, ["s2", "demod", *chosen.words, *files])
+        os.execv(chosen.s2, ["s2", "demod", *files, *chosen.words])
     return outputs
 
 
@@ -157,13 +157,11 @@ def stitched(words, outputs, records, *left):
         code = stitch.wait()
     finally:
         stitch.kill()
-    if feeding.done():
-        feeding.result()
+    feeding.done() and feeding.result()
     if code not in (0, 1, 2):
         raise Fault(subprocess.CalledProcessError(code, "s2 stitch"))
     for name, part in parts.items() if code != 1 else ():
-        if os.path.exists(name):
-            shutil.copymode(name, part)
+        os.path.exists(name) and shutil.copymode(name, part)
         os.replace(part, os.path.realpath(name))
     cleaner.communicate()
     return code
@@ -246,7 +244,7 @@ class Work:
 
 def pieces(text):
     """The exit status of tools/pieces."""
-    chosen = line_of("pieces", text, "ROWS SYMBOLS PACKETS", PIECES)
+    chosen = line_of("pieces", text, 3, PIECES)
     rows, symbols, packets = chosen.files
     if chosen.alone is not None:
         # a task of another machine
@@ -329,7 +327,7 @@ def decoded(chosen, rows, wake, pipes):
 
 def live(text):
     """The exit status of tools/live."""
-    chosen = line_of("live", text, "ROWS", LIVE)
+    chosen = line_of("live", text, 1, LIVE)
     (rows,), (wake, waker), names, pipes = chosen.files, os.pipe2(os.O_NONBLOCK | os.O_CLOEXEC), [], (queue.SimpleQueue(), queue.SimpleQueue())
     outputs = outputs_of(chosen, [rows], [rows, "-", "-"])
     signal.set_wakeup_fd(waker)
