@@ -24,11 +24,11 @@ STANDARD = ("-", "/dev/stdout")
 # Bytes of a symbol; symbols of the longest PLFRAME, and those that a piece reads after its end at most.
 SYMBOL, FRAME, OVER = 4, 33282, 33282 + 90
 # Pieces for each process, and frames of a piece at least and at most. With --hosts and --slurm: frames at least, pieces at most.
-FOR_EACH, LEAST, MOST, LEAST_AWAY, MOST_AWAY = 16, 32, 4096, 512, 1000
+FOR_EACH, LEAST, MOST, LEAST_AWAY, MOST_AWAY = 8, 32, 1024, 512, 1000
 # Frames of a group of live; seconds without input that end a group, and that are noted.
 GROUP, PAUSE, LONG = 63, 0.1, 1.0
-# the names of the files in a work folder
-OWN = re.compile(r"plan|log(-\d+)?|piece-\d{6,}(\.\d+)?|\..+\.pieces-\d+")
+# The end of the name of an output that is not complete, which nobody can guess; the names of the files in a work folder.
+PART, OWN = f".pieces-{os.urandom(8).hex()}", re.compile(r"plan|log(-\d+)?|piece-\d{6,}(\.\d+)?|\..+\.pieces-\w{16}")
 # of Linux: the signal that a process gets when the thread that began it ends
 LIBC, PR_SET_PDEATHSIG = ctypes.CDLL(None), 1
 BOTH = {
@@ -41,7 +41,7 @@ PIECES = {
     "--slurm": {"action": "store_true", "help": "decode by an array job of Slurm (sbatch --wait); SBATCH_PARTITION and so on are as for sbatch"},
     "--work": {"metavar": "FOLDER", "help": "work folder, new or empty, kept after an error (default with --hosts and --slurm: PACKETS.pieces)"},
     "--resume": {"action": "store_true", "help": "continue with the pieces in the work folder"},
-    "--alone": {"type": int, "help": argparse.SUPPRESS},
+    "--task": {"type": int, "help": argparse.SUPPRESS},
 }
 LIVE = {"--seconds": {"type": float, "default": 1.0, "metavar": "T", "help": "a group ends after this time at the latest (default: 1)"}}
 
@@ -57,7 +57,7 @@ class Output(str):
         """The name by which s2 writes it."""
         folder, name = os.path.split(os.path.realpath(self))
         is_file = self not in STANDARD and (not os.path.exists(self) or os.path.isfile(self))
-        return f"{folder}/.{name}.pieces-{os.getpid()}" if is_file else str(self)
+        return f"{folder}/.{name}{PART}" if is_file else str(self)
 
 
 def program_of(chosen):
@@ -73,7 +73,7 @@ def program_of(chosen):
 
 
 def line_of(name, text, files, options):
-    """The arguments: the tool's options, the words of demod's options, in which an output is an Output, and files. Another number of them is refused."""
+    """The arguments: the tool's options, demod's options as words, in which an output is an Output, and files. Another number of files is refused."""
     words = argparse.ArgumentParser(name, description=text, formatter_class=argparse.RawDescriptionHelpFormatter, allow_abbrev=False)
     # 2 means that something was lost
     words.error = lambda message: words.exit(1, f"{name}: {message}; see tools/{name} --help\n")
@@ -84,7 +84,7 @@ def line_of(name, text, files, options):
         words.error("numbers are above 0")
     chosen.s2, chosen.words, chosen.files = program_of(chosen.s2), [], []
     printed = subprocess.run([chosen.s2, "demod", "--help"], stdout=subprocess.PIPE, text=True, check=False).stdout
-    values, rest = dict(re.findall(r"(--[a-z0-9-]+) <([^>]+)>", printed)), iter(rest)
+    values, chosen.given, rest = dict(re.findall(r"(--[a-z0-9-]+) <([^>]+)>", printed)), rest, iter(rest)
     for word in rest:
         option, equals, value = word.partition("=")
         if word in ("-", "--") or not word.startswith("-"):
@@ -94,7 +94,7 @@ def line_of(name, text, files, options):
         else:
             chosen.words += [word, *itertools.islice(rest, int(word in values))]
     if len(chosen.files) != files:
-        os.execv(chosen.s2, ["s2", "demod", *chosen.files, *chosen.words])
+        os.execv(chosen.s2, ["s2", "demod", *chosen.given])
     # the call for a piece, which writes no files of records and shows no progress
     chosen.call = [chosen.s2, "demod", *(os.devnull if isinstance(it, Output) else it for it in chosen.words if it != "--progress")]
     return chosen
@@ -107,11 +107,10 @@ def outputs_of(chosen, inputs, files):
     known = [os.stat(it)[1:3] if os.path.exists(it) else os.path.realpath(it) for it in (*inputs, *parts)]
     known += [os.fstat(1)[1:3]] * any(it in STANDARD for it in outputs)
     places = [it for name in parts for it in (os.path.dirname(name.part()), name) if it != name or os.path.exists(it)]
-    is_well = len({*known}) == len(known) and all(os.access(it, os.W_OK) for it in places)
-    is_well = is_well and all(os.path.isfile(it) and os.access(it, os.R_OK) and it not in ("-", "/dev/stdin") for it in inputs)
-    tried = [*chosen.call, files[0], "-", os.devnull]
-    if not is_well or subprocess.run(tried, stdin=subprocess.DEVNULL, capture_output=True, check=False).returncode:
-        os.execv(chosen.s2, ["s2", "demod", *files, *chosen.words])
+    well = len({*known}) == len(known) and all(os.access(it, os.W_OK) for it in places)
+    well = well and all(os.path.isfile(it) and os.access(it, os.R_OK) and it not in ("-", "/dev/stdin") for it in inputs)
+    if not well or subprocess.run([*chosen.call, files[0], "-", os.devnull], stdin=subprocess.DEVNULL, capture_output=True, check=False).returncode:
+        os.execv(chosen.s2, ["s2", "demod", *chosen.given, *files[len(chosen.files) :]])
     return outputs
 
 
@@ -157,7 +156,7 @@ def stitched(words, outputs, records, *left):
         code = stitch.wait()
     finally:
         stitch.kill()
-    feeding.done() and feeding.result()
+    (feeding.done() or code in (0, 2)) and feeding.result()
     if code not in (0, 1, 2):
         raise Fault(subprocess.CalledProcessError(code, "s2 stitch"))
     for name, part in parts.items() if code != 1 else ():
@@ -180,7 +179,7 @@ class Work:
 
     def plan(self):
         """A script that decodes a piece by its number. It also says of which rows and which recording."""
-        own = ["--s2", self.chosen.s2, "--work", self.folder, "--frames", str(self.size // FRAME), "--alone"]
+        own = ["--s2", self.chosen.s2, "--work", self.folder, "--frames", str(self.size // FRAME), "--task"]
         task = ["python3", os.path.join(TOP, "tools/pieces"), *self.chosen.call[2:], self.rows, self.symbols, os.devnull, *own]
         which = f"{hashlib.sha256(pathlib.Path(self.rows).read_bytes()).hexdigest()} {self.status.st_size} {self.status.st_mtime_ns}"
         return os.fsencode(f"#!/bin/sh\n# {which}\nexec {shlex.join(task)} ${{1-$SLURM_ARRAY_TASK_ID}}\n")
@@ -199,7 +198,9 @@ class Work:
         os.rename(part, self.path(number))
 
     def missing(self):
-        return [it for it in self.numbers if not os.path.exists(self.path(it))]
+        # of a network's file system, the list is newer than what is known of a name
+        there = {*os.listdir(self.folder)}
+        return [it for it in self.numbers if os.path.basename(self.path(it)) not in there]
 
     def schedule(self):
         """Decodes the missing pieces, or has GNU parallel or an array job of Slurm decode them."""
@@ -246,9 +247,8 @@ def pieces(text):
     """The exit status of tools/pieces."""
     chosen = line_of("pieces", text, 3, PIECES)
     rows, symbols, packets = chosen.files
-    if chosen.alone is not None:
-        # a task of another machine
-        return Work(chosen, chosen.work).decode(chosen.alone) or 0
+    if chosen.task is not None:
+        return Work(chosen, chosen.work).decode(chosen.task) or 0
     outputs, is_away = outputs_of(chosen, [rows, symbols], chosen.files), chosen.hosts or chosen.slurm
     place = None if outputs[-1].part() == packets else os.path.dirname(os.path.realpath(packets))
     chosen.work = chosen.work or (f"{packets}.pieces" if is_away and place else None)
