@@ -144,7 +144,7 @@ def pour(files, pipe):
 
 
 def stitched(words, outputs, records, *left):
-    """The exit status of `s2 stitch` with these records. Its files get their names if nothing failed. A shell removes what is left, after any end."""
+    """The exit status of `s2 stitch` with these records. Its files get their names if nothing failed. After any end, a shell removes the others."""
     parts = {it: it.part() for it in outputs if it.part() != it}
     cleaner = subprocess.Popen(["sh", "-c", "cat; rm -rf \"$@\"", "sh", *parts.values(), *left], stdin=subprocess.PIPE, start_new_session=True)
     # it inherits pipes that the user's shell made
@@ -178,7 +178,7 @@ class Work:
         self.numbers = range(-(-self.total // self.size))
 
     def plan(self):
-        """A script that decodes a piece by its number. It also says of which rows and which recording."""
+        """A script that decodes a piece by its number. It has a line on the rows and the recording."""
         own = ["--s2", self.chosen.s2, "--work", self.folder, "--frames", str(self.size // FRAME), "--task"]
         task = ["python3", os.path.join(TOP, "tools/pieces"), *self.chosen.call[2:], self.rows, self.symbols, os.devnull, *own]
         which = f"{hashlib.sha256(pathlib.Path(self.rows).read_bytes()).hexdigest()} {self.status.st_size} {self.status.st_mtime_ns}"
@@ -198,7 +198,7 @@ class Work:
         os.rename(part, self.path(number))
 
     def missing(self):
-        # of a network's file system, the list is newer than what is known of a name
+        # over a network a list is more recent than a single name
         there = {*os.listdir(self.folder)}
         return [it for it in self.numbers if os.path.basename(self.path(it)) not in there]
 
@@ -274,8 +274,8 @@ def pieces(text):
 
 
 def groups(chosen, wake):
-    """The groups of standard input, up to its end or a byte in a pipe: the first symbol, the one after the last, a file in memory with them, and how
-    many of its bytes the group before has too, because the frame of these symbols may be cut there."""
+    """Standard input in groups, up to its end or a byte in a pipe. Of each: its first symbol, the one after its last, a file in memory with them, and
+    the number of its bytes that the group before has too. The frame of these symbols may be cut there."""
     length, noted = SYMBOL * FRAME * (chosen.frames or GROUP), float("inf") if "--quiet" in chosen.words else 0
     start, size, shared, due, piece, file = 0, 0, 0, 0.0, None, open(os.memfd_create("group"), "w+b", 0)
     while piece != b"":
@@ -298,13 +298,13 @@ def groups(chosen, wake):
 
 def decoded(chosen, rows, wake, pipes):
     """The records of the groups in order. Before, their symbols go to the two pipes of `s2 stitch`."""
-    jobs = chosen.jobs or len(os.sched_getaffinity(0))
+    jobs, table = chosen.jobs or len(os.sched_getaffinity(0)), open(rows, "rb")
     begun, pool = queue.Queue(jobs), ThreadPoolExecutor(jobs)
 
     def decode(start, stop, symbols, shared):
         records = open(os.memfd_create("records"), "w+b", 0)
-        words = [*chosen.call, "--piece", f"{start}..{stop}", rows, "-", f"/dev/fd/{records.fileno()}"]
-        received(f"symbols {start} to {stop}", words, symbols, 0, [records.fileno()])
+        words = [*chosen.call, "--piece", f"{start}..{stop}", f"/dev/fd/{table.fileno()}", "-", f"/dev/fd/{records.fileno()}"]
+        received(f"symbols {start} to {stop}", words, symbols, 0, [table.fileno(), records.fileno()])
         return records, (symbols, shared)
 
     def read():
