@@ -1,10 +1,9 @@
 -- How many bytes the file of a certificate has.
-use Rattle.std.proofs.Common.{◌≡◌, ℕ, ◌+◌, ◌*◌, ◌/◌, ◌≤◌, List, Bool, ℤ, ◌++◌, length, refl, arith, length-append, lit≤}
+use Rattle.std.proofs.Common.{◌≡◌, ℕ, ◌≤◌, List, Bool, ℤ, length, refl, arith, length-append, lit≤}
 use Rattle.s2_mode.specs.Shape.{IsShape, Shape, code_bits}
 use Rattle.s2_certfile.specs.File.{File, IsFile, IsSplit, Listed, Moved, Split}
 use Rattle.s2_certfile.specs.Format.{body, bytes_of as bytes_of_file, count_of, header_bytes, header_of, version_of}
 use Rattle.s2_certfile.specs.Limits.{max_shares}
-use Rattle.s2_certfile.specs.declared.header.FileHeader.{FileHeader}
 use Rattle.s2_certfile.specs.declared.version.Version.{Version}
 use Rattle.s2_certfile.specs.declared.version.Version.TheVariants as versions
 use Rattle.s2_certfile.proofs.Fields.{IsOf, body_is}

@@ -1,5 +1,5 @@
 -- Laws of records, which follow from the definitions alone (own).
-use Rattle.std.specs.Prelude.{◌≡◌, ℕ, ◌/◌, Bool, true, List, length, All, ℤ, Option, Ok}
+use Rattle.std.specs.Prelude.{◌≡◌, ℕ, ◌/◌, true, List, length, All, ℤ, Option, Ok}
 use Rattle.std.specs.List.{flat_map}
 use Rattle.std.specs.Io.KnownBytes.{Appends}
 use Rattle.s2_mode.specs.Mode.{Mode, IsMode, kbch_of}

@@ -29,6 +29,8 @@ fn file_of(alloc: Global, certificate: &CertView<'_>) -> Result<Vec<u8>, AllocEr
     ensures read_back { OnOk result (file_of_bytes (bytes_of certificate.now) ≡ Ok (file_of certificate.now)) }
     ensures few { IfOk result (λ v. length v.items ≤ max_certificate) }
 {
+    // the facts on the sizes of its lists are a part of this clause
+    let _shape = certificate.shape();
     let mut file = Counting::new(Vec::new(alloc));
     match certificate.write(&mut file) {
         Ok(()) => Ok(file.into_inner()),
