@@ -565,6 +565,27 @@ pub(crate) const ABOUT_REPORT: Argument = Argument {
     ..ABOUT
 };
 
+pub(crate) const PIECE: Argument = Argument {
+    name: "piece",
+    form: ArgumentKind::Valued(Value {
+        name: "FROM..TO",
+        ..FILE
+    }),
+    help: "Receive only a piece of a recording, the symbols from FROM to TO - 1, and write its records for `stitch` instead of packets; SYMBOLS begins with symbol FROM",
+};
+
+pub(crate) const LAST: Argument = Argument {
+    name: "last",
+    form: ArgumentKind::Flag,
+    help: "This is the last piece: read SYMBOLS to the end; needs --piece",
+};
+
+pub(crate) const AGAIN: Argument = Argument {
+    name: "again",
+    form: ArgumentKind::Valued(FILE),
+    help: "The same symbols once more, for example from a second pipe; by default SYMBOLS, which then must be a regular file",
+};
+
 /// The argument for the name of a file.
 macro_rules! file {
     ($name:literal, $help:literal) => {
@@ -602,6 +623,16 @@ pub(crate) const SYMBOLS: Argument = file!(
 );
 
 pub(crate) const PACKETS_MADE: Argument = file!("PACKETS", "Output file for the packets");
+
+pub(crate) const PACKETS_OR_RECORDS: Argument = file!(
+    "PACKETS",
+    "Output file for the packets; with --piece for the records"
+);
+
+pub(crate) const PIECE_RECORDS: Argument = file!(
+    "RECORDS",
+    "Records written by `demod --piece`, one piece after another, in order"
+);
 
 pub(crate) const PACKETS_RECEIVED: Argument = file!("OUT", "Output file for the received packets");
 

@@ -138,7 +138,7 @@ Example:
 
 /// The report of a receiver, and its exits.
 macro_rules! report {
-    ($last:literal, $notes:literal, $accepted:literal, $example:literal) => {
+    ($last:literal, $notes:literal, $accepted:literal, $pieces:literal, $example:literal) => {
         concat!(
             "\
 The report, a line per frame as it is decided, and a line at the end:
@@ -207,7 +207,9 @@ Files:
             " are accepted.
   --about writes a JSON object when the command ends, but not after a fault: the version, the mode, every option, and the SHA-256 and the number of bytes of each file and of the report.
   The file of --about is opened after all other files.
-
+",
+            $pieces,
+            "
 Example:
 ",
             $example
@@ -220,6 +222,13 @@ const DEMOD_MORE: &str = report!(
     "",
     "",
     "",
+    "
+With --piece FROM..TO, for `stitch`:
+  Up to TO - FROM symbols are read, and a frame and 90 symbols after them; with --last all symbols.
+  The last file gets a binary record of each frame in place of packets. No other files are written: --certificates only adds the certificates to the records.
+  Symbols in the report are counted from the beginning of the recording. The report has one more line at the end, and the exit status is 0 unless there is an error:
+  piece FROM TO last 0|1 frames N    N records were written; 1 with --last
+",
     "  s2 demod --modcod qpsk1/2 --pilots rows noisy received.ts"
 );
 
@@ -232,6 +241,7 @@ const RUN_MORE: &str = report!(
   N bytes left out in M places                         with --resync: a wrong sync byte and the bytes after it, up to the next five; the exit is 2
 ",
     " and the packets",
+    "",
     "  s2 run --modcod qpsk1/2 --pilots --seed 1 --level 100 rows packets.ts received.ts
   s2 run --modcod qpsk1/2 --seeds 1..100 --esn0 1.2 rows packets.ts received.ts"
 );
@@ -349,6 +359,27 @@ Example:
   s2 compare --modcod qpsk1/2 rows certificates words
   s2 compare --modcod qpsk1/2 --bbframes rows certificates bbframes";
 
+/// The text below the options of `stitch`.
+const STITCH_MORE: &str = "\
+The output:
+  The packets, the report, the notes, the exit status and all files are those of `s2 demod` with the same options: see its help.
+  The decision on a frame is taken from its record. A frame without a record is decided here, so a missing record only costs time.
+  Packets and the line of a frame are written before the next frame is searched. A record is read when it is needed.
+
+Files:
+  RECORDS has the records of all pieces, one after another, in the order of the pieces. The pieces may overlap.
+  SYMBOLS is read twice at the same time. If it is no regular file, --again is another one with the same symbols, for example a second pipe.
+  SYMBOLS, RECORDS and the file of --again may be pipes that are filled meanwhile.
+
+Exit status:
+  0, 2  those of `demod`
+  1     a usage error, or an error reported on standard error, for example a record of another recording, of other rows or of other options: then the packets and the files are of no use
+
+Example:
+  s2 demod --modcod qpsk1/2 --piece 0..1000000 rows symbols first
+  tail -c +4000001 symbols | s2 demod --modcod qpsk1/2 --piece 1000000..2000000 --last rows - second
+  cat first second | s2 stitch --modcod qpsk1/2 rows symbols - received.ts";
+
 /// The text below the options of a command.
 pub(crate) fn more_of(command: CommandName) -> &'static str {
     match command {
@@ -365,5 +396,6 @@ pub(crate) fn more_of(command: CommandName) -> &'static str {
         CommandName::Join => JOIN_MORE,
         CommandName::Audit => AUDIT_MORE,
         CommandName::Compare => COMPARE_MORE,
+        CommandName::Stitch => STITCH_MORE,
     }
 }

@@ -1,16 +1,16 @@
 //! The table of the command line: the commands, and the arguments of each.
 use crate::arguments::{
-    ABOUT, ABOUT_REPORT, Argument, BBFRAMES, BBFRAMES_GIVEN, BBFRAMES_READ, BITS_GIVEN,
+    ABOUT, ABOUT_REPORT, AGAIN, Argument, BBFRAMES, BBFRAMES_GIVEN, BBFRAMES_READ, BITS_GIVEN,
     CERTIFICATE, CERTIFICATE_READ, CERTIFICATES, CERTIFICATES_GIVEN, CERTIFICATES_READ,
     CLEAN_SYMBOLS, CODEWORDS, CODEWORDS_READ, DIVISOR, DIVISOR_OF_REPORT, DUMMY, EACH_CERTIFICATE,
     EACH_FRAME, EQUALIZE, EQUALIZE_REPORT, ESN0, EVERY, EXIT_BY, FACTOR, FIGURES, FIGURES_REPORT,
-    FIRST, GROUP, GROUP_OR_MODE, GROUPS, GROUPS_OR_MODE, HARD, LEVEL, LOCK, LOCK_REPORT, MODCOD,
-    MODCOD_OR_NONE, NOISY_SYMBOLS, NUMBER, PACKETS, PACKETS_COMPARED, PACKETS_MADE,
-    PACKETS_RECEIVED, PASSES, PILOTS, PROGRESS, Q, Q_OR_MODE, QUIET, QUIET_AND_STILL, RATE,
-    RECORDING, REPORT, RESYNC, RESYNC_BOTH, RESYNC_FRAMES, RESYNC_REPORT, ROLL_OFF, ROLL_OFF_READ,
-    ROUNDS, ROWS, SEED, SEED_OR_SEEDS, SEEDS, SENT_BBFRAMES, SENT_CODEWORDS, SENT_LABELS,
-    SENT_SYMBOLS, SHORT, SOFT_VALUES, STRICT, SYMBOLS, SYMBOLS_MADE, TUNED, TUNED_REPORT, TURNS,
-    TURNS_REPORT, UNCERTIFIED, VALUES, WEIGHT, WORDS,
+    FIRST, GROUP, GROUP_OR_MODE, GROUPS, GROUPS_OR_MODE, HARD, LAST, LEVEL, LOCK, LOCK_REPORT,
+    MODCOD, MODCOD_OR_NONE, NOISY_SYMBOLS, NUMBER, PACKETS, PACKETS_COMPARED, PACKETS_MADE,
+    PACKETS_OR_RECORDS, PACKETS_RECEIVED, PASSES, PIECE, PIECE_RECORDS, PILOTS, PROGRESS, Q,
+    Q_OR_MODE, QUIET, QUIET_AND_STILL, RATE, RECORDING, REPORT, RESYNC, RESYNC_BOTH, RESYNC_FRAMES,
+    RESYNC_REPORT, ROLL_OFF, ROLL_OFF_READ, ROUNDS, ROWS, SEED, SEED_OR_SEEDS, SEEDS,
+    SENT_BBFRAMES, SENT_CODEWORDS, SENT_LABELS, SENT_SYMBOLS, SHORT, SOFT_VALUES, STRICT, SYMBOLS,
+    SYMBOLS_MADE, TUNED, TUNED_REPORT, TURNS, TURNS_REPORT, UNCERTIFIED, VALUES, WEIGHT, WORDS,
 };
 
 /// The commands.
@@ -29,6 +29,7 @@ pub enum CommandName {
     Join,
     Audit,
     Compare,
+    Stitch,
 }
 
 /// A command, its name and its first line of help. Its options and the rest of its help are separate, so that no proof
@@ -41,7 +42,7 @@ pub struct CommandHelp {
 }
 
 /// All commands, in the order of the help.
-static COMMANDS: [CommandHelp; 13] = [
+static COMMANDS: [CommandHelp; 14] = [
     CommandHelp {
         command: CommandName::Demod,
         name: "demod",
@@ -107,6 +108,11 @@ static COMMANDS: [CommandHelp; 13] = [
         name: "join",
         about: "Reassembles packets from BBFRAMEs",
     },
+    CommandHelp {
+        command: CommandName::Stitch,
+        name: "stitch",
+        about: "Demodulates a recording by the records of its pieces",
+    },
 ];
 
 /// All commands, in the order of the help.
@@ -156,8 +162,12 @@ pub(crate) enum Section {
     NoiseFiles,
     /// The roll-off, which a receiver ignores.
     Received,
+    /// A piece of a recording.
+    Piece,
     /// The files of `demod`.
     DemodFiles,
+    /// The files of `stitch`.
+    StitchFiles,
     /// `run`, after the link.
     Run,
     /// The channel of `run`.
@@ -312,10 +322,22 @@ fn received_arguments() -> &'static [Argument] {
     &RECEIVED_ARGUMENTS
 }
 
-static DEMOD_FILES_ARGUMENTS: [Argument; 3] = [ROWS, SYMBOLS, PACKETS_MADE];
+static PIECE_ARGUMENTS: [Argument; 2] = [PIECE, LAST];
+
+fn piece_arguments() -> &'static [Argument] {
+    &PIECE_ARGUMENTS
+}
+
+static DEMOD_FILES_ARGUMENTS: [Argument; 3] = [ROWS, SYMBOLS, PACKETS_OR_RECORDS];
 
 fn demod_files_arguments() -> &'static [Argument] {
     &DEMOD_FILES_ARGUMENTS
+}
+
+static STITCH_FILES_ARGUMENTS: [Argument; 5] = [AGAIN, ROWS, SYMBOLS, PIECE_RECORDS, PACKETS_MADE];
+
+fn stitch_files_arguments() -> &'static [Argument] {
+    &STITCH_FILES_ARGUMENTS
 }
 
 static RUN_ARGUMENTS: [Argument; 3] = [ROLL_OFF, DUMMY, RESYNC_BOTH];
@@ -412,7 +434,9 @@ pub(crate) fn arguments_in(section: Section) -> &'static [Argument] {
         Section::Noise => noise_arguments(),
         Section::NoiseFiles => noise_files_arguments(),
         Section::Received => received_arguments(),
+        Section::Piece => piece_arguments(),
         Section::DemodFiles => demod_files_arguments(),
+        Section::StitchFiles => stitch_files_arguments(),
         Section::Run => run_arguments(),
         Section::Channel => channel_arguments(),
         Section::RunFiles => run_files_arguments(),
@@ -448,6 +472,7 @@ pub(crate) fn sections_of(command: CommandName) -> &'static [Section] {
             Section::FindingFrames,
             Section::Reporting,
             Section::Records,
+            Section::Piece,
             Section::DemodFiles,
         ],
         CommandName::Run => &[
@@ -470,6 +495,15 @@ pub(crate) fn sections_of(command: CommandName) -> &'static [Section] {
             Section::AuditFiles,
         ],
         CommandName::Compare => &[Section::Code, Section::Compare, Section::CompareFiles],
+        CommandName::Stitch => &[
+            Section::Link,
+            Section::Received,
+            Section::Decoding,
+            Section::FindingFrames,
+            Section::Reporting,
+            Section::Records,
+            Section::StitchFiles,
+        ],
     }
 }
 
@@ -554,6 +588,13 @@ const BITS_OF_PACKETS: Rule = Rule {
     excluded: &[],
 };
 
+/// Only a piece can be the last one.
+const PIECE_OF_LAST: Rule = Rule {
+    given: &["last"],
+    needed: &["piece"],
+    excluded: &[],
+};
+
 /// The rule of the other options.
 const NO_RULE: Rule = Rule {
     given: &[],
@@ -567,7 +608,8 @@ fn rules_of(command: CommandName) -> &'static [Rule] {
         CommandName::Modes => &[LENGTH_OF_MODE],
         CommandName::Judge => &[WHOLE_SHAPE, LENGTH_OF_MODE, NO_PASSES],
         CommandName::Compare => &[WHOLE_SHAPE, LENGTH_OF_MODE, MODE_OF_BBFRAMES],
-        CommandName::Demod | CommandName::Run => &[NO_PASSES],
+        CommandName::Demod => &[NO_PASSES, PIECE_OF_LAST],
+        CommandName::Run | CommandName::Stitch => &[NO_PASSES],
         CommandName::Audit => &[BITS_OF_PACKETS],
         _ => &[],
     }

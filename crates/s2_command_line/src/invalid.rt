@@ -5,7 +5,7 @@ use crate::roll_off::read_roll_off;
 use s2_mode::{MAX_MODCOD, Mode, Modulation};
 use s2_names::{Case, SymbolRate, constellation};
 use s2_usage::{Refused, Unread, refused_value};
-use s2_words::{read_modcod, read_seeds};
+use s2_words::{read_modcod, read_piece, read_seeds};
 use std::alloc::{AllocError, Global};
 
 /// Appends the names of all modes of a constellation to a text.
@@ -101,6 +101,19 @@ fn refused_seeds<'a, G: Given<'a>>(given: &G) -> Option<Refused<'a>> {
     })
 }
 
+/// The value of `--piece`, if it is given and invalid.
+fn refused_piece<'a, G: Given<'a>>(given: &G) -> Option<Refused<'a>> {
+    let value = given.text("piece")?;
+    if read_piece(value, false).is_some() {
+        return None;
+    }
+    Some(Refused {
+        value,
+        option: "--piece",
+        accepted: "two positions with two dots between them, the first at most the second, for example 0..1000000",
+    })
+}
+
 /// The value of `--rate`, if it is given and invalid.
 fn refused_rate<'a, G: Given<'a>>(given: &G) -> Option<Refused<'a>> {
     let value = given.text("rate")?;
@@ -119,6 +132,7 @@ fn refused_in<'a, G: Given<'a>>(given: &G) -> Option<Refused<'a>> {
     refused_roll_off(given)
         .or(refused_esn0(given))
         .or(refused_seeds(given))
+        .or(refused_piece(given))
         .or(refused_rate(given))
 }
 

@@ -10,10 +10,10 @@ use s2_usage::{Unread, not_understood, read_words};
 use s2_words::{
     AuditArguments, ChannelArguments, CheckArguments, CodeArguments, CompareArguments,
     DemodArguments, ExitBy, JoinArguments, JudgeArguments, LinkArguments, ModArguments,
-    ModesArguments, NoiseArguments, NoteArguments, NumberArguments, Progress, RecordArguments,
-    Request, RowsArguments, RunArguments, ScanArguments, Seeds, SentRecordArguments,
-    ShapeArguments, StrengthArguments, TableArguments, TuningArguments, WordsArguments,
-    progress_by, read_modcod, read_seeds,
+    ModesArguments, NoiseArguments, NoteArguments, NumberArguments, Piece, Progress,
+    RecordArguments, Request, RowsArguments, RunArguments, ScanArguments, Seeds,
+    SentRecordArguments, ShapeArguments, StitchArguments, StrengthArguments, TableArguments,
+    TuningArguments, WordsArguments, progress_by, read_modcod, read_piece, read_seeds,
 };
 use std::alloc::Global;
 
@@ -260,7 +260,12 @@ fn noise_of<'a, G: Given<'a>>(given: &G) -> NoiseArguments<'a> {
     }
 }
 
-fn demod_of<'a, G: Given<'a>>(given: &G) -> DemodArguments<'a> {
+fn piece_of<'a, G: Given<'a>>(given: &G) -> Option<Piece> {
+    read_piece(given.text("piece")?, given.flag("last"))
+}
+
+/// `piece` is the piece of a recording, if only that is received.
+fn reception_of<'a, G: Given<'a>>(given: &G, piece: Option<Piece>) -> DemodArguments<'a> {
     DemodArguments {
         link: link_of(given),
         tuning: tuning_of(given),
@@ -269,9 +274,22 @@ fn demod_of<'a, G: Given<'a>>(given: &G) -> DemodArguments<'a> {
         progress: progress_of(given),
         records: records_of(given),
         about: given.text("about"),
+        piece,
         rows: file(given, "ROWS"),
         symbols: file(given, "SYMBOLS"),
         packets: file(given, "PACKETS"),
+    }
+}
+
+fn demod_of<'a, G: Given<'a>>(given: &G) -> DemodArguments<'a> {
+    reception_of(given, piece_of(given))
+}
+
+fn stitch_of<'a, G: Given<'a>>(given: &G) -> StitchArguments<'a> {
+    StitchArguments {
+        demod: reception_of(given, None),
+        records: file(given, "RECORDS"),
+        again: given.text("again"),
     }
 }
 
@@ -355,6 +373,7 @@ fn request_of<'a, G: Given<'a>>(name: &str, given: &G) -> Option<Request<'a>> {
         "join" => Some(Request::Join(join_of(given))),
         "audit" => Some(Request::Audit(audit_of(given))),
         "compare" => Some(Request::Compare(compare_of(given))),
+        "stitch" => Some(Request::Stitch(stitch_of(given))),
         _ => None,
     }
 }

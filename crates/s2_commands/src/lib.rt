@@ -29,6 +29,7 @@ mod sums;
 pub use choices::{Channel, DemodOptions, RunOptions};
 pub use demod::demod_command;
 pub use link_files::LinkFiles;
+pub use losses::finish_reception;
 pub use modulate::mod_command;
 pub use noise::noise_command;
 pub use rows::rows_command;

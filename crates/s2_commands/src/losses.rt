@@ -200,7 +200,7 @@ fn write_notes<W: CountedWrite>(
 
 /// The exit of a command after its reception. Its notes are written, unless they are left out. A fault is reported. If
 /// a note cannot be written, that is the fault.
-pub(crate) fn finish_reception<O: CountedWrite, E: CountedWrite>(
+pub fn finish_reception<O: CountedWrite, E: CountedWrite>(
     words: NoteArguments,
     mode: &Mode,
     reception: Result<Received, Fault<'_>>,

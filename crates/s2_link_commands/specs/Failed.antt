@@ -1,17 +1,46 @@
 -- The failed calls on the files of records (own).
 use Rattle.std.specs.Prelude.{ℕ, ◌+◌, Option}
+use Rattle.s2_mode.specs.Counts.{counted_with}
+use Rattle.s2_io.specs.declared.truncating.Truncating.{Truncating}
 use Rattle.s2_receive.specs.Sinks.{wanted_count}
+use Rattle.s2_records.specs.Records.{Framing}
+use Rattle.s2_records.specs.Recording.{Recorder}
 
--- those of a receiver's: certificates, soft values and words, whose sinks are counted by `file`, and BBFRAMEs, by `framed`
-abbrev pub received_failed : {F B : Type 0} → (file : F → ℕ) → (framed : B → ℕ) → Option F × (Option F × (Option F × Option B)) → ℕ
-received_failed file framed records =
-    wanted_count file records.0 + (wanted_count file records.1.0 + (wanted_count file records.1.1.0 + wanted_count framed records.1.1.1))
+-- a file that may be given
+abbrev pub File : Type 0 → Type 0
+File W = Option (Truncating W)
 
--- those of a transmitter's: codewords, BBFRAMEs, labels and symbols
-abbrev pub sent_failed : {F B : Type 0} → (file : F → ℕ) → (framed : B → ℕ) → Option F × (Option B × (Option B × Option B)) → ℕ
-sent_failed file framed records =
-    wanted_count file records.0 + (wanted_count framed records.1.0 + (wanted_count framed records.1.1.0 + wanted_count framed records.1.1.1))
+-- one with a mode
+abbrev pub Framed : Type 0 → Type 0
+Framed W = Option (Framing (Truncating W))
+
+-- those of a receiver: the records of a piece, certificates, soft values, words and BBFRAMEs
+abbrev pub Received : Type 0 → Type 0
+Received W = Option (Recorder (Truncating W)) × (File W × (File W × (File W × Framed W)))
+
+-- those of a transmitter: codewords, BBFRAMEs, labels and symbols
+abbrev pub Sent : Type 0 → Type 0
+Sent W = File W × (Framed W × (Framed W × Framed W))
+
+-- the failed calls of each, by the count of its writer
+abbrev pub file_failed : {W : Type 0} → (W → ℕ) → File W → ℕ
+file_failed count file = wanted_count (λ t. count t.to) file
+
+abbrev pub framed_failed : {W : Type 0} → (W → ℕ) → Framed W → ℕ
+framed_failed count file = wanted_count (λ f. count f.to.to) file
+
+abbrev pub recorder_failed : {W : Type 0} → (W → ℕ) → Option (Recorder (Truncating W)) → ℕ
+recorder_failed count recorder = wanted_count (λ r. counted_with (count r.to.to) r.refused) recorder
+
+-- those of all files of a receiver
+abbrev pub received_failed : {W : Type 0} → (W → ℕ) → Received W → ℕ
+received_failed count records =
+    recorder_failed count records.0 + (file_failed count records.1.0 + (file_failed count records.1.1.0 + (file_failed count records.1.1.1.0 + framed_failed count records.1.1.1.1)))
+
+-- those of all files of a transmitter
+abbrev pub sent_failed : {W : Type 0} → (W → ℕ) → Sent W → ℕ
+sent_failed count records = file_failed count records.0 + (framed_failed count records.1.0 + (framed_failed count records.1.1.0 + framed_failed count records.1.1.1))
 
 -- those of both ends
-abbrev pub records_failed : {F B : Type 0} → (file : F → ℕ) → (framed : B → ℕ) → (Option F × (Option F × (Option F × Option B))) × (Option F × (Option B × (Option B × Option B))) → ℕ
-records_failed file framed records = received_failed file framed records.0 + sent_failed file framed records.1
+abbrev pub records_failed : {W : Type 0} → (W → ℕ) → Received W × Sent W → ℕ
+records_failed count records = received_failed count records.0 + sent_failed count records.1

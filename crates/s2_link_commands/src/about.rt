@@ -22,7 +22,7 @@ pub(crate) fn open_about<'a, P: Opens<'a>>(
     opener: &mut P,
     name: Option<&'a str>,
 ) -> Result<AboutFile<P::Output>, Unserved<'a>>
-    requires { P.opened opener.old < 8 }
+    requires { P.opened opener.old < 10 }
     ensures { IfOk result (λ made. wanted_count (λ file. P.Output.count file.to) made ≡ 0) }
 {
     match name {
@@ -109,13 +109,15 @@ fn push_sums(
     push_sum(alloc, text, report, sums.report.take())
 }
 
-fn demod_record(
+/// The record of a command that receives symbols.
+fn reception_record(
     alloc: Global,
+    command: &str,
     words: &DemodArguments<'_>,
     tuning: &Tuning,
     sums: &FileSums,
 ) -> Result<String, AllocError> {
-    let mut text = begin_record(alloc, "demod")?;
+    let mut text = begin_record(alloc, command)?;
     push_receiver(&mut text, words.link, tuning)?;
     push_fields(
         &mut text,
@@ -165,7 +167,12 @@ fn record_of(
 ) -> Result<String, AllocError> {
     match request {
         LinkRequest::Mod(_) => Ok(String::new(alloc)),
-        LinkRequest::Demod(words, options) => demod_record(alloc, words, &options.tuning, sums),
+        LinkRequest::Demod(words, options) => {
+            reception_record(alloc, "demod", words, &options.tuning, sums)
+        }
+        LinkRequest::Stitch(words, options) => {
+            reception_record(alloc, "stitch", &words.demod, &options.tuning, sums)
+        }
         LinkRequest::Run(words, options) => run_record(alloc, words, &options.tuning, sums),
     }
 }

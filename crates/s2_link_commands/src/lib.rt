@@ -1,4 +1,4 @@
-//! The commands `mod`, `demod` and `run` on the files of the command line. [`with_link`] opens these, with the files of
+//! The commands `mod`, `demod`, `run` and `stitch` on the files of the command line. [`with_link`] opens these, with the files of
 //! records, runs the command on them, and finishes them.
 //!
 //! This is plain code: `s2_commands` has the contracts of the commands. The contracts here say what these require of their
@@ -11,8 +11,10 @@
 #![tactic(auto)]
 
 mod about;
+mod beside;
 mod link_request;
 mod opening;
+mod piece;
 mod records;
 
 pub use link_request::{LinkRequest, with_link};

@@ -1,5 +1,6 @@
 //! The commands on a link: what each needs of its words, and how it runs on its files. This is plain code.
 ghost use Rattle.std.specs.Prelude.{◌≡◌, ◌≢◌, ◌+◌, ◌≤◌, IfOk, OnErr};
+ghost use Rattle.std.specs.Option.{ForSome};
 ghost use Rattle.s2_mode.specs.Counts.{CanCount};
 ghost use Rattle.s2_io.specs.Files.{CanStart};
 ghost use Rattle.s2_io.specs.Screens.{CanNote};
@@ -7,8 +8,10 @@ ghost use Rattle.s2_receive.specs.Sinks.{wanted_count};
 ghost use Rattle.s2_link_commands.specs.Failed.{records_failed};
 
 use crate::about::{AboutFile, finish_about, open_about};
-use crate::opening::{Reading, Watching, link_files, open_three};
-use crate::records::{RecordNames, Records, finish_command, open_records};
+use crate::beside::{Beside, BesideNames, open_beside};
+use crate::opening::{Reading, Watching, link_files, open_two};
+use crate::piece::{end_piece, symbols_of};
+use crate::records::{RecordNames, Records, finish_command, open_records, recorded_frames};
 use s2_about::FileSums;
 use s2_commands::{DemodOptions, LinkFiles, RunOptions, demod_command, mod_command, run_command};
 use s2_io::{Console, Disk, Exit, Meter, Output, Pace, Show, Terminal, Truncating};
@@ -18,7 +21,11 @@ use s2_notes::{exit_after, note_beginning, note_left_out};
 use s2_opening::{Opens, Unserved, show_on};
 use s2_options::setup_of;
 use s2_resync::LeftOut;
-use s2_words::{DemodArguments, LinkArguments, ModArguments, Progress, RunArguments, Seeds};
+use s2_stitching::stitch_command;
+use s2_words::{
+    DemodArguments, LinkArguments, ModArguments, Piece, Progress, RunArguments, Seeds,
+    StitchArguments,
+};
 use std::alloc::Global;
 use std::time::Clock;
 
@@ -28,6 +35,7 @@ pub enum LinkRequest<'w, 'a> {
     Mod(&'w ModArguments<'a>),
     Demod(&'w DemodArguments<'a>, &'w DemodOptions),
     Run(&'w RunArguments<'a>, &'w RunOptions),
+    Stitch(&'w StitchArguments<'a>, &'w DemodOptions),
 }
 
 /// The words of a request that its command does not take: those on its files and on its progress.
@@ -36,7 +44,11 @@ struct FileWords<'a> {
     link: LinkArguments,
     /// The names of its row file, its input and its output, in the order in which they are opened.
     names: [&'a str; 3],
+    /// The names of the files that `stitch` reads besides, which are opened before the output.
+    beside: Option<BesideNames<'a>>,
     reading: Reading,
+    /// The piece of a recording, if only that is received.
+    piece: Option<Piece>,
     records: RecordNames<'a>,
     /// The name of the file that says how the report was made, if one is given.
     about: Option<&'a str>,
@@ -56,10 +68,12 @@ fn sending_words<'a>(words: &ModArguments<'a>) -> FileWords<'a> {
     FileWords {
         link: words.link,
         names: [words.rows, words.packets, words.symbols],
+        beside: None,
         reading: Reading {
             buffered: true,
             resync: words.resync,
         },
+        piece: None,
         records: RecordNames::Sent(words.records),
         about: None,
         progress: words.progress,
@@ -73,10 +87,12 @@ fn receiving_words<'a>(words: &DemodArguments<'a>) -> FileWords<'a> {
     FileWords {
         link: words.link,
         names: [words.rows, words.symbols, words.packets],
+        beside: None,
         reading: Reading {
             buffered: false,
             resync: false,
         },
+        piece: None,
         records: RecordNames::Received(words.records),
         about: words.about,
         progress: words.progress,
@@ -85,14 +101,49 @@ fn receiving_words<'a>(words: &DemodArguments<'a>) -> FileWords<'a> {
     }
 }
 
+/// Of a piece, only its records are written: to the file of the packets.
+fn piece_words<'a>(words: &DemodArguments<'a>, piece: Piece) -> FileWords<'a> {
+    FileWords {
+        names: [words.rows, words.symbols, "/dev/null"],
+        piece: Some(piece),
+        records: RecordNames::OfPiece {
+            to: words.packets,
+            from: piece.from,
+            certificates: words.records.certificates.is_some(),
+        },
+        about: None,
+        notes_gaps: false,
+        ..receiving_words(words)
+    }
+}
+
+fn demod_words<'a>(words: &DemodArguments<'a>) -> FileWords<'a> {
+    match words.piece {
+        Some(piece) => piece_words(words, piece),
+        None => receiving_words(words),
+    }
+}
+
+fn stitching_words<'a>(words: &StitchArguments<'a>) -> FileWords<'a> {
+    FileWords {
+        beside: Some(BesideNames {
+            records: words.records,
+            again: words.again,
+        }),
+        ..receiving_words(&words.demod)
+    }
+}
+
 fn looping_words<'a>(words: &RunArguments<'a>) -> FileWords<'a> {
     FileWords {
         link: words.link,
         names: [words.rows, words.packets, words.to],
+        beside: None,
         reading: Reading {
             buffered: true,
             resync: words.resync,
         },
+        piece: None,
         records: RecordNames::Received(words.records),
         about: words.about,
         progress: words.progress,
@@ -104,8 +155,9 @@ fn looping_words<'a>(words: &RunArguments<'a>) -> FileWords<'a> {
 fn file_words<'a>(request: LinkRequest<'_, 'a>) -> FileWords<'a> {
     match request {
         LinkRequest::Mod(words) => sending_words(words),
-        LinkRequest::Demod(words, _) => receiving_words(words),
+        LinkRequest::Demod(words, _) => demod_words(words),
         LinkRequest::Run(words, _) => looping_words(words),
+        LinkRequest::Stitch(words, _) => stitching_words(words),
     }
 }
 
@@ -114,7 +166,7 @@ fn pace_of(request: LinkRequest<'_, '_>, mode: &Mode) -> Pace {
     let frame = mode.symbols() as u64;
     match request {
         LinkRequest::Mod(_) => Pace::Sending { frame },
-        LinkRequest::Demod(_, _) => Pace::Receiving { frame },
+        LinkRequest::Demod(_, _) | LinkRequest::Stitch(_, _) => Pace::Receiving { frame },
         LinkRequest::Run(words, _) => Pace::Looping {
             runs: runs_of(words.seeds),
         },
@@ -174,22 +226,77 @@ fn conclude_packets<R: Disk + AllocGlobal>(
     exit_after(left_out, exit)
 }
 
-/// Runs the command of a request on its opened files. `notes` takes the notes before a report.
-fn run_on_files<I: CountedRead, W: Output, F: Output, O: CountedWrite, E: CountedWrite>(
+/// Runs the command of a request that receives symbols. `beside` has the records and the symbols of `stitch`.
+fn run_receiver<
+    B: CountedRead + Drop,
+    I: CountedRead,
+    W: Output,
+    F: Output,
+    O: CountedWrite,
+    E: CountedWrite,
+>(
     setup: LinkSetup,
-    request: LinkRequest<'_, '_>,
+    options: &DemodOptions,
+    certified: bool,
     files: &mut LinkFiles<I, W>,
+    beside: Beside<B>,
     records: &mut Records<Truncating<F>>,
     console: &mut Console<O, E>,
     notes: &mut E,
     alloc: Global,
 ) -> Exit
     requires files { CanStart files.old }
-    requires records { records_failed (λ t. F.count t.to) (λ b. F.count b.to.to) records.old ≡ 0 }
+    requires beside { ForSome beside (λ b. (B.count b.0 ≡ 0) × (B.count b.1 ≡ 0)) }
+    requires records { records_failed F.count records.old ≡ 0 }
     requires console { CanNote console.old }
     requires notes { CanCount (E.count notes.old) }
     ensures quiet { result ≢ Exit.Fault → CanCount console.new.errors_failed }
-    ensures few { records_failed (λ t. F.count t.to) (λ b. F.count b.to.to) records.new ≤ 1 }
+    ensures whole { result ≢ Exit.Fault → CanCount console.new.output_failed }
+    ensures few { records_failed F.count records.new ≤ 1 }
+{
+    match beside {
+        Some((pieces, copy)) => stitch_command(
+            alloc,
+            setup,
+            options,
+            certified,
+            files,
+            pieces,
+            copy,
+            &mut records.0,
+            console,
+            notes,
+        ),
+        None => demod_command(alloc, setup, options, files, &mut records.0, console, notes),
+    }
+}
+
+/// Runs the command of a request on its opened files. `notes` takes the notes before a report.
+fn run_on_files<
+    B: CountedRead + Drop,
+    I: CountedRead,
+    W: Output,
+    F: Output,
+    O: CountedWrite,
+    E: CountedWrite,
+>(
+    setup: LinkSetup,
+    request: LinkRequest<'_, '_>,
+    files: &mut LinkFiles<I, W>,
+    beside: Beside<B>,
+    records: &mut Records<Truncating<F>>,
+    console: &mut Console<O, E>,
+    notes: &mut E,
+    alloc: Global,
+) -> Exit
+    requires files { CanStart files.old }
+    requires beside { ForSome beside (λ b. (B.count b.0 ≡ 0) × (B.count b.1 ≡ 0)) }
+    requires records { records_failed F.count records.old ≡ 0 }
+    requires console { CanNote console.old }
+    requires notes { CanCount (E.count notes.old) }
+    ensures quiet { result ≢ Exit.Fault → CanCount console.new.errors_failed }
+    ensures whole { result ≢ Exit.Fault → CanCount console.new.output_failed }
+    ensures few { records_failed F.count records.new ≤ 1 }
 {
     match request {
         LinkRequest::Mod(words) => mod_command(
@@ -201,11 +308,17 @@ fn run_on_files<I: CountedRead, W: Output, F: Output, O: CountedWrite, E: Counte
             console,
             notes,
         ),
-        LinkRequest::Demod(_, options) => {
-            demod_command(alloc, setup, options, files, &mut records.0, console, notes)
-        }
+        LinkRequest::Demod(_, options) => run_receiver(
+            setup, options, false, files, beside, records, console, notes, alloc,
+        ),
         LinkRequest::Run(_, options) => {
             run_command(alloc, setup, options, files, &mut records.0, console, notes)
+        }
+        LinkRequest::Stitch(words, options) => {
+            let certified = words.demod.records.certificates.is_some();
+            run_receiver(
+                setup, options, certified, files, beside, records, console, notes, alloc,
+            )
         }
     }
 }
@@ -213,10 +326,10 @@ fn run_on_files<I: CountedRead, W: Output, F: Output, O: CountedWrite, E: Counte
 /// The files of records, and the one that says how the report was made.
 type Recorded<W> = (Records<Truncating<W>>, AboutFile<W>);
 
-/// The opened files of a request on a link: its own, and those of records.
-type Opened<'m, 'h, I, W, M> = (Watching<'m, 'h, I, W, M>, Recorded<W>);
+/// The opened files of a request on a link: its own, those that `stitch` reads besides, and those of records.
+type Opened<'m, 'h, I, W, M> = (Watching<'m, 'h, I, W, M>, Beside<I>, Recorded<W>);
 
-/// Opens the files of a request on a link, those of records after the others.
+/// Opens the files of a request on a link: those that are read, its output, and those of records.
 fn open_all<'a, 'm, 'h, P: Opens<'a>, M: Meter>(
     opener: &mut P,
     alloc: Global,
@@ -228,15 +341,20 @@ fn open_all<'a, 'm, 'h, P: Opens<'a>, M: Meter>(
 ) -> Result<Opened<'m, 'h, P::Input, P::Output, M>, Unserved<'a>>
     requires { P.opened opener.old ≡ 0 }
     ensures start { IfOk result (λ files. CanStart files.0) }
-    ensures fresh { IfOk result (λ files. records_failed (λ t. P.Output.count t.to) (λ b. P.Output.count b.to.to) files.1.0 ≡ 0) }
-    ensures about { IfOk result (λ files. wanted_count (λ t. P.Output.count t.to) files.1.1 ≡ 0) }
+    ensures beside { IfOk result (λ files. ForSome files.1 (λ b. (P.Input.count b.0 ≡ 0) × (P.Input.count b.1 ≡ 0))) }
+    ensures fresh { IfOk result (λ files. records_failed P.Output.count files.2.0 ≡ 0) }
+    ensures about { IfOk result (λ files. wanted_count (λ t. P.Output.count t.to) files.2.1 ≡ 0) }
 {
     let Reading { buffered, resync } = words.reading;
-    let files = open_three(opener, meter, words.names, buffered)?;
+    let [rows, from, to] = words.names;
+    let limit = symbols_of(words.piece, &mode);
+    let inputs = open_two(opener, meter, rows, from, buffered, limit)?;
+    let beside = open_beside(opener, words.beside, from)?;
+    let to = opener.write(to)?;
     let records = open_records(opener, alloc, mode, words.records)?;
     let about = open_about(opener, words.about)?;
-    let files = link_files(alloc, meter, unseen, files, resync, sums)?;
-    Ok((files, (records, about)))
+    let files = link_files(alloc, meter, unseen, inputs, to, resync, limit, sums)?;
+    Ok((files, beside, (records, about)))
 }
 
 /// The end of a command: its files of records are finished, and that on its report is written.
@@ -248,7 +366,7 @@ fn finish_all<'a, W: Output + Drop>(
     recorded: Recorded<W>,
     sums: Option<&FileSums>,
 ) -> Result<Exit, Unserved<'a>>
-    requires records { records_failed (λ t. W.count t.to) (λ b. W.count b.to.to) recorded.0 ≤ 1 }
+    requires records { records_failed W.count recorded.0 ≤ 1 }
     requires about { wanted_count (λ t. W.count t.to) recorded.1 ≡ 0 }
     ensures { OnErr result (exit ≢ Exit.Fault) }
 {
@@ -280,13 +398,14 @@ pub fn with_link<'a, P: Opens<'a>, R: Disk + Clock + AllocGlobal, O: CountedWrit
     let pace = pace_of(request, &setup.mode);
     let show = show_of(terminal, pace, words.progress, words.notes_gaps);
     let unseen = Show::new(terminal, pace, false);
-    let (mut files, mut recorded) = open_all(
+    let (mut files, beside, mut recorded) = open_all(
         opener, alloc, &show, &unseen, setup.mode, &words, sums,
     )?;
     let exit = run_on_files(
         setup,
         request,
         &mut files,
+        beside,
         &mut recorded.0,
         console,
         notes,
@@ -296,8 +415,9 @@ pub fn with_link<'a, P: Opens<'a>, R: Disk + Clock + AllocGlobal, O: CountedWrit
     let left_out = files.from.left_out();
     let exit = conclude_packets(terminal, words.noted_packets, left_out, exit);
     let begun = files.to.is_begun();
+    let frames = recorded_frames(&recorded.0);
     match finish_all(alloc, request, exit, begun, recorded, sums) {
-        Ok(exit) => Ok(exit),
+        Ok(_) => end_piece(words.piece, frames, exit, console),
         Err(unserved) => Err(unserved),
     }
 }

@@ -1,5 +1,6 @@
 //! Opens the files of a command on a link.
-ghost use Rattle.std.specs.Prelude.{◌≡◌, IfOk, OnOk};
+ghost use Rattle.std.specs.Prelude.{◌≡◌, ◌^◌, ◌<◌, IfOk, OnOk};
+ghost use Rattle.std.specs.Option.{ForSome};
 ghost use Rattle.either.specs.Either.{either};
 ghost use Rattle.s2_io.specs.Files.{CanStart};
 
@@ -7,16 +8,20 @@ use s2_about::{FileSums, Hashed};
 use s2_commands::LinkFiles;
 use s2_io::{Destination, Meter, Output, Watched};
 use s2_mode::CountedRead;
-use s2_opening::{Opens, Unserved};
+use s2_opening::{Opens, Unserved, length_within};
 use s2_resync::{PacketReader, PacketSource};
+use s2_scan::Beginning;
 use std::alloc::{AllocError, Global};
 
 /// A reader, or a reader of the packets in it.
 pub(crate) type Source<I> = PacketSource<I, PacketReader<I>>;
 
-/// The files of a command on a link, all watched. The second may be a reader of packets.
+/// An input, watched, and limited to its first symbols.
+type Limited<'m, 'h, I, M> = Beginning<Watched<'m, Hashed<'h, I>, M>>;
+
+/// The files of a command on a link, all watched. The second may be limited to its first symbols, or a reader of packets.
 pub(crate) type Watching<'m, 'h, I, W, M> = LinkFiles<
-    Source<Watched<'m, Hashed<'h, I>, M>>,
+    Source<Limited<'m, 'h, I, M>>,
     Watched<'m, Hashed<'h, W>, M>,
 >;
 
@@ -61,49 +66,54 @@ fn source_of<R: CountedRead + Drop>(
     Ok(PacketSource::packets(PacketReader::new(alloc, reader)?))
 }
 
-/// Opens the row file, the input and the output of a command on a link, in this order. The meter expects the input's bytes.
-pub(crate) fn open_three<'a, P: Opens<'a>, M: Meter>(
+/// Opens the row file and the input of a command on a link, in this order. The meter expects the input's bytes, up to this
+/// number of symbols.
+pub(crate) fn open_two<'a, P: Opens<'a>, M: Meter>(
     opener: &mut P,
     meter: &M,
-    names: [&'a str; 3],
+    rows: &'a str,
+    from: &'a str,
     buffered: bool,
-) -> Result<(P::Input, P::Input, P::Output), Unserved<'a>>
+    limit: Option<u64>,
+) -> Result<(P::Input, P::Input), Unserved<'a>>
     requires first { P.opened opener.old ≡ 0 }
-    ensures room { OnOk result (P.opened opener.new ≡ 3) }
+    ensures room { OnOk result (P.opened opener.new ≡ 2) }
     ensures inputs { IfOk result (λ files. (P.Input.count files.0 ≡ 0) × (P.Input.count files.1 ≡ 0)) }
-    ensures output { IfOk result (λ files. P.Output.count files.2 ≡ 0) }
 {
-    let [rows, from, to] = names;
     let rows = opener.read(rows)?;
     let from = read_as(opener, from, buffered)?;
-    meter.expect(opener.last_length());
-    let to = opener.write(to)?;
-    Ok((rows, from, to))
+    meter.expect(length_within(limit, opener.last_length()));
+    Ok((rows, from))
 }
 
-/// The files of a command on a link, of its opened row file, input and output. `unseen` takes the bytes of the row file. If
-/// there are sums, the bytes of each file are hashed.
+/// The files of a command on a link, of its opened row file and input, and of its output. `unseen` takes the bytes of the row
+/// file. The input is limited to this number of symbols. If there are sums, the bytes of each file are hashed.
 pub(crate) fn link_files<'a, 'm, 'h, I: CountedRead + Drop, W: Output + Drop, M: Meter>(
     alloc: Global,
     meter: &'m M,
     unseen: &'m M,
-    files: (I, I, W),
+    inputs: (I, I),
+    to: W,
     resync: bool,
+    limit: Option<u64>,
     sums: Option<&'h FileSums>,
 ) -> Result<Watching<'m, 'h, I, W, M>, Unserved<'a>>
-    requires inputs { (I.count files.0 ≡ 0) × (I.count files.1 ≡ 0) }
-    requires output { W.count files.2 ≡ 0 }
+    requires inputs { (I.count inputs.0 ≡ 0) × (I.count inputs.1 ≡ 0) }
+    requires output { W.count to ≡ 0 }
+    requires limit { ForSome limit (λ n. n < 2 ^ 62) }
     ensures start { IfOk result CanStart }
 {
-    let (rows, from, to) = files;
+    let (rows, from) = inputs;
     let rows = Hashed::new(rows, FileSums::rows_of(sums));
     let from = Hashed::new(from, FileSums::from_of(sums));
     let to = Hashed::new(to, FileSums::to_of(sums));
-    let Ok(from) = source_of(alloc, Watched::new(from, meter), resync) else {
+    let from = Beginning::new(Watched::new(from, meter), limit);
+    let Ok(from) = source_of(alloc, from, resync) else {
         return Err(Unserved::NoMemory);
     };
+    let rows = Beginning::new(Watched::new(rows, unseen), None);
     Ok(LinkFiles {
-        rows: PacketSource::plain(Watched::new(rows, unseen)),
+        rows: PacketSource::plain(rows),
         from,
         to: Destination::new(Watched::new(to, meter)),
     })

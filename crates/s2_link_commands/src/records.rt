@@ -6,16 +6,19 @@ ghost use Rattle.s2_link_commands.specs.Failed.{received_failed, records_failed,
 use s2_io::{Exit, Output, Truncating};
 use s2_mode::{Mode, WriteFault};
 use s2_opening::{Opens, Unserved};
-use s2_records::{Bbframes, Certificates, Codewords, Labels, PlainSymbols, Values};
+use s2_records::{Bbframes, Certificates, Codewords, Labels, PlainSymbols, Recorder, Values};
 use s2_words::{RecordArguments, SentRecordArguments};
 use std::alloc::Global;
 
 /// The sinks of a receiver's records, each if its file is given. Frames go to them in this order.
 type ReceivedRecords<W> = (
-    Option<Certificates<W>>,
+    Option<Recorder<W>>,
     (
-        Option<Values<W>>,
-        (Option<Codewords<W>>, Option<Bbframes<W>>),
+        Option<Certificates<W>>,
+        (
+            Option<Values<W>>,
+            (Option<Codewords<W>>, Option<Bbframes<W>>),
+        ),
     ),
 );
 
@@ -35,6 +38,12 @@ pub(crate) type Records<W> = (ReceivedRecords<W>, SentRecords<W>);
 #[derive(Clone, Copy)]
 pub(crate) enum RecordNames<'a> {
     Received(RecordArguments<'a>),
+    /// The file of the records of a piece, the position at which the piece begins, and whether certificates are recorded.
+    OfPiece {
+        to: &'a str,
+        from: u64,
+        certificates: bool,
+    },
     Sent(SentRecordArguments<'a>),
 }
 
@@ -45,7 +54,7 @@ fn open_certificates<'a, P: Opens<'a>>(
     mode: Mode,
     name: Option<&'a str>,
 ) -> Result<Option<Certificates<Truncating<P::Output>>>, Unserved<'a>>
-    requires room { P.opened opener.old < 8 }
+    requires room { P.opened opener.old < 10 }
     ensures room { OnOk result (P.opened opener.new ≤ P.opened opener.old + 1) }
     ensures fresh { IfOk result (λ made. wanted_count (λ file. P.Output.count file.to) made ≡ 0) }
 {
@@ -66,7 +75,7 @@ fn open_values<'a, P: Opens<'a>>(
     mode: Mode,
     name: Option<&'a str>,
 ) -> Result<Option<Values<Truncating<P::Output>>>, Unserved<'a>>
-    requires room { P.opened opener.old < 8 }
+    requires room { P.opened opener.old < 10 }
     ensures room { OnOk result (P.opened opener.new ≤ P.opened opener.old + 1) }
     ensures fresh { IfOk result (λ made. wanted_count (λ file. P.Output.count file.to) made ≡ 0) }
 {
@@ -87,7 +96,7 @@ fn open_codewords<'a, P: Opens<'a>>(
     mode: Mode,
     name: Option<&'a str>,
 ) -> Result<Option<Codewords<Truncating<P::Output>>>, Unserved<'a>>
-    requires room { P.opened opener.old < 8 }
+    requires room { P.opened opener.old < 10 }
     ensures room { OnOk result (P.opened opener.new ≤ P.opened opener.old + 1) }
     ensures fresh { IfOk result (λ made. wanted_count (λ file. P.Output.count file.to) made ≡ 0) }
 {
@@ -108,7 +117,7 @@ fn open_bbframes<'a, P: Opens<'a>>(
     mode: Mode,
     name: Option<&'a str>,
 ) -> Result<Option<Bbframes<Truncating<P::Output>>>, Unserved<'a>>
-    requires room { P.opened opener.old < 8 }
+    requires room { P.opened opener.old < 10 }
     ensures room { OnOk result (P.opened opener.new ≤ P.opened opener.old + 1) }
     ensures fresh { IfOk result (λ made. wanted_count (λ sink. P.Output.count sink.to.to) made ≡ 0) }
 {
@@ -129,7 +138,7 @@ fn open_labels<'a, P: Opens<'a>>(
     mode: Mode,
     name: Option<&'a str>,
 ) -> Result<Option<Labels<Truncating<P::Output>>>, Unserved<'a>>
-    requires room { P.opened opener.old < 8 }
+    requires room { P.opened opener.old < 10 }
     ensures room { OnOk result (P.opened opener.new ≤ P.opened opener.old + 1) }
     ensures fresh { IfOk result (λ made. wanted_count (λ sink. P.Output.count sink.to.to) made ≡ 0) }
 {
@@ -150,7 +159,7 @@ fn open_plain_symbols<'a, P: Opens<'a>>(
     mode: Mode,
     name: Option<&'a str>,
 ) -> Result<Option<PlainSymbols<Truncating<P::Output>>>, Unserved<'a>>
-    requires room { P.opened opener.old < 8 }
+    requires room { P.opened opener.old < 10 }
     ensures room { OnOk result (P.opened opener.new ≤ P.opened opener.old + 1) }
     ensures fresh { IfOk result (λ made. wanted_count (λ sink. P.Output.count sink.to.to) made ≡ 0) }
 {
@@ -171,15 +180,32 @@ fn open_received<'a, P: Opens<'a>>(
     mode: Mode,
     words: RecordArguments<'a>,
 ) -> Result<ReceivedRecords<Truncating<P::Output>>, Unserved<'a>>
-    requires room { P.opened opener.old ≤ 4 }
+    requires room { P.opened opener.old ≤ 5 }
     ensures room { OnOk result (P.opened opener.new ≤ P.opened opener.old + 4) }
-    ensures fresh { IfOk result (λ made. received_failed (λ file. P.Output.count file.to) (λ sink. P.Output.count sink.to.to) made ≡ 0) }
+    ensures fresh { IfOk result (λ made. received_failed P.Output.count made ≡ 0) }
 {
     let certificates = open_certificates(opener, alloc, mode, words.certificates)?;
     let values = open_values(opener, alloc, mode, words.values)?;
     let codewords = open_codewords(opener, alloc, mode, words.codewords)?;
     let bbframes = open_bbframes(opener, alloc, mode, words.bbframes)?;
-    Ok((certificates, (values, (codewords, bbframes))))
+    Ok((None, (certificates, (values, (codewords, bbframes)))))
+}
+
+/// Opens the file of the records of a piece.
+fn open_recorder<'a, P: Opens<'a>>(
+    opener: &mut P,
+    alloc: Global,
+    name: &'a str,
+    from: u64,
+    certificates: bool,
+) -> Result<ReceivedRecords<Truncating<P::Output>>, Unserved<'a>>
+    requires room { P.opened opener.old ≤ 5 }
+    ensures room { OnOk result (P.opened opener.new ≤ P.opened opener.old + 4) }
+    ensures fresh { IfOk result (λ made. received_failed P.Output.count made ≡ 0) }
+{
+    let file = Truncating::new(opener.write(name)?);
+    let recorder = Recorder::new(alloc, from, certificates, file);
+    Ok((Some(recorder), (None, (None, (None, None)))))
 }
 
 /// Opens the files of a transmitter's records, those that are given.
@@ -189,9 +215,9 @@ fn open_sent<'a, P: Opens<'a>>(
     mode: Mode,
     words: SentRecordArguments<'a>,
 ) -> Result<SentRecords<Truncating<P::Output>>, Unserved<'a>>
-    requires room { P.opened opener.old ≤ 4 }
+    requires room { P.opened opener.old ≤ 5 }
     ensures room { OnOk result (P.opened opener.new ≤ P.opened opener.old + 4) }
-    ensures fresh { IfOk result (λ made. sent_failed (λ file. P.Output.count file.to) (λ sink. P.Output.count sink.to.to) made ≡ 0) }
+    ensures fresh { IfOk result (λ made. sent_failed P.Output.count made ≡ 0) }
 {
     let codewords = open_codewords(opener, alloc, mode, words.codewords)?;
     let bbframes = open_bbframes(opener, alloc, mode, words.bbframes)?;
@@ -207,19 +233,35 @@ pub(crate) fn open_records<'a, P: Opens<'a>>(
     mode: Mode,
     names: RecordNames<'a>,
 ) -> Result<Records<Truncating<P::Output>>, Unserved<'a>>
-    requires room { P.opened opener.old ≤ 4 }
+    requires room { P.opened opener.old ≤ 5 }
     ensures room { OnOk result (P.opened opener.new ≤ P.opened opener.old + 4) }
-    ensures fresh { IfOk result (λ made. records_failed (λ file. P.Output.count file.to) (λ sink. P.Output.count sink.to.to) made ≡ 0) }
+    ensures fresh { IfOk result (λ made. records_failed P.Output.count made ≡ 0) }
 {
     match names {
         RecordNames::Received(words) => {
             let received = open_received(opener, alloc, mode, words)?;
             Ok((received, (None, (None, (None, None)))))
         }
+        RecordNames::OfPiece {
+            to,
+            from,
+            certificates,
+        } => {
+            let received = open_recorder(opener, alloc, to, from, certificates)?;
+            Ok((received, (None, (None, (None, None)))))
+        }
         RecordNames::Sent(words) => {
             let sent = open_sent(opener, alloc, mode, words)?;
-            Ok(((None, (None, (None, None))), sent))
+            Ok(((None, (None, (None, (None, None)))), sent))
         }
+    }
+}
+
+/// The number of frames that were recorded of a piece.
+pub(crate) fn recorded_frames<W: Output>(records: &Records<Truncating<W>>) -> u64 {
+    match &records.0.0 {
+        Some(recorder) => recorder.records(),
+        None => 0,
     }
 }
 
@@ -237,19 +279,21 @@ fn finish_file<W: Output + Drop>(file: Option<Truncating<W>>) -> Result<(), Writ
 fn finish_received<W: Output + Drop>(
     records: ReceivedRecords<Truncating<W>>,
 ) -> Result<(), WriteFault>
-    requires { received_failed (λ t. W.count t.to) (λ b. W.count b.to.to) records ≤ 1 }
+    requires { received_failed W.count records ≤ 1 }
 {
-    let (certificates, (values, (codewords, bbframes))) = records;
+    let (recorder, (certificates, (values, (codewords, bbframes)))) = records;
+    let recorder = finish_file(recorder.map(Recorder::into_inner));
     let certificates = finish_file(certificates.map(Certificates::into_inner));
     let values = finish_file(values.map(Values::into_inner));
     let codewords = finish_file(codewords.map(Codewords::into_inner));
     let bbframes = finish_file(bbframes.map(Bbframes::into_inner));
-    certificates.and(values).and(codewords).and(bbframes)
+    let plain = certificates.and(values).and(codewords).and(bbframes);
+    recorder.and(plain)
 }
 
 /// Truncates each file of a transmitter's records to which nothing was written.
 fn finish_sent<W: Output + Drop>(records: SentRecords<Truncating<W>>) -> Result<(), WriteFault>
-    requires { sent_failed (λ t. W.count t.to) (λ b. W.count b.to.to) records ≤ 1 }
+    requires { sent_failed W.count records ≤ 1 }
 {
     let (codewords, (bbframes, (labels, symbols))) = records;
     let codewords = finish_file(codewords.map(Codewords::into_inner));
@@ -261,7 +305,7 @@ fn finish_sent<W: Output + Drop>(records: SentRecords<Truncating<W>>) -> Result<
 
 /// Truncates each file of records to which nothing was written.
 fn finish_records<W: Output + Drop>(records: Records<Truncating<W>>) -> Result<(), WriteFault>
-    requires { records_failed (λ t. W.count t.to) (λ b. W.count b.to.to) records ≤ 1 }
+    requires { records_failed W.count records ≤ 1 }
 {
     let (received, sent) = records;
     let received = finish_received(received);
@@ -276,7 +320,7 @@ pub(crate) fn finish_command<W: Output + Drop>(
     begun: bool,
     records: Records<Truncating<W>>,
 ) -> Result<Exit, WriteFault>
-    requires { records_failed (λ t. W.count t.to) (λ b. W.count b.to.to) records ≤ 1 }
+    requires { records_failed W.count records ≤ 1 }
     ensures { OnErr result (exit ≢ Exit.Fault) }
 {
     if !begun {

@@ -15,7 +15,7 @@ use std::alloc::{AllocError, Global};
 use std::marker::Model;
 
 /// How frames are read by a tuning.
-fn options_of(tuning: Tuning) -> FrameOptions
+pub fn options_of(tuning: Tuning) -> FrameOptions
     ensures { result ≡ options_of tuning }
 {
     FrameOptions {
@@ -125,6 +125,8 @@ impl<'a> Decide for Decider<'a> {
     ghost size = { λ d. symbols_in d.link.setup.mode };
 
     ghost decide = { decides };
+
+    ghost unaided = { decides };
 
     ghost field = { λ d. d.field };
 

@@ -48,7 +48,7 @@ mod demodulation;
 pub mod laws;
 mod receiver;
 
-pub use decider::Decider;
+pub use decider::{Decider, options_of};
 pub use demodulation::{DemodFault, demodulate};
 pub use receiver::Receiver;
 pub use s2_judge::Judge;

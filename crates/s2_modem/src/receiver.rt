@@ -251,8 +251,9 @@ impl<'a> Receiver<'a> {
     }
 
     /// As [`Receiver::run`], with a sink. The sink takes each frame that is met, in order, before its packets and its line
-    /// are written. It is told whether symbols were skipped before the frame. It takes no dummy frame and no cut frame. It
-    /// changes nothing else in the run: if it does not fail, packets, report and result are those of [`Receiver::run`].
+    /// are written, with the frame's position and whether symbols were skipped before it. It takes no dummy frame and no cut
+    /// frame. It changes nothing else in the run: if it does not fail, packets, report and result are those of
+    /// [`Receiver::run`].
     ///
     /// After `Ok` and after `Read`, the sink took all frames that were met. `Write` has two causes. A packet or a line could
     /// not be written: then the sink took all frames up to the one at hand. Or the sink failed at a frame: then it took all

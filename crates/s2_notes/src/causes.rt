@@ -4,7 +4,7 @@
 use crate::errors::write_note;
 use crate::names::shown;
 use s2_io::{Disk, Role, Terminal, is_standard};
-use s2_words::Request;
+use s2_words::{DemodArguments, Request, StitchArguments};
 use std::alloc::{AllocError, Global};
 use std::fs::OpenOptions;
 use std::io::Read;
@@ -47,6 +47,24 @@ fn linked<'a>(
     }
 }
 
+/// The files of `demod`. Of a piece only the records are written, to the file of the packets.
+fn received<'a>(words: &DemodArguments<'a>) -> Names<'a> {
+    let (records, about) = match words.piece {
+        Some(_) => ([None; 4], None),
+        None => (words.records.names(), words.about),
+    };
+    linked(words.rows, words.symbols, words.packets, records, about)
+}
+
+/// The files of `stitch`.
+fn stitched<'a>(words: &StitchArguments<'a>) -> Names<'a> {
+    let symbols = Some(words.demod.symbols);
+    Names {
+        data: [symbols, Some(words.records), words.again, None],
+        ..received(&words.demod)
+    }
+}
+
 /// A file that is read.
 fn one<'a>(name: &'a str) -> [Option<&'a str>; 4] {
     [Some(name), None, None, None]
@@ -86,16 +104,8 @@ fn names_of<'a>(request: &Request<'a>) -> Names<'a> {
             let records = words.records.names();
             linked(words.rows, words.packets, words.symbols, records, None)
         }
-        Request::Demod(words) => {
-            let records = words.records.names();
-            linked(
-                words.rows,
-                words.symbols,
-                words.packets,
-                records,
-                words.about,
-            )
-        }
+        Request::Demod(words) => received(words),
+        Request::Stitch(words) => stitched(words),
         Request::Run(words) => {
             let records = words.records.names();
             linked(words.rows, words.packets, words.to, records, words.about)

@@ -1,5 +1,6 @@
 //! Opens the files of a command in the order of the command line.
-ghost use Rattle.std.specs.Prelude.{◌≡◌, ◌+◌, ◌<◌, ◌≤◌, false, IfOk, IfSome, OnOk};
+ghost use Rattle.std.specs.Prelude.{◌≡◌, ◌+◌, ◌^◌, ◌<◌, ◌≤◌, false, IfOk, IfSome, OnOk};
+ghost use Rattle.std.specs.Option.{ForSome};
 
 use crate::opens::{Opens, Unserved};
 use s2_about::{FileSums, Hashed, SharedSum};
@@ -69,7 +70,7 @@ fn read_named<'a, 'h, P: Opens<'a>>(
     name: Option<&'a str>,
     sum: Option<&'h SharedSum>,
 ) -> Result<Option<Hashed<'h, P::Input>>, Unserved<'a>>
-    requires room { P.opened opener.old < 8 }
+    requires room { P.opened opener.old < 10 }
     ensures count { OnOk result (P.opened opener.new ≤ P.opened opener.old + 1) }
     ensures fresh { IfOk result (λ made. IfSome made (λ file. P.Input.count file.inner ≡ 0)) }
 {
@@ -136,15 +137,25 @@ pub fn open_noise<'a, 'm, P: Opens<'a>, M: Meter>(
     ))
 }
 
-/// The bytes that are read of a recording of this length, if that is known.
-fn length_within(first: Option<u32>, length: Option<u64>) -> Option<u64> {
-    let Some(first) = first else {
+/// The bytes that are read of a recording of this length, if that is known, when only its first symbols are read.
+pub fn length_within(symbols: Option<u64>, length: Option<u64>) -> Option<u64> {
+    let Some(symbols) = symbols else {
         return length;
     };
-    let most = 4 * u64::from(first);
+    let most = symbols.saturating_mul(4);
     match length {
         Some(length) => Some(length.min(most)),
         None => Some(most),
+    }
+}
+
+/// The number of symbols to examine.
+fn examined(first: Option<u32>) -> Option<u64>
+    ensures { ForSome result (λ n. n < 2 ^ 62) }
+{
+    match first {
+        Some(first) => Some(u64::from(first)),
+        None => None,
     }
 }
 
@@ -158,8 +169,9 @@ pub fn open_scan<'a, 'm, P: Opens<'a>, M: Meter>(
     ensures { IfOk result (λ file. P.Input.count file.inner.inner ≡ 0) }
 {
     let symbols = opener.read(words.symbols)?;
-    meter.expect(length_within(words.first, opener.last_length()));
-    Ok(Beginning::new(Watched::new(symbols, meter), words.first))
+    let first = examined(words.first);
+    meter.expect(length_within(first, opener.last_length()));
+    Ok(Beginning::new(Watched::new(symbols, meter), first))
 }
 
 /// Opens the files of `join`: BBFRAMEs with a buffer, and packets. The packets of a frame are written at once, so they

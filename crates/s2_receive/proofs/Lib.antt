@@ -11,7 +11,6 @@ pub mod OwnRuns
 pub mod RunsSoFar
 pub mod ReadLemmas
 pub mod NextLemmas
-pub mod SinkFolds
 pub mod RunLemmas
 pub mod CallLemmas
 pub mod JoinLemmas

@@ -38,6 +38,7 @@ pub use Rattle.s2_receive.specs.Meeting.{Met, frame, cut, ended, no_gap, extende
 pub use Rattle.s2_receive.specs.Receiving.{Rules, Standing, after, all_packets, packets_of, delivery, is_none, is_lost, searched_again, room_in, joined_after, at_start, after_all, count_of, State, taken, left_by, left_known, met_left, left_in, asked, asked_by, YieldsMet, EndsAt, Steps, Waits, YieldsSymbols, Reaches, Meets, EndsBehind, StopsShort, Stops, Processed, StepAnswers, IsLive, all_lines, line_of, step_of, is_certified_step, are_all_certified, rank, RunsTo, BreaksOff, BreaksAfter, phase_after, Receiver, Decision, Handles, MetFrame, IsDecided, IsDecidedBy, begun, is_at_frame, report_for, rules_of, frame_totals, counts_after, with_gap, state_of}
 pub use Rattle.s2_receive.specs.Decider.{delivered_of}
 pub use Rattle.s2_report.specs.ReportLines.{frame_line, step_line}
+pub use Rattle.s2_receive.specs.declared.sinks.FrameStart.{FrameStart}
 pub use Rattle.s2_receive.specs.Sinks.{Taking, TakesFrames, TakesStep, FailsStep, frames_of, IsNotTaken, BreaksTaken, StepAnswersWith, RunAnswersWith, NextWith, OnlyFailedWith}
 pub use Rattle.s2_receive.specs.ReceiverCore.{FailsIn, Fits, CanCountIn}
 pub use Rattle.s2_receive.specs.Output.{Filled, filled_by, joined_by, counts_by, counted, answer_for, HandlesNext, KeepsWithout}

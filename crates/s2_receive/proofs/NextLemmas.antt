@@ -1,5 +1,5 @@
 -- One step of a receiver, from a reader to two writers, and to a sink.
-use Rattle.s2_receive.proofs.Names.{room_in, ◌≡◌, ◌≤◌, ◌⊎◌, inl, inr, ℕ, [], ◌∷◌, Some, Result, Ok, Err, refl, sym, ap, ◌∙◌, subst, append-nil, Appends, Streams, NoneFailed, OneFailed, Met, frame, cut, ended, FailsIn, Rules, State, Decision, IsDecided, IsLive, Handles, EndsAt, Seen, Finds, FindsNone, KeepsLast, KeepsDecision, NextAnswers, Processed, MetFrame, taken, packets_of, line_of, report_for, step_of, step_line, Fault, Step, Report, ◌+◌, Bool, true, false, nat_lt, if◌then◌else◌, List, arith, lt-ltb, le-ltb, is_gap, Taking, TakesFrames, TakesStep, FailsStep, frames_of, IsNotTaken, NextWith}
+use Rattle.s2_receive.proofs.Names.{FrameStart, room_in, ◌≡◌, ◌≤◌, ◌⊎◌, inl, inr, ℕ, [], ◌∷◌, Some, Result, Ok, Err, refl, sym, ap, ◌∙◌, subst, append-nil, Appends, Streams, NoneFailed, OneFailed, Met, frame, cut, ended, FailsIn, Rules, State, Decision, IsDecided, IsLive, Handles, EndsAt, Seen, Finds, FindsNone, KeepsLast, KeepsDecision, NextAnswers, Processed, MetFrame, taken, packets_of, line_of, report_for, step_of, step_line, Fault, Step, Report, ◌+◌, Bool, true, false, nat_lt, if◌then◌else◌, List, arith, lt-ltb, le-ltb, is_gap, Taking, TakesFrames, TakesStep, FailsStep, frames_of, IsNotTaken, NextWith}
 use Rattle.s2_receive.proofs.Names.faults
 use Rattle.s2_receive.proofs.Names.phases
 use Rattle.s2_receive.proofs.Names.steps
@@ -143,6 +143,9 @@ rested old at result within (inr (failed, is)) = subst (NextAnswers old old at a
 
 -- ---- with a sink
 
+abbrev start_by : ℕ → Bool → FrameStart
+start_by at after_gap = record { at = at; after_gap = after_gap }
+
 -- the number of gaps rises exactly if there is one more
 rises : (n : ℕ) (more : Bool) → nat_lt n (n + (if more then 1 else 0)) ≡ more
 rises n true = lt-ltb n (n + 1) (omega arith)
@@ -157,7 +160,7 @@ module _ {S : Type 0} (rules : Rules) (old new : State) (packets : List ℕ) (st
   took takes (frame at skipped symbols) handles decided done =
       let so = gap_is (frame at skipped symbols) (is_gap skipped) handles (ap (λ s. nat_lt old.standing.totals.places s.totals.places) handles.standing) in
       let taken_is = subst (λ s. TakesStep takes s k l after_gap last) handles.step_is done in
-      (l, subst (λ g. takes k l g (rules.decide symbols)) so (subst (λ d. takes k l after_gap d) decided taken_is), refl)
+      (l, subst (λ g. takes k l (start_by at g) (rules.decide symbols)) so (subst (λ d. takes k l (start_by at after_gap) d) decided taken_is), refl)
   took takes (cut at skipped count) handles decided done = subst (λ s. TakesStep takes s k l after_gap last) handles.step_is done
   took takes (ended skipped) handles decided done = subst (λ s. TakesStep takes s k l after_gap last) handles.step_is done
 
@@ -202,7 +205,7 @@ module _ {S : Type 0} (takes fails : Taking S) (count : S → ℕ) (old mid : Se
         left = meets;
         reaches = reaches;
         within = within;
-        failed = subst (λ g. fails k l g (old.rules.decide symbols)) so (subst (λ d. fails k l after_gap d) decided failed_is);
+        failed = subst (λ g. fails k l (start_by at g) (old.rules.decide symbols)) so (subst (λ d. fails k l (start_by at after_gap) d) decided failed_is);
         packets = given;
         lines = out;
       }

@@ -180,7 +180,7 @@ ahead rules f None coming = left_by (record rules { resync = false }) f.state.ph
 ahead rules f (Some found) coming =
     met_of found f.frame ∷ met_then rules.finds (λ symbols. false) rules.size found (window_after (λ symbols. false) rules.size (Some found) f.state.window) coming
 
--- A run over a recording with these decisions, lines and packets after those so far has those first, and then goes on from this follower
+-- A whole run that begins with the lines and packets so far: the lines and packets after them, which the run from this follower gives
 pub record GoesOnFrom (Shows : List Symbol → Decision → Type 0) (rules : Rules) (recording coming : List Symbol) (f : Follower) (lines : List (List ℕ)) (packets : List ℕ) (more : List Decision) (all_lines : List (List ℕ)) (all_given : List ℕ) : Type 0 where
   pub later : List (List ℕ)
   pub rest : List ℕ

@@ -9,37 +9,38 @@ use Rattle.s2_receive.specs.declared.report.Fault.{Fault}
 use Rattle.s2_receive.specs.declared.report.Fault.TheVariants as faults
 use Rattle.s2_receive.specs.declared.report.Phase.TheVariants as phases
 use Rattle.s2_receive.specs.declared.report.Received.{Received}
+use Rattle.s2_receive.specs.declared.sinks.FrameStart.{FrameStart}
 use Rattle.s2_report.specs.declared.report.Step.{Step}
 use Rattle.s2_report.specs.declared.report.Step.TheVariants as steps
 use Rattle.s2_receive.specs.Meeting.{Met, frame, cut, ended, is_gap}
 use Rattle.s2_receive.specs.Receiving.{Rules, Decision, State, Receiver, IsLive, Meets, Reaches, StepAnswers, Processed, BreaksOff, StopsAfter, BreaksAfter, left_in, rules_of, taken}
-use Rattle.s2_receive.specs.Answers.{Seen, NextAnswers, RunAnswers}
+use Rattle.s2_receive.specs.Answers.{Between, Seen, NextAnswers, RunAnswers, seen_by}
 
 -- ---- sinks
 
--- what a call does to a sink: from one value to another, by a frame's decision and whether symbols were skipped before it
+-- what a call does to a sink: from one value to another, by where a frame begins and the decision on it
 abbrev pub Taking : Type 0 → Type 1
-Taking S = (old new : S) → (after_gap : Bool) → Decision → Type 0
+Taking S = (old new : S) → FrameStart → Decision → Type 0
 
 -- a pair of sinks: the first takes the frame, and then the second
 abbrev pub BothTake : {A B : Type 0} → Taking A → Taking B → Taking (A × B)
-BothTake first second old new after_gap decision = first old.0 new.0 after_gap decision × second old.1 new.1 after_gap decision
+BothTake first second old new start decision = first old.0 new.0 start decision × second old.1 new.1 start decision
 
 -- the first fails, and the second is unchanged; or the first takes the frame, and the second fails
 abbrev pub OneFails : {A B : Type 0} → (takes fails : Taking A) → Taking B → Taking (A × B)
-OneFails takes fails second old new after_gap decision =
-    (fails old.0 new.0 after_gap decision × (new.1 ≡ old.1)) ⊎ (takes old.0 new.0 after_gap decision × second old.1 new.1 after_gap decision)
+OneFails takes fails second old new start decision =
+    (fails old.0 new.0 start decision × (new.1 ≡ old.1)) ⊎ (takes old.0 new.0 start decision × second old.1 new.1 start decision)
 
 -- an optional sink that takes the frame; without a sink nothing happens
 abbrev pub WantedTakes : {A : Type 0} → Taking A → Taking (Option A)
-WantedTakes takes None new after_gap decision = new ≡ None
-WantedTakes takes (Some old) None after_gap decision = ⊥
-WantedTakes takes (Some old) (Some new) after_gap decision = takes old new after_gap decision
+WantedTakes takes None new start decision = new ≡ None
+WantedTakes takes (Some old) None start decision = ⊥
+WantedTakes takes (Some old) (Some new) start decision = takes old new start decision
 
 -- an optional sink that fails; without a sink nothing can fail
 abbrev pub WantedFails : {A : Type 0} → Taking A → Taking (Option A)
-WantedFails fails (Some old) (Some new) after_gap decision = fails old new after_gap decision
-WantedFails fails old new after_gap decision = ⊥
+WantedFails fails (Some old) (Some new) start decision = fails old new start decision
+WantedFails fails old new start decision = ⊥
 
 -- its count of failed calls, 0 without a sink
 abbrev pub wanted_count : {A : Type 0} → (A → ℕ) → Option A → ℕ
@@ -48,28 +49,32 @@ wanted_count count (Some sink) = count sink
 
 -- ---- frames
 
--- the coded frames among the things met: whether symbols were skipped before each, and the decision on it
-abbrev pub frames_of : Rules → List Met → List (Bool × Decision)
+-- where a frame begins that was met after this gap
+abbrev pub start_at : ℕ → Gap → FrameStart
+start_at at skipped = record { at = at; after_gap = is_gap skipped }
+
+-- the coded frames among the things met: where each begins, and the decision on it
+abbrev pub frames_of : Rules → List Met → List (FrameStart × Decision)
 frames_of rules [] = []
-frames_of rules (frame at skipped symbols ∷ later) = (is_gap skipped, rules.decide symbols) ∷ frames_of rules later
+frames_of rules (frame at skipped symbols ∷ later) = (start_at at skipped, rules.decide symbols) ∷ frames_of rules later
 frames_of rules (cut at skipped count ∷ later) = frames_of rules later
 frames_of rules (ended skipped ∷ later) = frames_of rules later
 
 -- a sink took these frames, one after another
-abbrev pub TakesFrames : {S : Type 0} → Taking S → (old new : S) → List (Bool × Decision) → Type 0
+abbrev pub TakesFrames : {S : Type 0} → Taking S → (old new : S) → List (FrameStart × Decision) → Type 0
 TakesFrames takes old new [] = new ≡ old
 TakesFrames {S} takes old new (first ∷ later) = (mid : S) × takes old mid first.0 first.1 × TakesFrames takes mid new later
 
 -- ---- steps with a sink
 
 -- a sink took the frame of a step, or the step is no frame and the sink is unchanged
-abbrev pub TakesStep : {S : Type 0} → Taking S → Step → Taking S
-TakesStep takes (steps.Frame report) old new after_gap decision = takes old new after_gap decision
+abbrev pub TakesStep : {S : Type 0} → Taking S → Step → (old new : S) → (after_gap : Bool) → Decision → Type 0
+TakesStep takes (steps.Frame report) old new after_gap decision = takes old new (record { at = report.at; after_gap = after_gap }) decision
 TakesStep takes step old new after_gap decision = new ≡ old
 
 -- the step is a frame, and a sink failed to take it
-abbrev pub FailsStep : {S : Type 0} → Taking S → Step → Taking S
-FailsStep fails (steps.Frame report) old new after_gap decision = fails old new after_gap decision
+abbrev pub FailsStep : {S : Type 0} → Taking S → Step → (old new : S) → (after_gap : Bool) → Decision → Type 0
+FailsStep fails (steps.Frame report) old new after_gap decision = fails old new (record { at = report.at; after_gap = after_gap }) decision
 FailsStep fails step old new after_gap decision = ⊥
 
 -- This frame was met, and the sink failed to take it. It comes next in the known bytes. Its symbols and no others were
@@ -82,7 +87,7 @@ pub record IsNotTaken {S : Type 0} (fails : Taking S) (rules : Rules) (old : Sta
   pub left : Meets (left_in rules old before.taken) (left_in rules mid behind.taken) (frame at skipped symbols ∷ [])
   pub reaches : Reaches (taken mid) (taken old) before.taken behind.taken
   pub within : taken mid ≤ rules.limit
-  pub failed : fails sink_old sink_new (is_gap skipped) (rules.decide symbols)
+  pub failed : fails sink_old sink_new (start_at at skipped) (rules.decide symbols)
   pub packets : behind.given ≡ before.given
   pub lines : behind.out ≡ before.out
 
@@ -117,6 +122,13 @@ pub record NextWith {S : Type 0} (takes fails : Taking S) (count : S → ℕ) (o
   pub not_failed : count sink_new ≡ count sink_old → NextAnswers old new before behind result
   pub bounded : taken new.state ≤ old.rules.limit
   pub counts : OnlyFailedWith (result ≡ Err faults.Read) (result ≡ Err faults.Write) (count sink_old) (count sink_new) before behind
+
+-- the same from a receiver to another, with a sink, a reader and two writers
+abbrev pub StepsWith :
+    {D S R P W : Type 0} → (D → List Symbol → Decision) → (D → Decision) → (takes fails : Taking S) → (S → ℕ) → (R → Option (List ℕ)) → (R → ℕ) → (P → Option (List ℕ)) → (P → ℕ) → (W → Option (List ℕ)) → (W → ℕ)
+    → Receiver D → S → R → P → W → Receiver D → S → R → P → W → Result Step Fault → Type 0
+StepsWith decide last takes fails count taken reads given writes out prints old k r p w new k' r' p' w' =
+    Between (NextWith takes fails count (seen_by decide last old) (seen_by decide last new) k k') taken reads given writes out prints r p w r' p' w'
 
 -- ---- whole runs with a sink
 

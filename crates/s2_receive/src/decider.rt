@@ -37,6 +37,10 @@ pub trait Decide {
     /// The decision on a frame's symbols.
     ghost decide: { Self → List SymbolValue → Decision };
 
+    /// The decision that it makes on a frame's symbols by itself. `decide` may take a frame's decision from elsewhere, such
+    /// as from a record of an earlier run.
+    ghost unaided: { Self → List SymbolValue → Decision };
+
     /// The data field that it lends.
     ghost field: { Self → List ℕ };
 
@@ -48,6 +52,7 @@ pub trait Decide {
         requires { length symbols.now ≡ size self.old }
         ensures last { last self.new ≡ decide self.old symbols.now }
         ensures same { decide self.new ≡ decide self.old }
+        ensures unaided { unaided self.new ≡ unaided self.old }
         ensures size { size self.new ≡ size self.old };
 
     /// The last decision.

@@ -230,6 +230,14 @@ impl Follower {
         self.synchronizer.reached()
     }
 
+    /// The position of the stream before which no further frame begins.
+    pub(crate) fn position(&self) -> u64
+        ensures is { result ≡ self.now.state.window.at }
+        ensures within { reached self.now.state.window ≤ self.now.limit }
+    {
+        self.synchronizer.position()
+    }
+
     /// Sets the limit of symbols in all.
     pub(crate) fn limit(&mut self, symbols: u64)
         requires none { self.old.found ≡ None }

@@ -11,6 +11,9 @@
 //! and then writes the step's line ([`s2_report::line_of`]). [`receive_all`] and [`receive_bytes`] take all steps. Only
 //! [`Receiver::new`] allocates memory.
 //!
+//! Between two steps a decider may be given something for the next frame, such as the record of a decision
+//! ([`Receiver::supply`], [`Supplied`]).
+//!
 //! [`Follower`] makes the same steps by decisions that are given: [`Follower::seek`] finds the next frame, and
 //! [`Follower::settle`] handles it by its decision. The receiver makes its own steps by it.
 //!
@@ -53,6 +56,7 @@ mod receiver_core;
 mod report;
 mod run;
 mod sinks;
+mod supplied;
 mod synchronizer;
 mod totals;
 mod window;
@@ -63,6 +67,7 @@ pub use frame::Frame;
 pub use limits::MAX_SYMBOLS;
 pub use receiver::Receiver;
 pub use report::{Fault, Received};
-pub use run::{receive_all, receive_bytes, receive_with};
-pub use sinks::Sink;
+pub use run::{is_certified_step, receive_all, receive_bytes, receive_with};
+pub use sinks::{FrameStart, Sink};
+pub use supplied::Supplied;
 pub use window::Next;

@@ -5,8 +5,8 @@ ghost use Rattle.s2_receive.specs.Limits.{max_symbols};
 ghost use Rattle.s2_mode.specs.Mode.{symbols_in};
 ghost use Rattle.s2_receive.specs.declared.report.Phase.TheVariants as phases;
 ghost use Rattle.s2_receive.specs.Receiving.{IsLive, asked, begun, is_at_frame, rules_of, taken};
-ghost use Rattle.s2_receive.specs.Answers.{Advances, Between, Finds, IsSame, Reads, StepsBy, seen_by};
-ghost use Rattle.s2_receive.specs.Sinks.{NextWith};
+ghost use Rattle.s2_receive.specs.Answers.{Advances, Finds, IsSame, Reads, StepsBy, seen_by};
+ghost use Rattle.s2_receive.specs.Sinks.{StepsWith};
 ghost use Rattle.s2_receive.specs.Synchronization.{room_for};
 ghost use Rattle.s2_plframe.specs.Turns.{sought_of};
 
@@ -15,6 +15,7 @@ use crate::output::write_step;
 use crate::receiver_core::ReceiverCore;
 use crate::report::{Fault, Phase};
 use crate::sinks::{Sink, give_frame};
+use crate::supplied::Supplied;
 use crate::synchronizer::room_for;
 use s2_mode::{CountedRead, CountedWrite, Mode, ReadFault, read_full};
 use s2_plframe::HeaderTolerance;
@@ -59,6 +60,7 @@ fn read_on<D: Decide, R: CountedRead>(
     requires reader { CanCount (R.count reader.old) }
     requires room { length room.old ≡ asked (rules_of D.decide inner.old) inner.old.state }
     ensures same { IsSame D.decide inner.old inner.new }
+    ensures unaided { D.unaided inner.new.decider ≡ D.unaided inner.old.decider }
     ensures reads { Reads (seen_by D.decide D.last inner.old) (seen_by D.decide D.last inner.new) (R.remaining reader.old) (R.remaining reader.new) result }
     ensures cause { CountsFault (R.count reader.old) (R.count reader.new) result }
     ensures long { length room.new ≡ length room.old }
@@ -76,6 +78,7 @@ fn read_step<D: Decide, R: CountedRead>(
     requires reader { CanCount (R.count reader.old) }
     requires room { length buffer.old ≡ 4 * room_for inner.old.resync (symbols_in inner.old.sought.mode) }
     ensures same { IsSame D.decide inner.old inner.new }
+    ensures unaided { D.unaided inner.new.decider ≡ D.unaided inner.old.decider }
     ensures reads { Reads (seen_by D.decide D.last inner.old) (seen_by D.decide D.last inner.new) (R.remaining reader.old) (R.remaining reader.new) result }
     ensures cause { CountsFault (R.count reader.old) (R.count reader.new) result }
     ensures long { length buffer.new ≡ length buffer.old }
@@ -166,6 +169,20 @@ impl<D: Decide> Receiver<D> {
         matches!(self.inner.phase(), Phase::Searching)
     }
 
+    /// Lets the decider take from a source what it has for the next frame, such as a record of its decision. Its rule of decision may
+    /// change by it. Nothing else of the receiver changes. The decider gets the position of the stream, in symbols, before which no
+    /// further frame begins. Call it between two steps.
+    pub fn supply<S>(&mut self, alloc: Global, source: &mut S)
+    where
+        D: Supplied<S>,
+        requires { D.can source.old }
+        ensures supplies { D.supplies self.old.state.window.at self.old.decider self.new.decider source.old source.new }
+        ensures rest { self.new ≡ record self.old { decider = self.new.decider } }
+        ensures within { taken self.new.state ≤ self.new.limit }
+    {
+        self.inner.supply(alloc, source);
+    }
+
     /// The number of bytes wanted next: four for each symbol that the next frame lacks, up to the limit. With `resync` the
     /// 90 symbols after a frame are read too, before it is decided. It is 0 if no symbols are needed: after a cut frame and the end, after a fault, and when the limit is reached.
     pub fn room(&self) -> usize
@@ -201,6 +218,7 @@ impl<D: Decide> Receiver<D> {
         requires reader { CanCount (R.count reader.old) }
         requires live { IsLive self.old.state.phase }
         ensures same { IsSame D.decide self.old self.new }
+        ensures unaided { D.unaided self.new.decider ≡ D.unaided self.old.decider }
         ensures finds { Finds (seen_by D.decide D.last self.old) (seen_by D.decide D.last self.new)
             (R.remaining reader.old) (R.remaining reader.new) (R.count reader.old) (R.count reader.new) result }
     {
@@ -242,9 +260,9 @@ impl<D: Decide> Receiver<D> {
         self.next_with(reader, &mut (), packets, report)
     }
 
-    /// The same, with a sink that takes the step's frame before its packets and its line are written. `Write` also
-    /// means that the sink failed; then nothing of this frame is written.
-    pub(crate) fn next_with<K: Sink, R: CountedRead, P: CountedWrite, W: CountedWrite>(
+    /// As [`Receiver::next`], with a sink that takes the step's frame before its packets and its line are written. A cut frame
+    /// and the end are not given to it. `Write` also means that the sink failed; then nothing of this frame is written.
+    pub fn next_with<K: Sink, R: CountedRead, P: CountedWrite, W: CountedWrite>(
         &mut self,
         reader: &mut R,
         sink: &mut K,
@@ -256,8 +274,9 @@ impl<D: Decide> Receiver<D> {
         requires packets { CanCount (P.count packets.old) }
         requires report { CanCount (W.count report.old) }
         ensures same { IsSame D.decide self.old self.new }
-        ensures steps { Between (NextWith K.takes K.fails K.count (seen_by D.decide D.last self.old) (seen_by D.decide D.last self.new) sink.old sink.new)
-            R.remaining R.count P.contents P.count W.contents W.count reader.old packets.old report.old reader.new packets.new report.new result }
+        ensures unaided { D.unaided self.new.decider ≡ D.unaided self.old.decider }
+        ensures steps { StepsWith D.decide D.last K.takes K.fails K.count R.remaining R.count P.contents P.count W.contents W.count
+            self.old sink.old reader.old packets.old report.old self.new sink.new reader.new packets.new report.new result }
         ensures nothing { (IsLive self.old.state.phase → ⊥) → (self.new ≡ self.old) × (reader.new ≡ reader.old)
             × (packets.new ≡ packets.old) × (report.new ≡ report.old) }
         ensures unwritten { IsErrOf result Fault.Read → (packets.new ≡ packets.old) × (report.new ≡ report.old) }

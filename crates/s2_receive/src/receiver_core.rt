@@ -14,6 +14,7 @@ ghost use Rattle.s2_plframe.specs.Turns.{sought_of};
 use crate::decider::Decide;
 use crate::follower::Follower;
 use crate::report::Phase;
+use crate::supplied::Supplied;
 use crate::window::Next;
 use s2_mode::{Mode, Symbol};
 use s2_plframe::HeaderTolerance;
@@ -62,6 +63,7 @@ fn decide_found<D: Decide>(decider: &mut D, next: Next, frame: &[Symbol])
     ensures decided { IsDecidedBy (D.decide decider.old) (met_of next frame.now) (D.last decider.new) }
     ensures kept { KeepsWithout (Some next) (D.last decider.old) (D.last decider.new) }
     ensures same { (D.decide decider.new ≡ D.decide decider.old) × (D.size decider.new ≡ D.size decider.old) }
+    ensures unaided { D.unaided decider.new ≡ D.unaided decider.old }
 {
     match next {
         Next::Frame { .. } => decider.decide(frame),
@@ -89,6 +91,7 @@ fn advance_by<D: Decide>(follower: &mut Follower, decider: &mut D, bytes: &[u8])
     ensures none { follower.new.found ≡ None }
     ensures follows { IsSameFollower follower.old follower.new }
     ensures decider { (D.decide decider.new ≡ D.decide decider.old) × (D.size decider.new ≡ D.size decider.old) }
+    ensures unaided { D.unaided decider.new ≡ D.unaided decider.old }
     ensures advances { Advances (seen_with (D.decide decider.old) (D.last decider.old) follower.old) (seen_with (D.decide decider.new) (D.last decider.new) follower.new) bytes.now result }
 {
     match follower.seek(bytes) {
@@ -163,6 +166,19 @@ impl<D: Decide> ReceiverCore<D> {
         self.follower.room()
     }
 
+    /// Lets the decider take from a source what it has for the next frame.
+    pub(crate) fn supply<S>(&mut self, alloc: Global, source: &mut S)
+    where
+        D: Supplied<S>,
+        requires { D.can source.old }
+        ensures supplies { D.supplies self.old.state.window.at self.old.decider self.new.decider source.old source.new }
+        ensures rest { self.new ≡ record self.old { decider = self.new.decider } }
+        ensures within { taken self.new.state ≤ self.new.limit }
+    {
+        let at = self.follower.position();
+        self.decider.supply(alloc, source, at);
+    }
+
     /// The packets of the last step.
     pub(crate) fn packets(&self) -> &[u8]
         ensures { result.now ≡ self.now.packets }
@@ -174,6 +190,7 @@ impl<D: Decide> ReceiverCore<D> {
     pub(crate) fn advance(&mut self, bytes: &[u8]) -> Option<Step>
         requires room { length bytes.now ≤ asked (rules_of D.decide self.old) self.old.state }
         ensures same { IsSame D.decide self.old self.new }
+        ensures unaided { D.unaided self.new.decider ≡ D.unaided self.old.decider }
         ensures advances { Advances (seen_by D.decide D.last self.old) (seen_by D.decide D.last self.new) bytes.now result }
     {
         advance_by(&mut self.follower, &mut self.decider, bytes)

@@ -74,8 +74,8 @@ pub enum Fault {
 }
 
 impl Fault {
-    /// The same, as a fault of a stream. It must not be `Failed`.
-    pub(crate) fn of_stream(self) -> StreamFault
+    /// The same, as a fault of a stream. It must not be `Failed`, which only a receiver returns that has failed before.
+    pub fn of_stream(self) -> StreamFault
         requires { self ≢ Fault.Failed }
         ensures { fault_of result ≡ self }
     {

@@ -14,8 +14,8 @@ use crate::sinks::Sink;
 use s2_mode::{CountedRead, CountedWrite, InMemory, StreamFault, WriteFault};
 use s2_report::{Outcome, Step, Totals};
 
-/// Whether a step is a frame that was delivered with bits that are sole or most likely, or the end.
-fn is_certified_step(step: Step) -> bool
+/// Whether a step is a frame that was delivered with bits that are sole or most likely, or the end. It is false for a cut frame.
+pub fn is_certified_step(step: Step) -> bool
     ensures { result ≡ is_certified_step step }
 {
     match step {

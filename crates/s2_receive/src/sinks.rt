@@ -3,42 +3,50 @@ ghost use Rattle.std.specs.Prelude.{◌≡◌, ℕ, ◌+◌, Bool, OnOk, OnErr};
 ghost use Rattle.s2_mode.specs.Counts.{CanCount, CountsFault};
 ghost use Rattle.s2_receive.specs.Receiving.{Decision};
 ghost use Rattle.s2_receive.specs.Sinks.{BothTake, FailsStep, OneFails, TakesStep, WantedFails, WantedTakes, wanted_count};
+ghost use Rattle.s2_receive.specs.declared.sinks.FrameStart.{FrameStart as FrameStartValue};
 
 use crate::frame::Frame;
 use s2_mode::WriteFault;
 use s2_report::Step;
+
+/// Where a frame begins: the position of its first symbol in the stream, and whether symbols were skipped before it.
+#[derive(Clone, Copy)]
+pub struct FrameStart {
+    pub at: u64,
+    pub after_gap: bool,
+}
 
 /// A sink: it takes each frame that a receiver decided, before its packets and its line are written.
 ///
 /// `()` is a sink that does nothing. A pair of sinks gives each frame to the first one, and then to the second. An
 /// `Option` without a sink does nothing.
 pub trait Sink {
-    /// The sink after it took a frame, by whether symbols were skipped before the frame, and by the decision on it.
-    ghost takes: { Self → Self → Bool → Decision → Type 0 };
+    /// The sink after it took a frame that begins there, by the decision on it.
+    ghost takes: { Self → Self → FrameStartValue → Decision → Type 0 };
 
     /// The sink after it failed to take a frame.
-    ghost fails: { Self → Self → Bool → Decision → Type 0 };
+    ghost fails: { Self → Self → FrameStartValue → Decision → Type 0 };
 
     /// The number of its failed calls.
     ghost count: { Self → ℕ };
 
-    /// Takes a frame. `after_gap` says whether symbols were skipped before it. `WriteFault` means that a write failed; a
-    /// part of what the frame gives may be written.
-    fn take(&mut self, after_gap: bool, frame: &Frame<'_>) -> Result<(), WriteFault>
+    /// Takes a frame that begins there. `WriteFault` means that a write failed; a part of what the frame gives may be
+    /// written.
+    fn take(&mut self, start: FrameStart, frame: &Frame<'_>) -> Result<(), WriteFault>
         requires { CanCount (count self.old) }
-        ensures takes { OnOk result (takes self.old self.new after_gap frame.now) }
-        ensures fails { OnErr result (fails self.old self.new after_gap frame.now) }
+        ensures takes { OnOk result (takes self.old self.new start frame.now) }
+        ensures fails { OnErr result (fails self.old self.new start frame.now) }
         ensures cause { CountsFault (count self.old) (count self.new) result };
 }
 
 impl Sink for () {
-    ghost takes = { λ old new after_gap decision. new ≡ old };
+    ghost takes = { λ old new start decision. new ≡ old };
 
-    ghost fails = { λ old new after_gap decision. ⊥ };
+    ghost fails = { λ old new start decision. ⊥ };
 
     ghost count = { λ sink. 0 };
 
-    fn take(&mut self, _after_gap: bool, _frame: &Frame<'_>) -> Result<(), WriteFault> {
+    fn take(&mut self, _start: FrameStart, _frame: &Frame<'_>) -> Result<(), WriteFault> {
         Ok(())
     }
 }
@@ -50,9 +58,9 @@ impl<A: Sink, B: Sink> Sink for (A, B) {
 
     ghost count = { λ sinks. A.count sinks.0 + B.count sinks.1 };
 
-    fn take(&mut self, after_gap: bool, frame: &Frame<'_>) -> Result<(), WriteFault> {
-        self.0.take(after_gap, frame)?;
-        self.1.take(after_gap, frame)
+    fn take(&mut self, start: FrameStart, frame: &Frame<'_>) -> Result<(), WriteFault> {
+        self.0.take(start, frame)?;
+        self.1.take(start, frame)
     }
 }
 
@@ -63,10 +71,10 @@ impl<A: Sink> Sink for Option<A> {
 
     ghost count = { wanted_count A.count };
 
-    fn take(&mut self, after_gap: bool, frame: &Frame<'_>) -> Result<(), WriteFault> {
+    fn take(&mut self, start: FrameStart, frame: &Frame<'_>) -> Result<(), WriteFault> {
         match self {
             None => Ok(()),
-            Some(sink) => sink.take(after_gap, frame),
+            Some(sink) => sink.take(start, frame),
         }
     }
 }
@@ -84,7 +92,10 @@ pub(crate) fn give_frame<K: Sink>(
     ensures cause { CountsFault (K.count sink.old) (K.count sink.new) result }
 {
     match step {
-        Step::Frame(_) => sink.take(after_gap, frame),
+        Step::Frame(report) => {
+            let at = report.at;
+            sink.take(FrameStart { at, after_gap }, frame)
+        }
         Step::Cut { .. } | Step::End => Ok(()),
     }
 }

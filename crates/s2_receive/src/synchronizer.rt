@@ -101,6 +101,13 @@ impl Synchronizer {
         self.held.at + self.held.count as u64
     }
 
+    /// The position of the first symbol held. No further frame begins before it.
+    pub(crate) fn position(&self) -> u64
+        ensures { result ≡ self.now.window.at }
+    {
+        self.held.at
+    }
+
     /// The number of symbols wanted next: those that the search lacks, but no more than the limit leaves.
     pub(crate) fn wanted(&self, limit: u64) -> usize
         requires { reached self.now.window ≤ limit }

@@ -14,6 +14,7 @@ use Rattle.s2_receive.specs.Meeting.{Met, frame, cut, ended, no_gap, is_gap, ext
 use Rattle.s2_receive.specs.Decider.{IsSaidBy}
 use Rattle.s2_receive.specs.Receiving.{Decision, Rules, searched_again, all_packets, at_start, delivery}
 use Rattle.s2_receive.specs.Sinks.{frames_of}
+use Rattle.s2_receive.specs.declared.sinks.FrameStart.{FrameStart}
 use Rattle.s2_receive.proofs.Names.{Found}
 use Rattle.s2_receive.proofs.Names.founds
 use Rattle.s2_receive.proofs.JoinLemmas.{all_joined}
@@ -57,17 +58,17 @@ abbrev bbframes_for : Mode → Bool → Decision → List (List ℕ)
 bbframes_for m true decision = no_bbframe m ∷ message_bytes m decision ∷ []
 bbframes_for m false decision = message_bytes m decision ∷ []
 
-abbrev each_bbframe : Mode → List (Bool × Decision) → List (List ℕ)
+abbrev each_bbframe : Mode → List (FrameStart × Decision) → List (List ℕ)
 each_bbframe m [] = []
-each_bbframe m (first ∷ later) = bbframes_for m first.0 first.1 ++ each_bbframe m later
+each_bbframe m (first ∷ later) = bbframes_for m first.0.after_gap first.1 ++ each_bbframe m later
 
 spelt_one : (m : Mode) (after_gap : Bool) (decision : Decision) (rest : List (List ℕ)) → joined (bbframes_for m after_gap decision ++ rest) ≡ bbframe_bytes m after_gap decision ++ joined rest
 spelt_one m true decision rest = sym (append_assoc (no_bbframe m) (message_bytes m decision) (joined rest))
 spelt_one m false decision rest = refl
 
-spelt : (m : Mode) (frames : List (Bool × Decision)) → joined (each_bbframe m frames) ≡ bbframes_of m frames
+spelt : (m : Mode) (frames : List (FrameStart × Decision)) → joined (each_bbframe m frames) ≡ bbframes_of m frames
 spelt m [] = refl
-spelt m (first ∷ later) = spelt_one m first.0 first.1 (each_bbframe m later) ∙ ap (λ l. bbframe_bytes m first.0 first.1 ++ l) (spelt m later)
+spelt m (first ∷ later) = spelt_one m first.0.after_gap first.1 (each_bbframe m later) ∙ ap (λ l. bbframe_bytes m first.0.after_gap first.1 ++ l) (spelt m later)
 
 module _ (m : Mode) (valid : IsMode m) where
   whole_one : (after_gap : Bool) (decision : Decision) → All (IsWhole (frame_bytes m)) (bbframes_for m after_gap decision)
@@ -77,9 +78,9 @@ module _ (m : Mode) (valid : IsMode m) where
       All-cons whole (no_bbframe m) (message_bytes m decision ∷ []) zeros (All-cons whole (message_bytes m decision) [] one (All-nil whole))
   whole_one false decision = All-cons (IsWhole (frame_bytes m)) (message_bytes m decision) [] (whole_lem m decision valid).0 (All-nil (IsWhole (frame_bytes m)))
 
-  each_whole : (frames : List (Bool × Decision)) → All (IsWhole (frame_bytes m)) (each_bbframe m frames)
+  each_whole : (frames : List (FrameStart × Decision)) → All (IsWhole (frame_bytes m)) (each_bbframe m frames)
   each_whole [] = All-nil (IsWhole (frame_bytes m))
-  each_whole (first ∷ later) = All-append (IsWhole (frame_bytes m)) (bbframes_for m first.0 first.1) (each_bbframe m later) (whole_one first.0 first.1) (each_whole later)
+  each_whole (first ∷ later) = All-append (IsWhole (frame_bytes m)) (bbframes_for m first.0.after_gap first.1) (each_bbframe m later) (whole_one first.0.after_gap first.1) (each_whole later)
 
   -- ---- what comes to the joiner
 

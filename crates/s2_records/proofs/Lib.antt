@@ -14,3 +14,5 @@ pub mod Written
 pub mod BothEnds
 pub mod ReadBack
 pub mod JoinedBack
+pub mod FileSizes
+pub mod Recorded

@@ -20,7 +20,7 @@ module _ {W : Type 0} (contents : W → Option (List ℕ)) where
   bbframes_lem old new (first ∷ later) (mid, here, rest) =
       let next = bbframes_lem mid new later rest in
       let after : Appends (contents mid.to) (contents new.to) (bbframes_of old.mode later) = subst (λ m. Appends (contents mid.to) (contents new.to) (bbframes_of m later)) here.0 next.1 in
-      (next.0 ∙ here.0, Appends-trans (contents old.to) (contents mid.to) (contents new.to) (bbframe_bytes old.mode first.0 first.1) (bbframes_of old.mode later) here.1 after)
+      (next.0 ∙ here.0, Appends-trans (contents old.to) (contents mid.to) (contents new.to) (bbframe_bytes old.mode first.0.after_gap first.1) (bbframes_of old.mode later) here.1 after)
 
   pub words_lem : WordsLaw contents
   words_lem old new [] same = subst (λ w. Appends (contents old) (contents w) []) (sym same) (Appends-nil (contents old))

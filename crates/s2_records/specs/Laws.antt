@@ -1,5 +1,5 @@
 -- Laws of records, which follow from the definitions alone (own).
-use Rattle.std.specs.Prelude.{◌≡◌, ℕ, ◌/◌, Bool, true, List, length, All, ℤ, Option, Ok}
+use Rattle.std.specs.Prelude.{◌≡◌, ℕ, ◌/◌, true, List, length, All, ℤ, Option, Ok}
 use Rattle.std.specs.List.{flat_map}
 use Rattle.std.specs.Io.KnownBytes.{Appends}
 use Rattle.s2_mode.specs.Mode.{Mode, IsMode, kbch_of}
@@ -11,27 +11,28 @@ use Rattle.s2_receive.specs.Laws.{SpellSymbols}
 use Rattle.s2_receive.specs.Decider.{IsSaidBy}
 use Rattle.s2_receive.specs.Receiving.{Decision, Rules, RunsOut, State, begun}
 use Rattle.s2_receive.specs.Sinks.{TakesFrames, frames_of}
+use Rattle.s2_receive.specs.declared.sinks.FrameStart.{FrameStart}
 use Rattle.s2_records.specs.Frames.{delivered_in, packets_in}
 use Rattle.s2_records.specs.Values.{values_line}
 use Rattle.s2_records.specs.Records.{Gains, GainsBbframe, Framing, gap_bytes, message_bytes, bbframe_bytes}
 
 -- the records of frames, one after another
-abbrev pub records_of : (Decision → List ℕ) → List (Bool × Decision) → List ℕ
+abbrev pub records_of : (Decision → List ℕ) → List (FrameStart × Decision) → List ℕ
 records_of bytes frames = flat_map (λ frame. bytes frame.1) frames
 
 -- the BBFRAMEs of frames, one after another, with the zeros for skipped symbols
-abbrev pub bbframes_of : Mode → List (Bool × Decision) → List ℕ
-bbframes_of m frames = flat_map (λ frame. bbframe_bytes m frame.0 frame.1) frames
+abbrev pub bbframes_of : Mode → List (FrameStart × Decision) → List ℕ
+bbframes_of m frames = flat_map (λ frame. bbframe_bytes m frame.0.after_gap frame.1) frames
 
 -- a sink that took frames has written their records, one after another
 abbrev pub RecordsLaw : {W : Type 0} → (W → Option (List ℕ)) → Type 0
 RecordsLaw {W} contents =
-    (bytes : Decision → List ℕ) (old new : W) (frames : List (Bool × Decision)) → TakesFrames (Gains contents bytes) old new frames → Appends (contents old) (contents new) (records_of bytes frames)
+    (bytes : Decision → List ℕ) (old new : W) (frames : List (FrameStart × Decision)) → TakesFrames (Gains contents bytes) old new frames → Appends (contents old) (contents new) (records_of bytes frames)
 
 -- and a sink of BBFRAMEs
 abbrev pub BbframesLaw : {W : Type 0} → (W → Option (List ℕ)) → Type 0
 BbframesLaw {W} contents =
-    (old new : Framing W) (frames : List (Bool × Decision)) → TakesFrames (GainsBbframe contents) old new frames → (new.mode ≡ old.mode) × Appends (contents old.to) (contents new.to) (bbframes_of old.mode frames)
+    (old new : Framing W) (frames : List (FrameStart × Decision)) → TakesFrames (GainsBbframe contents) old new frames → (new.mode ≡ old.mode) × Appends (contents old.to) (contents new.to) (bbframes_of old.mode frames)
 
 -- the record of a frame has Kbch / 8 bytes, whether or not it was delivered, and so have the zeros for a gap
 abbrev pub WholeLaw : Type 0

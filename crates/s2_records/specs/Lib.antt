@@ -5,6 +5,7 @@ pub mod Joining
 pub mod JoinLaws
 pub mod Values
 pub mod Records
+pub mod Recording
 pub mod Sent
 pub mod Vectors
 pub mod Laws

@@ -56,11 +56,11 @@ bbframe_bytes m after_gap decision = gap_bytes m after_gap ++ message_bytes m de
 
 -- a writer took exactly these bytes of a frame
 abbrev pub Gains : {W : Type 0} → (W → Option (List ℕ)) → (Decision → List ℕ) → Taking W
-Gains contents bytes old new after_gap decision = Appends (contents old) (contents new) (bytes decision)
+Gains contents bytes old new start decision = Appends (contents old) (contents new) (bytes decision)
 
 -- a write failed: the writer took a part of them, from the first one on, and not all
 abbrev pub GainsPart : {W : Type 0} → (W → Option (List ℕ)) → (Decision → List ℕ) → Taking W
-GainsPart contents bytes old new after_gap decision = AppendsPart (bytes decision) (contents old) (contents new)
+GainsPart contents bytes old new start decision = AppendsPart (bytes decision) (contents old) (contents new)
 
 -- a sink of BBFRAMEs, of labels or of symbols: its mode, and its writer
 pub record Framing (W : Type 0) : Type 0 where
@@ -69,10 +69,10 @@ pub record Framing (W : Type 0) : Type 0 where
 
 -- its writer took exactly the BBFRAME of a frame, after the zeros for skipped symbols
 abbrev pub GainsBbframe : {W : Type 0} → (W → Option (List ℕ)) → Taking (Framing W)
-GainsBbframe contents old new after_gap decision =
-    (new.mode ≡ old.mode) × Appends (contents old.to) (contents new.to) (bbframe_bytes old.mode after_gap decision)
+GainsBbframe contents old new start decision =
+    (new.mode ≡ old.mode) × Appends (contents old.to) (contents new.to) (bbframe_bytes old.mode start.after_gap decision)
 
 -- a write failed: its writer took a part of these bytes, from the first one on, and not all
 abbrev pub GainsBbframePart : {W : Type 0} → (W → Option (List ℕ)) → Taking (Framing W)
-GainsBbframePart contents old new after_gap decision =
-    (new.mode ≡ old.mode) × AppendsPart (bbframe_bytes old.mode after_gap decision) (contents old.to) (contents new.to)
+GainsBbframePart contents old new start decision =
+    (new.mode ≡ old.mode) × AppendsPart (bbframe_bytes old.mode start.after_gap decision) (contents old.to) (contents new.to)

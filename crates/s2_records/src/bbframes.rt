@@ -12,7 +12,7 @@ ghost use Rattle.s2_records.specs.Sent.{GainsOf, GainsPartOf, sent_bbframe};
 use crate::words::write_bits;
 use s2_bits::Bits;
 use s2_mode::{CountedWrite, Mode, WriteFault, write_full};
-use s2_receive::{Frame, Sink};
+use s2_receive::{Frame, FrameStart, Sink};
 use s2_scramble::bb_xor_in_place;
 use s2_send::SendSink;
 use std::alloc::{AllocError, Global};
@@ -162,9 +162,9 @@ impl<W: CountedWrite> Sink for Bbframes<W> {
 
     ghost count = { λ b. W.count b.to };
 
-    fn take(&mut self, after_gap: bool, frame: &Frame<'_>) -> Result<(), WriteFault> {
+    fn take(&mut self, start: FrameStart, frame: &Frame<'_>) -> Result<(), WriteFault> {
         let delivered = has_bbframe(self.mode, frame);
-        write_gap(&mut self.to, &self.zeros, after_gap)?;
+        write_gap(&mut self.to, &self.zeros, start.after_gap)?;
         write_frame(
             &mut self.to,
             &mut self.block,

@@ -4,7 +4,7 @@ ghost use Rattle.s2_mode.specs.Counts.{CanCount, CountsFault};
 ghost use Rattle.s2_records.specs.Records.{Gains, GainsPart, certificate_record};
 
 use s2_mode::{CountedWrite, Mode, WriteFault};
-use s2_receive::{Frame, Sink};
+use s2_receive::{Frame, FrameStart, Sink};
 use std::alloc::{AllocError, Global};
 use std::marker::Model;
 
@@ -51,7 +51,7 @@ impl<W: CountedWrite> Sink for Certificates<W> {
 
     ghost count = { W.count };
 
-    fn take(&mut self, _after_gap: bool, frame: &Frame<'_>) -> Result<(), WriteFault> {
+    fn take(&mut self, _start: FrameStart, frame: &Frame<'_>) -> Result<(), WriteFault> {
         match &frame.certificate {
             Some(view) => view.write(&mut self.to),
             None => Ok(()),

@@ -7,7 +7,7 @@ ghost use Rattle.s2_records.specs.Sent.{GainsWord, GainsWordPart};
 use crate::words::write_bits;
 use s2_bits::Bits;
 use s2_mode::{CountedWrite, Mode, WriteFault};
-use s2_receive::{Frame, Sink};
+use s2_receive::{Frame, FrameStart, Sink};
 use s2_send::SendSink;
 use std::alloc::{AllocError, Global};
 use std::marker::Model;
@@ -59,7 +59,7 @@ impl<W: CountedWrite> Sink for Codewords<W> {
 
     ghost count = { W.count };
 
-    fn take(&mut self, _after_gap: bool, frame: &Frame<'_>) -> Result<(), WriteFault> {
+    fn take(&mut self, _start: FrameStart, frame: &Frame<'_>) -> Result<(), WriteFault> {
         write_bits(&mut self.to, &mut self.block, frame.word)
     }
 }

@@ -2,6 +2,7 @@
 ghost use Rattle.s2_records.specs.JoinLaws.{ZerosLaw, TogetherLaw, RoundTripLaw};
 ghost use Rattle.s2_records.specs.Laws.{BbframesLaw, JoinedLaw, ReadBackLaw, RecordsLaw, ValuesLaw, WholeLaw};
 ghost use Rattle.s2_records.specs.Limits.{LimitsLaw};
+ghost use Rattle.s2_records.specs.Recording.{RecordedLaw};
 ghost use Rattle.s2_records.specs.Sent.{BothEndsLaw, SentLaw, WordsLaw};
 ghost use Rattle.s2_records.specs.Vectors.{PointsLaw};
 
@@ -15,6 +16,11 @@ pub fn records<W: CountedWrite>()
 /// A sink of BBFRAMEs that took frames has written their BBFRAMEs, one after another, with zeros for skipped symbols.
 pub fn bbframes<W: CountedWrite>()
     ensures { BbframesLaw W.contents }
+{}
+
+/// A recorder that took frames has written their records, one after another, each at its position in the recording.
+pub fn recorded<W: CountedWrite>()
+    ensures { RecordedLaw W.contents }
 {}
 
 /// The record of each frame, and the zeros for skipped symbols, have the size of a BBFRAME of the mode: Kbch / 8 bytes.

@@ -12,6 +12,8 @@
 //! ([`laws::both_ends`]). [`Labels`] and [`PlainSymbols`] are sinks of a transmitter only. They write the labels of the
 //! interleaved bits (5.3.3), and their constellation points (5.4) before pilots and scrambling ([`laws::points`]).
 //!
+//! A [`Recorder`] writes the records of a piece of a recording, for [`s2_stitch::stitch_with`] ([`laws::recorded`]).
+//!
 //! A BBFRAME that was not delivered is replaced by zeros, so a file of them has whole BBFRAMEs ([`laws::whole`]). A line
 //! of values is read as these values ([`laws::values`]).
 //!
@@ -45,6 +47,7 @@ mod labels;
 pub mod laws;
 mod limits;
 mod plain_symbols;
+mod recorder;
 mod values;
 mod words;
 
@@ -56,4 +59,5 @@ pub use join::join_command;
 pub use labels::Labels;
 pub use limits::MAX_FRAMES;
 pub use plain_symbols::PlainSymbols;
+pub use recorder::Recorder;
 pub use values::Values;

@@ -11,7 +11,7 @@ ghost use Rattle.s2_records.specs.Values.{after_value, values_line};
 use crate::block::{flush, put};
 use itoa::Buffer;
 use s2_mode::{CountedWrite, Mode, WriteFault};
-use s2_receive::{Frame, Sink};
+use s2_receive::{Frame, FrameStart, Sink};
 use std::alloc::{AllocError, Global};
 use std::marker::Model;
 
@@ -120,7 +120,7 @@ impl<W: CountedWrite> Sink for Values<W> {
 
     ghost count = { W.count };
 
-    fn take(&mut self, _after_gap: bool, frame: &Frame<'_>) -> Result<(), WriteFault> {
+    fn take(&mut self, _start: FrameStart, frame: &Frame<'_>) -> Result<(), WriteFault> {
         write_values(&mut self.to, &mut self.block, frame.soft)
     }
 }

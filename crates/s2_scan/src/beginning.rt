@@ -1,7 +1,7 @@
 //! The first symbols of a reader.
-ghost use Rattle.std.specs.Prelude.{◌≡◌, ◌*◌, ◌≤◌, length, IfOk, Some};
+ghost use Rattle.std.specs.Prelude.{◌≡◌, ◌*◌, ◌^◌, ◌<◌, ◌≤◌, length, IfOk, Some};
 ghost use Rattle.std.specs.Io.KnownBytes.{ReadConsumes};
-ghost use Rattle.std.specs.Option.{option_map};
+ghost use Rattle.std.specs.Option.{ForSome, option_map};
 ghost use Rattle.s2_mode.specs.Counts.{CanCount, CountsFault};
 ghost use Rattle.s2_scan.specs.Beginnings.{begin_of};
 
@@ -16,7 +16,8 @@ pub struct Beginning<R> {
 }
 
 /// The bytes of symbols.
-fn bytes_of(symbols: Option<u32>) -> Option<usize>
+fn bytes_of(symbols: Option<u64>) -> Option<usize>
+    requires { ForSome symbols (λ n. n < 2 ^ 62) }
     ensures { result ≡ option_map (λ n. 4 * n) symbols }
 {
     match symbols {
@@ -27,7 +28,8 @@ fn bytes_of(symbols: Option<u32>) -> Option<usize>
 
 impl<R> Beginning<R> {
     /// The first symbols of a reader, or without a number all of them.
-    pub fn new(inner: R, symbols: Option<u32>) -> Beginning<R>
+    pub fn new(inner: R, symbols: Option<u64>) -> Beginning<R>
+        requires { ForSome symbols (λ n. n < 2 ^ 62) }
         ensures inner { result.inner ≡ inner }
         ensures left { result.left ≡ option_map (λ n. 4 * n) symbols }
     {

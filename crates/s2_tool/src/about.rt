@@ -5,7 +5,9 @@ use s2_words::Request;
 /// The sums for the files of a request, if its options have a file for them.
 pub(crate) fn sums_for<'h>(request: &Request<'_>, sums: &'h FileSums) -> Option<&'h FileSums> {
     let name = match request {
+        Request::Demod(words) if words.piece.is_some() => None,
         Request::Demod(words) => words.about,
+        Request::Stitch(words) => words.demod.about,
         Request::Run(words) => words.about,
         Request::Audit(words) => words.about,
         _ => None,

@@ -23,6 +23,7 @@ use s2_serve::{
 use s2_usage::{Unread, not_text};
 use s2_words::{
     DemodArguments, ModesArguments, NoiseArguments, Request, RowsArguments, RunArguments,
+    StitchArguments,
 };
 use std::alloc::{AllocError, Global};
 use std::env::FillError;
@@ -91,7 +92,7 @@ pub(crate) fn print_usage<R: Disk + AllocGlobal + Print + Eprint>(
     unread: &Unread,
 ) -> Exit {
     match unread {
-        Unread::NoMemory => lacks_memory(&mut screen_beside(terminal, false, 0, None)),
+        Unread::NoMemory => lacks_memory(&mut screen_beside(terminal, false, 0, 0, None)),
         Unread::Asked(help) => match help.print(rt) {
             Ok(()) => Exit::Fine,
             Err(_) => Exit::Fault,
@@ -115,6 +116,20 @@ pub(crate) fn every_of(request: &Request<'_>) -> u32 {
     match request {
         Request::Demod(words) => words.every,
         Request::Run(words) => words.every,
+        Request::Stitch(words) => words.demod.every,
+        _ => 0,
+    }
+}
+
+/// The position of the recording at which the piece of a request begins, or 0 if it receives no piece.
+pub(crate) fn from_of(request: &Request<'_>) -> u64 {
+    match request {
+        Request::Demod(
+            DemodArguments {
+                piece: Some(piece),
+                ..
+            },
+        ) => piece.from,
         _ => 0,
     }
 }
@@ -126,6 +141,9 @@ fn fault_of<'a>(unserved: Unserved<'a>) -> Fault<'a> {
         Unserved::UsedTwice(name) => Fault::UsedTwice(name),
         Unserved::NoMemory => Fault::NoMemory,
         Unserved::Write => Fault::Write,
+        Unserved::ReadOnce => Fault::refused(FaultText::of(
+            "symbols: no regular file, which can be read twice: use --again",
+        )),
         Unserved::NoMode => Fault::refused(FaultText::of("no such mode")),
         Unserved::NoShape => Fault::refused(FaultText::of("no such shape")),
         Unserved::OutOfRange => Fault::refused(FaultText::of("a number is out of its range")),
@@ -263,6 +281,7 @@ fn serve_request<'a, P: Opens<'a>, R: Disk + Clock + AllocGlobal, O: CountedWrit
         ),
         Request::Demod(words) => serve_demod(opener, terminal, words, sums, console, notes),
         Request::Run(words) => serve_run(opener, terminal, words, sums, console, notes),
+        Request::Stitch(words) => serve_stitch(opener, terminal, words, sums, console, notes),
     }
 }
 
@@ -314,6 +333,25 @@ fn serve_run<'a, P: Opens<'a>, R: Disk + Clock + AllocGlobal, O: CountedWrite, E
 {
     let options = run_options(words).ok_or(Unserved::NoMode)?;
     let request = LinkRequest::Run(words, &options);
+    with_link(opener, terminal, request, sums, console, notes)
+}
+
+/// `stitch`.
+fn serve_stitch<'a, P: Opens<'a>, R: Disk + Clock + AllocGlobal, O: CountedWrite, E: CountedWrite>(
+    opener: &mut P,
+    terminal: &Terminal<'_, R>,
+    words: &StitchArguments<'a>,
+    sums: Option<&FileSums>,
+    console: &mut Console<O, E>,
+    notes: &mut E,
+) -> Result<Exit, Unserved<'a>>
+    requires opener { P.opened opener.old ≡ 0 }
+    requires console { CanNote console.old }
+    requires notes { CanCount (E.count notes.old) }
+    ensures { OnErr result (CanCount console.new.errors_failed) }
+{
+    let options = demod_options(&words.demod).ok_or(Unserved::NoMode)?;
+    let request = LinkRequest::Stitch(words, &options);
     with_link(opener, terminal, request, sums, console, notes)
 }
 

@@ -1,1 +1,1 @@
-pub mod SeedLemmas
+pub mod RangeLemmas

@@ -1,2 +1,2 @@
 pub mod Options
-pub mod SeedRanges
+pub mod Ranges

@@ -33,3 +33,6 @@ pub const LEAST_ESN0: i32 = -1000;
 
 /// The largest Es/N0, in hundredths of a dB.
 pub const MAX_ESN0: i32 = 4000;
+
+/// The largest position in a recording, in symbols.
+pub const MAX_POSITION: u64 = 1 << 60;

@@ -236,8 +236,18 @@ impl<'a> SentRecordArguments<'a> {
     }
 }
 
+/// A piece of a recording: the position of its first symbol, the position after its last, and whether it is the last piece,
+/// whose symbols are read to their end. `from` is at most `to`.
+#[derive(Clone, Copy)]
+pub struct Piece {
+    pub from: u64,
+    pub to: u64,
+    pub is_last: bool,
+}
+
 /// `demod`: a link, the tuning, the notes, N if every N-th frame has a line (0: each frame has one), whether progress
-/// is shown, the records, and the files.
+/// is shown, the records, and the files. `piece` is the piece of a recording if only that is received; then `packets` is the file
+/// of its records.
 #[derive(Clone, Copy)]
 pub struct DemodArguments<'a> {
     pub link: LinkArguments,
@@ -247,9 +257,19 @@ pub struct DemodArguments<'a> {
     pub progress: Progress,
     pub records: RecordArguments<'a>,
     pub about: Option<&'a str>,
+    pub piece: Option<Piece>,
     pub rows: &'a str,
     pub symbols: &'a str,
     pub packets: &'a str,
+}
+
+/// `stitch`: the options and files of `demod`, the file of the pieces' records, and the file with the same symbols once more, if
+/// it is given.
+#[derive(Clone, Copy)]
+pub struct StitchArguments<'a> {
+    pub demod: DemodArguments<'a>,
+    pub records: &'a str,
+    pub again: Option<&'a str>,
 }
 
 /// `run`: a link, the number of frames between dummy frames (0 for none), whether it continues after a wrong sync byte,
@@ -337,4 +357,5 @@ pub enum Request<'a> {
     Join(JoinArguments<'a>),
     Audit(AuditArguments<'a>),
     Compare(CompareArguments<'a>),
+    Stitch(StitchArguments<'a>),
 }

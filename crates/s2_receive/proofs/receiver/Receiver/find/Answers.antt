@@ -4,7 +4,7 @@ use Rattle.s2_receive.proofs.ReadLemmas.{at_frame, fails_now, full_now, steps_no
 use Rattle.s2_receive.proofs.receiver.Receiver.find.Goals as goal
 
 pub reading-init : goal.reading-init
-reading-init g c = record { same = record { rules = refl; sought = refl; max_header_errors = refl; resync = refl; limit = refl }; waited = waited_none _ _ _; live = c.requires.live; last = refl; count = refl }
+reading-init g c = record { same = record { rules = refl; sought = refl; max_header_errors = refl; resync = refl; limit = refl }; unaided = refl; waited = waited_none _ _ _; live = c.requires.live; last = refl; count = refl }
 
 pub returns-then-is_at_frame-clause-finds : goal.returns-then-is_at_frame-clause-finds
 returns-then-is_at_frame-clause-finds g c =
@@ -48,6 +48,7 @@ reading-preserved g c =
     let on = waits_more g.D.Decide.decide g.D.Decide.last c.args.self.now cur new.inner _ _ _ so.same.rules so.waited so.last so.live reads in
     record {
       same = record { rules = same.rules ∙ so.same.rules; sought = same.sought ∙ so.same.sought; max_header_errors = same.max_header_errors ∙ so.same.max_header_errors; resync = same.resync ∙ so.same.resync; limit = same.limit ∙ so.same.limit };
+      unaided = subst (λ (r : Receiver g.row.D.Denot). g.D.Decide.unaided new.inner.decider ≡ g.D.Decide.unaided r.decider) c.self.view_is c.in_ok-step.ensures.unaided ∙ so.unaided;
       waited = on.0;
       live = on.2;
       last = on.1;

@@ -1,0 +1,47 @@
+//! The files that `stitch` reads besides: the records of the pieces, and the symbols once more.
+ghost use Rattle.std.specs.Prelude.{◌≡◌, ◌≤◌, IfOk, OnOk};
+ghost use Rattle.std.specs.Option.{ForSome};
+
+use s2_opening::{Opens, Unserved};
+
+/// The names of the files: that of the records, and that of the symbols once more, if it is given.
+#[derive(Clone, Copy)]
+pub(crate) struct BesideNames<'a> {
+    pub records: &'a str,
+    pub again: Option<&'a str>,
+}
+
+/// The records and the symbols, if the command reads them.
+pub(crate) type Beside<I> = Option<(I, I)>;
+
+/// The name of the file that has the symbols once more. The recording itself serves if it has a length: then it is a regular file.
+fn again_name<'a>(
+    names: BesideNames<'a>,
+    recording: &'a str,
+    length: Option<u64>,
+) -> Result<&'a str, Unserved<'a>> {
+    match names.again {
+        Some(name) => Ok(name),
+        None if length.is_some() => Ok(recording),
+        None => Err(Unserved::ReadOnce),
+    }
+}
+
+/// Opens the files, if the command reads them, after the recording of this name.
+pub(crate) fn open_beside<'a, P: Opens<'a>>(
+    opener: &mut P,
+    names: Option<BesideNames<'a>>,
+    recording: &'a str,
+) -> Result<Beside<P::Input>, Unserved<'a>>
+    requires { P.opened opener.old ≡ 2 }
+    ensures count { OnOk result (P.opened opener.new ≤ 4) }
+    ensures fresh { IfOk result (λ made. ForSome made (λ b. (P.Input.count b.0 ≡ 0) × (P.Input.count b.1 ≡ 0))) }
+{
+    let Some(names) = names else {
+        return Ok(None);
+    };
+    let again = again_name(names, recording, opener.last_length())?;
+    let records = opener.read_buffered(names.records)?;
+    let copy = opener.read_buffered(again)?;
+    Ok(Some((records, copy)))
+}

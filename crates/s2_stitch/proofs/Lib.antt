@@ -1,0 +1,6 @@
+pub mod RecordLemmas
+pub mod SourceLemmas
+pub mod FrameLemmas
+pub mod RecallLemmas
+pub mod StitchLemmas
+pub mod UncertifiedLemmas

@@ -1,0 +1,9 @@
+pub mod Records
+pub mod Reading
+pub mod Frames
+pub mod Recalling
+pub mod Sources
+pub mod Usable
+pub mod Copies
+pub mod Stitching
+pub mod Laws

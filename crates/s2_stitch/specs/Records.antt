@@ -1,0 +1,97 @@
+-- The record of a frame's decision, and its bytes (own). Read from top to bottom; numbers are big endian.
+use Rattle.std.specs.Prelude.{◌≡◌, ℕ, ◌+◌, ◌^◌, ◌<◌, ◌≤◌, ◌==◌, ◌||◌, nat_lt, Bool, if◌then◌else◌, List, [], ◌∷◌, ◌++◌, length, take, drop, All, Option, Some, None}
+use Rattle.std.specs.List.{flat_map}
+use Rattle.std.specs.Int.{w32, w64}
+use Rattle.s2_certfile.specs.Field.{Field, both, bit_list, bytes_of_bits, number}
+use Rattle.s2_check.specs.declared.verdict.Verdict.{Verdict}
+use Rattle.s2_check.specs.declared.verdict.Verdict.TheVariants.{Sole, MostLikely, Parity, Broken}
+
+-- The decision on the frame that begins at a position of a recording: the rounds of min-sum, the verdict, the decided bits, and
+-- the file of their certificate, which is empty if there is none
+pub record Record : Type 0 where
+  pub at : ℕ
+  pub rounds : ℕ
+  pub verdict : Verdict
+  pub bits : List Bool
+  pub certificate : List ℕ
+
+-- the most bytes of a certificate
+abbrev pub max_certificate : ℕ
+max_certificate = 16777216
+
+-- a record of a word of n bits, whose numbers fit
+pub record IsRecord (n : ℕ) (r : Record) : Type 0 where
+  pub at : r.at < 2 ^ 64
+  pub rounds : r.rounds < 2 ^ 32
+  pub bits : length r.bits ≡ n
+  pub certificate : length r.certificate ≤ max_certificate
+
+-- ---- the bytes
+
+-- the three numbers in front: the position in eight bytes, the rounds in four, and the number of bytes of the certificate in four
+abbrev pub front : Field (ℕ × (ℕ × ℕ))
+front = both (number w64) (both (number w32) (number w32))
+
+-- the byte of a verdict
+abbrev pub verdict_byte : Verdict → ℕ
+verdict_byte Sole = 0
+verdict_byte MostLikely = 1
+verdict_byte Parity = 2
+verdict_byte Broken = 3
+
+-- front, verdict, bits and certificate, one after another
+abbrev pub record_bytes : Record → List ℕ
+record_bytes r = front.bytes (r.at, (r.rounds, length r.certificate)) ++ (verdict_byte r.verdict ∷ (bytes_of_bits r.bits ++ r.certificate))
+
+-- ---- and back
+
+abbrev pub verdict_of : ℕ → Option Verdict
+verdict_of byte = if byte == 0 then Some Sole else if byte == 1 then Some MostLikely else if byte == 2 then Some Parity else if byte == 3 then Some Broken else None
+
+-- bits and certificate, if they are there, and what follows them
+abbrev pub body_at : (n : ℕ) → (at rounds size : ℕ) → Option Verdict → List ℕ → Option (Record × List ℕ)
+body_at n at rounds size None bytes = None
+body_at n at rounds size (Some verdict) bytes =
+    if nat_lt max_certificate size || nat_lt (length bytes) ((bit_list n).size + size) then None
+    else Some (
+      record {
+        at = at;
+        rounds = rounds;
+        verdict = verdict;
+        bits = (bit_list n).value (take (bit_list n).size bytes);
+        certificate = take size (drop (bit_list n).size bytes);
+      },
+      drop ((bit_list n).size + size) bytes,
+    )
+
+-- the byte of the verdict, and the body
+abbrev pub verdict_at : (n : ℕ) → ℕ × (ℕ × ℕ) → List ℕ → Option (Record × List ℕ)
+verdict_at n numbers [] = None
+verdict_at n numbers (byte ∷ rest) = body_at n numbers.0 numbers.1.0 numbers.1.1 (verdict_of byte) rest
+
+-- The record of a word of n bits with which bytes begin, and what follows it. None if they begin with no record
+unfoldable pub record_at : (n : ℕ) → List ℕ → Option (Record × List ℕ)
+record_at n bytes = if nat_lt (length bytes) front.size then None else verdict_at n (front.value (take front.size bytes)) (drop front.size bytes)
+
+-- a record that is written is read again, whatever follows it
+abbrev pub ReadAgainLaw : Type 0
+ReadAgainLaw = (n : ℕ) (r : Record) (rest : List ℕ) → IsRecord n r → record_at n (record_bytes r ++ rest) ≡ Some (r, rest)
+
+-- ---- many of them
+
+-- these are the records that are read one after another, and what follows them
+abbrev pub AreRecords : (n : ℕ) → List Record → (bytes rest : List ℕ) → Type 0
+AreRecords n [] bytes rest = bytes ≡ rest
+AreRecords n (r ∷ later) bytes rest = (left : List ℕ) × (record_at n bytes ≡ Some (r, left)) × AreRecords n later left rest
+
+-- all records of some bytes, which are nothing else
+abbrev pub AreAllRecords : (n : ℕ) → List Record → (bytes : List ℕ) → Type 0
+AreAllRecords n records bytes = AreRecords n records bytes []
+
+-- records that were written one after another are read again
+abbrev pub WrittenLaw : Type 0
+WrittenLaw = (n : ℕ) (records : List Record) → All (IsRecord n) records → AreAllRecords n records (flat_map record_bytes records)
+
+-- bytes have no other records
+abbrev pub SameRecordsLaw : Type 0
+SameRecordsLaw = (n : ℕ) (records others : List Record) (bytes : List ℕ) → AreAllRecords n records bytes → AreAllRecords n others bytes → records ≡ others

@@ -1,0 +1,24 @@
+//! The record of a frame's decision.
+
+use s2_bits::Bits;
+use s2_check::Verdict;
+use std::marker::Model;
+
+/// The decision on the frame that begins at a position of a recording: position, rounds of min-sum, verdict, decided bits, and the
+/// file of their certificate, which is empty if there is none.
+#[derive(Drop)]
+pub struct Record {
+    pub at: u64,
+    pub rounds: u32,
+    pub verdict: Verdict,
+    pub word: Bits,
+    pub certificate: Vec<u8>,
+}
+
+impl Model for Record {
+    ghost use Rattle.s2_stitch.specs.Records.{Record as RecordValue};
+
+    ghost Value = { RecordValue };
+
+    ghost view = { λ r. record { at = r.at; rounds = r.rounds; verdict = r.verdict; bits = r.word; certificate = r.certificate.items } };
+}

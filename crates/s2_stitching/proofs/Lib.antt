@@ -1,0 +1,3 @@
+pub mod FramesThere
+pub mod TrueRecords
+pub mod StitchLemmas

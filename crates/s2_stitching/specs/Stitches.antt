@@ -1,0 +1,105 @@
+-- What `stitch` receives, writes and reports (own).
+use Rattle.std.specs.Prelude.{◌≡◌, ◌⊎◌, ℕ, Bool, if◌then◌else◌, List, ◌++◌, codes, Option, None, Result, Ok, Err}
+use Rattle.s2_mode.specs.Mode.{Mode}
+use Rattle.s2_mode.specs.declared.symbols.Symbol.{Symbol}
+use Rattle.s2_rows.specs.Rows.{Rows}
+use Rattle.s2_link.specs.Link.{Link}
+use Rattle.s2_link.specs.declared.setup.Setup.{Setup}
+use Rattle.s2_tuning.specs.Tuning.{Tuning}
+use Rattle.s2_receive.specs.Limits.{max_symbols}
+use Rattle.s2_receive.specs.Receiving.{Decision, Rules, State, begun}
+use Rattle.s2_receive.specs.Sinks.{Taking}
+use Rattle.s2_receive.specs.declared.report.Received.{Received}
+use Rattle.s2_stitch.specs.Frames.{Terms}
+use Rattle.s2_stitch.specs.Laws.{uncertified}
+use Rattle.s2_stitch.specs.Sources.{AreTrueLeft, RecordSource}
+use Rattle.s2_stitch.specs.Stitching.{HasMet}
+use Rattle.s2_stitch.specs.declared.fault.SourceFault.{SourceFault}
+use Rattle.s2_stitch.specs.declared.fault.SourceFault.TheVariants as sources
+use Rattle.s2_stitch.specs.declared.read.RecordFault.TheVariants as records
+use Rattle.s2_modem.specs.Reception.{link_rules}
+use Rattle.s2_modem.specs.Reports.{frame_decision, options_of}
+use Rattle.s2_io.specs.declared.exit.Exit.{Exit}
+use Rattle.s2_io.specs.declared.fault.Fault.{Fault}
+use Rattle.s2_io.specs.declared.fault.Fault.TheVariants as faults
+use Rattle.s2_io.specs.Files.{Files, reporting}
+use Rattle.s2_io.specs.Screens.{Screen}
+use Rattle.s2_commands.specs.declared.choices.DemodOptions.{DemodOptions}
+use Rattle.s2_commands.specs.Ends.{BeginsWith, CausesWith, Ends, ends_of}
+use Rattle.s2_commands.specs.Links.{DoesOn, LinkCommand, OnLink}
+use Rattle.s2_commands.specs.Losses.{Finishes}
+use Rattle.s2_commands.specs.Receptions.{ReceivesToEnd}
+
+-- ---- the decisions
+
+-- how the frames of a link are read by a tuning
+abbrev pub terms_on : Link → Tuning → Terms
+terms_on link tuning = record { rows = link.rows; mode = link.setup.mode; number = link.setup.number; options = options_of tuning }
+
+-- the decision of a receiver of the link on a frame, with its certificate or without
+abbrev pub decides_on : (certified : Bool) → Link → Tuning → List Symbol → Decision
+decides_on certified link tuning = if certified then frame_decision link tuning else uncertified (frame_decision link tuning)
+
+-- the rules of a receiver of the link with this decision
+abbrev pub rules_with : (List Symbol → Decision) → Link → Tuning → Rules
+rules_with decide link tuning = record (link_rules link tuning max_symbols) { decide = decide }
+
+-- the records, and the copy of the recording, which are not read yet
+pub record Unread : Type 0 where
+  pub records : Option (List ℕ)
+  pub copy : Option (List ℕ)
+
+-- those of a reader of records and of a reader of the copy
+abbrev pub unread_by : {Q C : Type 0} → (Q → Option (List ℕ)) → (C → Option (List ℕ)) → Q → C → Unread
+unread_by records copy q c = record { records = records q; copy = copy c }
+
+-- a source of them that is not begun, of which no read has failed
+abbrev pub new_source : Link → Tuning → Unread → RecordSource
+new_source link tuning unread =
+    record { terms = terms_on link tuning; records = unread.records; copy = unread.copy; record_reads = 0; copy_reads = 0; place = 0; fault = None }
+
+-- each record has this decision on the frame at its position of the recording
+abbrev pub AreTrueBy : (List Symbol → Decision) → Link → Tuning → Unread → Type 0
+AreTrueBy decide link tuning unread = AreTrueLeft decide (new_source link tuning unread)
+
+-- ---- the reception
+
+-- the fault that a fault of the records or of the copy is reported as
+abbrev pub fault_of : SourceFault → Fault
+fault_of (sources.Records records.Read) = faults.Refused (codes "records: " ++ codes "cannot read")
+fault_of (sources.Records records.NotARecord) = faults.Refused (codes "records: " ++ codes "not the record of a decision")
+fault_of (sources.Records records.NoMemory) = faults.NoMemory
+fault_of sources.Recording = faults.Refused (codes "symbols, read again: " ++ codes "cannot read")
+fault_of sources.NoMemory = faults.NoMemory
+
+-- it stopped at a record: everything met before is written, and the sinks took its frames
+abbrev pub StopsAtRecord : {K : Type 0} → (takes : Taking K) → Rules → (old new : Ends K) → Result Received Fault → Type 0
+StopsAtRecord takes rules old new ended =
+    (fault : SourceFault) × (ended ≡ Err (fault_of fault)) × ((state : State) × HasMet takes rules begun state old.sinks new.sinks old.streams new.streams)
+
+-- all is received to the end, as by a receiver that decides each frame itself; or it stopped at a record
+abbrev pub StitchesToEnd : {K : Type 0} → (takes fails : Taking K) → Rules → (old new : Ends K) → Result Received Fault → Type 0
+StitchesToEnd takes fails rules old new ended = ReceivesToEnd takes fails rules old new ended ⊎ StopsAtRecord takes rules old new ended
+
+-- `stitch` on a link, whose receiver makes these decisions: it begins its output, and if the records are true, it receives to the end
+abbrev pub StitchesBy : {K : Type 0} → (takes fails : Taking K) → (List Symbol → Decision) → Tuning → Unread → LinkCommand (Ends K) Received
+StitchesBy takes fails decide tuning unread link begun old new ended =
+    BeginsWith (λ before behind result. AreTrueBy decide link tuning unread → StitchesToEnd takes fails (rules_with decide link tuning) before behind result) begun old new ended
+
+-- the same, unless memory runs out before it begins
+abbrev pub StitchesOn : {K : Type 0} → (takes fails : Taking K) → (List Symbol → Decision) → Tuning → Unread → LinkCommand (Ends K) Received
+StitchesOn takes fails decide tuning unread link = DoesOn (StitchesBy takes fails decide tuning unread) (Ok link)
+
+-- `stitch` on a link, by the decisions of its receiver
+abbrev pub Stitches : {K : Type 0} → (takes fails : Taking K) → (certified : Bool) → Tuning → Unread → LinkCommand (Ends K) Received
+Stitches takes fails certified tuning unread link = StitchesBy takes fails (decides_on certified link tuning) tuning unread link
+
+-- ---- the command
+
+-- `stitch` has ended with this exit: so it did on its files, its records and its sinks, and so it reported how it ended
+abbrev pub StitchExits :
+    {K : Type 0} → (takes fails : Taking K) → (count : K → ℕ) → (certified : Bool) → Unread → Setup → DemodOptions → ((quiet : Bool) → Mode → Result Rows Fault → Type 0) → Files → Files → K → K → Screen → Screen → Exit → Type 0
+StitchExits takes fails count certified unread setup words Noted files left sinks_old sinks_new old new exit =
+    (reception : Result Received Fault)
+    × OnLink (Stitches takes fails certified words.tuning unread) (CausesWith count) (Noted words.notes.quiet setup.mode) setup files left (ends_of (reporting files old) sinks_old) (ends_of (reporting left new) sinks_new) reception
+    × Finishes words.notes setup.mode reception exit old new
