@@ -1,5 +1,5 @@
 -- The symbols of a frame, from a copy of the recording (own).
-use Rattle.std.specs.Prelude.{◌≡◌, ℕ, ◌+◌, ◌*◌, Bool, true, false, List, length, take, drop, Option, Some, None, Result, Ok, Err}
+use Rattle.std.specs.Prelude.{◌≡◌, ℕ, ◌+◌, ◌*◌, Bool, true, false, if◌then◌else◌, List, length, take, drop, Option, Some, None, Result, Ok, Err}
 use Rattle.std.specs.Io.KnownBytes.{Consumes, IsAtEnd}
 use Rattle.s2_mode.specs.Symbols.{symbols_of}
 use Rattle.s2_mode.specs.declared.symbols.Symbol.{Symbol}
@@ -23,9 +23,15 @@ CopiesFrame size at place place_new old new (Some symbols) =
     (recording : List Symbol) → IsCopyFrom recording place old → IsCopyFrom recording place_new new × (symbols ≡ take size (drop at recording))
 CopiesFrame size at place place_new old new None = ((recording : List Symbol) → IsCopyFrom recording place old → IsCopyFrom recording place_new new) × IsAtEnd new
 
+-- the copy is read on up to this position, or to its end
+abbrev pub CopiesTo : (at place place_new : ℕ) → (old new : Option (List ℕ)) → Bool → Type 0
+CopiesTo at place place_new old new is_there =
+    ((recording : List Symbol) → IsCopyFrom recording place old → IsCopyFrom recording place_new new) × (if is_there then place_new ≡ at else IsAtEnd new)
+
 -- only a failed read of the copy is counted
 abbrev pub CountsCopy : {A : Type 0} → (old new : ℕ) → Result A SourceFault → Type 0
 CountsCopy old new (Ok value) = new ≡ old
 CountsCopy old new (Err (faults.Records fault)) = ⊥
 CountsCopy old new (Err faults.Recording) = new ≡ old + 1
+CountsCopy old new (Err faults.OtherRecording) = new ≡ old
 CountsCopy old new (Err faults.NoMemory) = new ≡ old

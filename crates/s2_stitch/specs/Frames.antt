@@ -14,18 +14,21 @@ use Rattle.s2_receive.specs.declared.decider.Decided.{Decided}
 use Rattle.s2_message.specs.Decisions.{decision_with, soft_frame}
 use Rattle.s2_message.specs.Reading.{FrameReader}
 use Rattle.s2_message.specs.declared.options.FrameOptions.{FrameOptions}
-use Rattle.s2_stitch.specs.Records.{Record}
+use Rattle.s2_check.specs.declared.verdict.Verdict.{Verdict}
+use Rattle.s2_stitch.specs.Records.{Record, seal_of}
 
--- how frames are read: the rows of their code, their mode, their scrambling number, and the options
+-- how frames are read: the rows of their code, their mode, their scrambling number, and the options. The seed is a number that
+-- stands for all of these in the seals of records
 pub record Terms : Type 0 where
   pub rows : Rows
+  pub seed : ℕ
   pub mode : Mode
   pub number : ℕ
   pub options : FrameOptions
 
 -- those of a reader of frames
-abbrev pub terms_by : Rows → FrameReader → Terms
-terms_by rows reader = record { rows = rows; mode = reader.mode; number = reader.number; options = reader.options }
+abbrev pub terms_by : Rows → (seed : ℕ) → FrameReader → Terms
+terms_by rows seed reader = record { rows = rows; seed = seed; mode = reader.mode; number = reader.number; options = reader.options }
 
 -- ---- the decision of a record
 
@@ -39,18 +42,22 @@ abbrev pub certificate_of : Rows → Option File → Option View
 certificate_of rows None = None
 certificate_of rows (Some file) = Some (view_of rows file)
 
--- the decision on a frame's symbols by the verdict, the bits, the certificate and the rounds of a record
-abbrev pub decision_by : Terms → List Symbol → Record → Decision
-decision_by t symbols r =
-    decision_with t.mode t.number t.options symbols (soft_frame t.mode t.number t.options symbols) r.verdict r.bits (certificate_of t.rows (file_in (file_of_bytes r.certificate))) r.rounds
+-- the decision on a frame's symbols by a verdict, and by the bits, the certificate and the rounds of a record
+abbrev pub decision_by : Terms → List Symbol → Verdict → Record → Decision
+decision_by t symbols verdict r =
+    decision_with t.mode t.number t.options symbols (soft_frame t.mode t.number t.options symbols) verdict r.bits (certificate_of t.rows (file_in (file_of_bytes r.certificate))) r.rounds
 
 -- the symbols of the frame that begins at a position of a recording
 abbrev pub frame_at : Terms → (recording : List Symbol) → (at : ℕ) → List Symbol
 frame_at t recording at = take (symbols_in t.mode) (drop at recording)
 
--- A record is true if it has the decision of the receiver's rule on the frame at its position
+-- A record is true if it has the decision of the receiver's rule on the frame at its position. An end record has none
 abbrev pub IsTrueRecord : Terms → (decide : List Symbol → Decision) → (recording : List Symbol) → Record → Type 0
-IsTrueRecord t decide recording r = decision_by t (frame_at t recording r.at) r ≡ decide (frame_at t recording r.at)
+IsTrueRecord t decide recording r = IfSome r.verdict (λ verdict. decision_by t (frame_at t recording r.at) verdict r ≡ decide (frame_at t recording r.at))
+
+-- its seal is that of the frame at its position
+abbrev pub IsSealed : Terms → (recording : List Symbol) → Record → Type 0
+IsSealed t recording r = r.seal ≡ seal_of t.seed (soft_frame t.mode t.number t.options (frame_at t recording r.at)) r
 
 -- ---- the frame of a record
 
@@ -81,7 +88,8 @@ pub record IsRecordedFrame (rows : Rows) (certificate : Option File) (d : Decide
   pub suits : IfSome certificate (Suits rows)
   pub place : IfSome d.header (HasPlace field)
 
--- it is the frame of this record, decided by it
+-- it is the frame of this record, decided by it, and the record has its seal
 pub record IsFrameOf (t : Terms) (r : Record) (f : RecordedFrame) : Type 0 where
   pub place : f.at ≡ r.at
-  pub decided : f.decision ≡ decision_by t f.symbols r
+  pub decided : (verdict : Verdict) × (r.verdict ≡ Some verdict) × (f.decision ≡ decision_by t f.symbols verdict r)
+  pub sealed : r.seal ≡ seal_of t.seed f.decision.soft r

@@ -13,7 +13,7 @@ use Rattle.s2_stitch.specs.Records.{Record}
 
 -- a record has this verdict, these bits, the file of this certificate, and this number of rounds
 pub record IsRecordBy (rows : Rows) (verdict : Verdict) (bits : List Bool) (certificate : Option View) (rounds : ℕ) (r : Record) : Type 0 where
-  pub verdict_is : r.verdict ≡ verdict
+  pub verdict_is : r.verdict ≡ Some verdict
   pub bits_are : r.bits ≡ bits
   pub certificate_is : certificate_of rows (file_in (file_of_bytes r.certificate)) ≡ certificate
   pub rounds_are : r.rounds ≡ rounds

@@ -15,10 +15,10 @@ CountsRead old new (Ok value) = new ≡ old
 
 -- ---- in parts
 
--- sixteen bytes and one more are a front: the numbers, and the verdict
+-- twenty-four bytes and one more are a front: the numbers, and the verdict
 pub record IsFront (head : List ℕ) (byte : ℕ) (f : Front) : Type 0 where
   pub long : length head ≡ front.size
-  pub numbers : front.value head ≡ (f.at, (f.rounds, f.size))
+  pub numbers : front.value head ≡ (f.at, (f.seal, (f.rounds, f.size)))
   pub verdict : verdict_of byte ≡ Some f.verdict
   pub few : f.size ≤ max_certificate
 

@@ -1,17 +1,19 @@
--- The record of a frame's decision, and its bytes (own). Read from top to bottom; numbers are big endian.
-use Rattle.std.specs.Prelude.{◌≡◌, ℕ, ◌+◌, ◌^◌, ◌<◌, ◌≤◌, ◌==◌, ◌||◌, nat_lt, Bool, if◌then◌else◌, List, [], ◌∷◌, ◌++◌, length, take, drop, All, Option, Some, None}
+-- The record of a frame's decision, its seal, and its bytes (own). Read from top to bottom; numbers are big endian.
+use Rattle.std.specs.Prelude.{◌≡◌, ℕ, ℤ, ◌+◌, ◌*◌, ◌%◌, ◌^◌, ◌<◌, ◌≤◌, ◌==◌, ◌||◌, nat_lt, Bool, if◌then◌else◌, List, [], ◌∷◌, ◌++◌, length, take, drop, map, fold, All, Option, Some, None}
 use Rattle.std.specs.List.{flat_map}
-use Rattle.std.specs.Int.{w32, w64}
+use Rattle.std.specs.Int.{cast_unsigned, w16, w32, w64}
 use Rattle.s2_certfile.specs.Field.{Field, both, bit_list, bytes_of_bits, number}
 use Rattle.s2_check.specs.declared.verdict.Verdict.{Verdict}
 use Rattle.s2_check.specs.declared.verdict.Verdict.TheVariants.{Sole, MostLikely, Parity, Broken}
 
 -- The decision on the frame that begins at a position of a recording: the rounds of min-sum, the verdict, the decided bits, and
--- the file of their certificate, which is empty if there is none
+-- the file of their certificate, which is empty if there is none. Without a verdict it is an end record: it says that a piece has
+-- no other frame that begins at this position or before it. The seal binds a record to its frame
 pub record Record : Type 0 where
   pub at : ℕ
+  pub seal : ℕ
   pub rounds : ℕ
-  pub verdict : Verdict
+  pub verdict : Option Verdict
   pub bits : List Bool
   pub certificate : List ℕ
 
@@ -22,40 +24,57 @@ max_certificate = 16777216
 -- a record of a word of n bits, whose numbers fit
 pub record IsRecord (n : ℕ) (r : Record) : Type 0 where
   pub at : r.at < 2 ^ 64
+  pub seal : r.seal < 2 ^ 64
   pub rounds : r.rounds < 2 ^ 32
   pub bits : length r.bits ≡ n
   pub certificate : length r.certificate ≤ max_certificate
 
 -- ---- the bytes
 
--- the three numbers in front: the position in eight bytes, the rounds in four, and the number of bytes of the certificate in four
-abbrev pub front : Field (ℕ × (ℕ × ℕ))
-front = both (number w64) (both (number w32) (number w32))
+-- the four numbers in front: the position and the seal in eight bytes each, the rounds in four, and the number of bytes of the
+-- certificate in four
+abbrev pub front : Field (ℕ × (ℕ × (ℕ × ℕ)))
+front = both (number w64) (both (number w64) (both (number w32) (number w32)))
 
 -- the byte of a verdict
-abbrev pub verdict_byte : Verdict → ℕ
-verdict_byte Sole = 0
-verdict_byte MostLikely = 1
-verdict_byte Parity = 2
-verdict_byte Broken = 3
+abbrev pub verdict_byte : Option Verdict → ℕ
+verdict_byte (Some Sole) = 0
+verdict_byte (Some MostLikely) = 1
+verdict_byte (Some Parity) = 2
+verdict_byte (Some Broken) = 3
+verdict_byte None = 4
 
 -- front, verdict, bits and certificate, one after another
 abbrev pub record_bytes : Record → List ℕ
-record_bytes r = front.bytes (r.at, (r.rounds, length r.certificate)) ++ (verdict_byte r.verdict ∷ (bytes_of_bits r.bits ++ r.certificate))
+record_bytes r = front.bytes (r.at, (r.seal, (r.rounds, length r.certificate))) ++ (verdict_byte r.verdict ∷ (bytes_of_bits r.bits ++ r.certificate))
+
+-- ---- the seal
+
+-- one step of a sum modulo 2^64. The factor is odd, so another number, or another sum before, gives another sum
+abbrev pub sum_step : ℕ → ℕ → ℕ
+sum_step sum x = (sum * 6364136223846793005 + x) % 2 ^ 64
+
+-- The seal of a record: the sum of its frame's soft values, in sixteen bits each, and of all that it says. The sum begins at a
+-- number that stands for the rows and the options
+abbrev pub seal_of : (seed : ℕ) → (soft : List ℤ) → Record → ℕ
+seal_of seed soft r = fold sum_step (fold sum_step (fold sum_step seed (map (cast_unsigned w16) soft)) (r.at ∷ r.rounds ∷ verdict_byte r.verdict ∷ [])) (bytes_of_bits r.bits ++ r.certificate)
 
 -- ---- and back
 
-abbrev pub verdict_of : ℕ → Option Verdict
-verdict_of byte = if byte == 0 then Some Sole else if byte == 1 then Some MostLikely else if byte == 2 then Some Parity else if byte == 3 then Some Broken else None
+abbrev pub verdict_of : ℕ → Option (Option Verdict)
+verdict_of byte =
+    if byte == 0 then Some (Some Sole) else if byte == 1 then Some (Some MostLikely) else if byte == 2 then Some (Some Parity) else if byte == 3 then Some (Some Broken)
+    else if byte == 4 then Some None else None
 
 -- bits and certificate, if they are there, and what follows them
-abbrev pub body_at : (n : ℕ) → (at rounds size : ℕ) → Option Verdict → List ℕ → Option (Record × List ℕ)
-body_at n at rounds size None bytes = None
-body_at n at rounds size (Some verdict) bytes =
+abbrev pub body_at : (n : ℕ) → (at seal rounds size : ℕ) → Option (Option Verdict) → List ℕ → Option (Record × List ℕ)
+body_at n at seal rounds size None bytes = None
+body_at n at seal rounds size (Some verdict) bytes =
     if nat_lt max_certificate size || nat_lt (length bytes) ((bit_list n).size + size) then None
     else Some (
       record {
         at = at;
+        seal = seal;
         rounds = rounds;
         verdict = verdict;
         bits = (bit_list n).value (take (bit_list n).size bytes);
@@ -65,9 +84,9 @@ body_at n at rounds size (Some verdict) bytes =
     )
 
 -- the byte of the verdict, and the body
-abbrev pub verdict_at : (n : ℕ) → ℕ × (ℕ × ℕ) → List ℕ → Option (Record × List ℕ)
+abbrev pub verdict_at : (n : ℕ) → ℕ × (ℕ × (ℕ × ℕ)) → List ℕ → Option (Record × List ℕ)
 verdict_at n numbers [] = None
-verdict_at n numbers (byte ∷ rest) = body_at n numbers.0 numbers.1.0 numbers.1.1 (verdict_of byte) rest
+verdict_at n numbers (byte ∷ rest) = body_at n numbers.0 numbers.1.0 numbers.1.1.0 numbers.1.1.1 (verdict_of byte) rest
 
 -- The record of a word of n bits with which bytes begin, and what follows it. None if they begin with no record
 unfoldable pub record_at : (n : ℕ) → List ℕ → Option (Record × List ℕ)

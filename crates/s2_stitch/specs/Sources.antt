@@ -65,13 +65,17 @@ abbrev pub ReadsCopy : Terms → (place place_new : ℕ) → (old new : Option (
 ReadsCopy t place place_new old new frame =
     (recording : List Symbol) → IsCopyFrom recording place old → IsCopyFrom recording place_new new × IfSome frame (λ f. f.symbols ≡ frame_at t recording f.at)
 
+-- an end record was read last, and the copy up to the symbol after its position
+abbrev pub ReadsEnd : Terms → (place_new : ℕ) → (old new : Option (List ℕ)) → Type 0
+ReadsEnd t place_new old new = (passed : List Record) × (r : Record) × AreRead (n_of t.mode) (passed ++ r ∷ []) old new × (r.verdict ≡ None) × (place_new ≡ r.at + 1)
+
 -- The next frame at this position or after it was read, not before the position up to which the copy was read. Or the records or the
--- copy are at their end
+-- copy are at their end, or an end record says that no other frame comes
 pub record ReadsNext (t : Terms) (at place place_new : ℕ) (records records_new copy copy_new : Option (List ℕ)) (frame : Option RecordedFrame) : Type 0 where
   pub reads : ReadsFrame t (max at place) records records_new frame
   pub copies : ReadsCopy t place place_new copy copy_new frame
   pub from : IfSome frame (λ f. max at place ≤ f.at)
-  pub none : frame ≡ None → IsAtEnd records_new ⊎ IsAtEnd copy_new
+  pub none : frame ≡ None → (IsAtEnd records_new ⊎ IsAtEnd copy_new) ⊎ ReadsEnd t place_new records records_new
 
 -- the result of reading the next frame
 abbrev pub ReadsResult : Terms → (at place place_new : ℕ) → (records records_new copy copy_new : Option (List ℕ)) → Result (Option RecordedFrame) SourceFault → Type 0
@@ -83,6 +87,7 @@ abbrev pub CountsSource : Option SourceFault → (records records_new copy copy_
 CountsSource None q q' c c' = (q' ≡ q) × (c' ≡ c)
 CountsSource (Some (faults.Records fault)) q q' c c' = CountsRead {A = ⊤} q q' (Err fault) × (c' ≡ c)
 CountsSource (Some faults.Recording) q q' c c' = (q' ≡ q) × (c' ≡ c + 1)
+CountsSource (Some faults.OtherRecording) q q' c c' = (q' ≡ q) × (c' ≡ c)
 CountsSource (Some faults.NoMemory) q q' c c' = (q' ≡ q) × (c' ≡ c)
 
 -- the fault of a result
@@ -95,12 +100,17 @@ abbrev pub GivesBy : Option SourceFault → ℕ → (old new : RecordSource) →
 GivesBy None at old new frame = ReadsNext old.terms at old.place new.place old.records new.records old.copy new.copy frame
 GivesBy (Some fault) at old new frame = frame ≡ None
 
--- What a source gives for the next frame, at this position or after it. After a fault it gives nothing and reads nothing
+-- it has no fault, and the copy is not read beyond this position
+abbrev pub IsOpen : ℕ → RecordSource → Type 0
+IsOpen at s = (s.fault ≡ None) × (s.place ≤ at)
+
+-- What a source gives for the next frame, at this position or after it. After a fault it gives nothing and reads nothing. So it does
+-- before the position up to which the copy was read, where no other frame comes
 pub record Gives (at : ℕ) (old new : RecordSource) (frame : Option RecordedFrame) : Type 0 where
   pub terms : new.terms ≡ old.terms
-  pub gives : old.fault ≡ None → GivesBy new.fault at old new frame
+  pub gives : IsOpen at old → GivesBy new.fault at old new frame
   pub counts : old.fault ≡ None → CountsSource new.fault old.record_reads new.record_reads old.copy_reads new.copy_reads
-  pub stopped : old.fault ≢ None → (new ≡ old) × (frame ≡ None)
+  pub closed : ¬ IsOpen at old → (new ≡ old) × (frame ≡ None)
 
 -- ---- true records
 

@@ -1,5 +1,5 @@
 -- The next record whose frame may come (own).
-use Rattle.std.specs.Prelude.{◌≡◌, ℕ, List, [], ◌∷◌, ◌++◌, length, Option, Some, None}
+use Rattle.std.specs.Prelude.{◌≡◌, ◌⊎◌, ℕ, ◌+◌, List, [], ◌∷◌, ◌++◌, length, Option, Some, None}
 use Rattle.std.specs.Io.KnownBytes.{IsAtEnd}
 use Rattle.s2_rows.specs.Rows.{Rows}
 use Rattle.s2_certfile.specs.Format.{file_of_bytes}
@@ -19,7 +19,8 @@ abbrev pub ReadsUsable : Rows → (n from : ℕ) → (old new : Option (List ℕ
 ReadsUsable rows n from old new None = (passed : List Record) × AreRead n passed old new × IsAtEnd new
 ReadsUsable rows n from old new (Some u) = (passed : List Record) × AreRead n (passed ++ u.record ∷ []) old new × ArePassed rows from passed
 
--- the frame of this record was read from a copy of the recording, and decided by it; or the copy is at its end
+-- the frame of this record was read from a copy of the recording, and decided by it. Or the copy is at its end, or it was read up to an
+-- end record
 abbrev pub CopiesUsable : Terms → Record → (place place_new : ℕ) → (old new : Option (List ℕ)) → Option RecordedFrame → Type 0
-CopiesUsable t r place place_new old new None = ReadsCopy t place place_new old new None × IsAtEnd new
+CopiesUsable t r place place_new old new None = ReadsCopy t place place_new old new None × (IsAtEnd new ⊎ ((r.verdict ≡ None) × (place_new ≡ r.at + 1)))
 CopiesUsable t r place place_new old new (Some f) = ReadsCopy t place place_new old new (Some f) × IsFrameOf t r f

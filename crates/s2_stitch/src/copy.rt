@@ -2,7 +2,7 @@
 ghost use Rattle.std.specs.Prelude.{◌≡◌, ◌+◌, ◌*◌, ◌^◌, ◌<◌, ◌≤◌, IfOk, IfSome, length, option_map};
 ghost use Rattle.s2_mode.specs.Counts.{CanCount};
 ghost use Rattle.s2_receive.specs.Limits.{max_symbols};
-ghost use Rattle.s2_stitch.specs.Copies.{CopiesFrame, CountsCopy, ReadsSymbols, SkipsSymbols};
+ghost use Rattle.s2_stitch.specs.Copies.{CopiesFrame, CopiesTo, CountsCopy, ReadsSymbols, SkipsSymbols};
 
 use crate::fault::SourceFault;
 use s2_mode::{CountedRead, Symbol, read_full, read_symbol, symbols_into};
@@ -44,6 +44,24 @@ fn read_symbols<C: CountedRead>(
     }
     symbols_into(&bytes, &mut symbols);
     Ok(Some(symbols))
+}
+
+/// Skips the symbols up to a position. `place` is the copy's position, before it and after it. `false` if the copy ends before.
+pub(crate) fn copy_to<C: CountedRead>(
+    copy: &mut C,
+    place: &mut u64,
+    at: u64,
+) -> Result<bool, SourceFault>
+    requires count { CanCount (C.count copy.old) }
+    requires place { place.old ≤ at }
+    ensures copies { IfOk result (CopiesTo at place.old place.new (C.remaining copy.old) (C.remaining copy.new)) }
+    ensures counts { CountsCopy (C.count copy.old) (C.count copy.new) result }
+{
+    if !skip(copy, at - *place)? {
+        return Ok(false);
+    }
+    *place = at;
+    Ok(true)
 }
 
 /// Reads the frame of this number of symbols that begins at a position. `place` is the copy's position, before it and after it.

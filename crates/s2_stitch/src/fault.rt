@@ -10,6 +10,10 @@ pub enum SourceFault {
     /// The next record could not be read.
     #[error("{0}")]
     Records(RecordFault),
+    /// The seal of the next record is not that of its frame. The record is of another recording, of other rows or of other options, or
+    /// it was altered.
+    #[error("of another recording, of other rows or of other options")]
+    OtherRecording,
     /// A read of the copy of the recording failed.
     #[error("cannot read")]
     Recording,

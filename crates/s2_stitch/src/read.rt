@@ -30,9 +30,10 @@ pub enum RecordFault {
 #[derive(Clone, Copy)]
 pub(crate) struct Front {
     pub(crate) at: u64,
+    pub(crate) seal: u64,
     pub(crate) rounds: u32,
     pub(crate) size: usize,
-    pub(crate) verdict: Verdict,
+    pub(crate) verdict: Option<Verdict>,
 }
 
 /// A number of eight bytes.
@@ -53,12 +54,13 @@ fn number32(bytes: &[u8]) -> u32
     u32::from_be_bytes([bytes[0], bytes[1], bytes[2], bytes[3]])
 }
 
-/// The front that these sixteen bytes and this byte are, if they are one.
+/// The front that these twenty-four bytes and this byte are, if they are one.
 fn front_in(numbers: &[u8], byte: u8) -> Option<Front>
-    requires { length numbers.now ≡ 16 }
+    requires { length numbers.now ≡ 24 }
     ensures { SaysFront numbers.now byte result }
 {
     let (at, numbers) = numbers.split_at(8);
+    let (seal, numbers) = numbers.split_at(8);
     let (rounds, size) = numbers.split_at(4);
     let size = number32(size) as usize;
     if size > MAX_CERTIFICATE {
@@ -67,6 +69,7 @@ fn front_in(numbers: &[u8], byte: u8) -> Option<Front>
     match verdict_of(byte) {
         Some(verdict) => Some(Front {
             at: number64(at),
+            seal: number64(seal),
             rounds: number32(rounds),
             size,
             verdict,
@@ -136,6 +139,7 @@ pub fn read_record<R: CountedRead>(
     match Bits::from_bytes(alloc, &word, bits) {
         Ok(word) => Ok(Some(Record {
             at: front.at,
+            seal: front.seal,
             rounds: front.rounds,
             verdict: front.verdict,
             word,

@@ -1,18 +1,21 @@
 //! Records, and beside them a copy of the recording.
-ghost use Rattle.std.specs.Prelude.{◌≡◌, ◌^◌, ◌<◌, ◌≤◌, IfOk, None};
+ghost use Rattle.std.specs.Prelude.{◌≡◌, ◌^◌, ◌<◌, ◌≤◌, IfOk, None, Some};
 ghost use Rattle.s2_message.specs.Reading.{IsSameReader};
 ghost use Rattle.s2_mode.specs.Counts.{CanCount};
-ghost use Rattle.s2_mode.specs.Mode.{n_of, symbols_in};
+ghost use Rattle.s2_mode.specs.Mode.{n_of};
+ghost use Rattle.s2_receive.specs.Limits.{max_symbols};
 ghost use Rattle.s2_stitch.specs.Copies.{CountsCopy};
-ghost use Rattle.s2_stitch.specs.Frames.{IsFrameOf, terms_by};
+ghost use Rattle.s2_stitch.specs.Frames.{Terms, terms_by};
 ghost use Rattle.s2_stitch.specs.Sources.{CountsSource, Gives, ReadsResult, fault_in, source_by};
 ghost use Rattle.s2_stitch.specs.Usable.{CopiesUsable, IsUsable};
 
-use crate::copy::copy_frame;
+use crate::copy::{copy_frame, copy_to};
 use crate::fault::SourceFault;
 use crate::frame::RecordedFrame;
-use crate::made::made_frame;
+use crate::made::{has_seal, made_frame};
 use crate::next::{Usable, next_usable};
+use crate::record::Record;
+use s2_check::Verdict;
 use s2_matrix::Matrix;
 use s2_message::{FrameOptions, FrameReader};
 use s2_mode::{CountedRead, Mode};
@@ -20,10 +23,63 @@ use s2_scramble::ScramblingNumber;
 use std::alloc::{AllocError, Global};
 use std::marker::Model;
 
-/// Reads the frame of a record from the copy, whose position is `place`. `None` if the copy ends before the frame is whole.
+/// Reads the frame of a record with this verdict from the copy, whose position is `place`. `None` if the copy ends before the frame is
+/// whole.
 fn frame_of<'a, C: CountedRead>(
     alloc: Global,
     matrix: &'a Matrix,
+    seed: u64,
+    mode: Mode,
+    reader: &mut FrameReader,
+    copy: &mut C,
+    place: &mut u64,
+    verdict: Verdict,
+    usable: Usable,
+) -> Result<Option<RecordedFrame<'a>>, SourceFault>
+    requires mode { mode ≡ reader.old.mode }
+    requires count { CanCount (C.count copy.old) }
+    requires usable { IsUsable matrix.now (n_of reader.old.mode) place.old usable }
+    requires verdict { usable.record.verdict ≡ Some verdict }
+    ensures frame { IfOk result (CopiesUsable (terms_by matrix.now seed reader.old) usable.record place.old place.new (C.remaining copy.old) (C.remaining copy.new)) }
+    ensures same { IsSameReader reader.old reader.new }
+    ensures counts { CountsCopy (C.count copy.old) (C.count copy.new) result }
+{
+    let at = usable.record.at;
+    match copy_frame(alloc, copy, place, at, mode.symbols())? {
+        Some(symbols) => {
+            let frame = made_frame(alloc, matrix, seed, reader, verdict, usable, symbols)?;
+            Ok(Some(frame))
+        }
+        None => Ok(None),
+    }
+}
+
+/// Passes an end record: reads the copy up to the symbol after its position. There is no frame then.
+fn end_of<'a, C: CountedRead>(
+    seed: u64,
+    copy: &mut C,
+    place: &mut u64,
+    own: &Record,
+) -> Result<Option<RecordedFrame<'a>>, SourceFault>
+    requires count { CanCount (C.count copy.old) }
+    requires ahead { place.old ≤ own.now.at }
+    requires reached { own.now.at ≤ max_symbols }
+    requires end { own.now.verdict ≡ None }
+    ensures frame { (t : Terms) → IfOk result (CopiesUsable t own.now place.old place.new (C.remaining copy.old) (C.remaining copy.new)) }
+    ensures counts { CountsCopy (C.count copy.old) (C.count copy.new) result }
+{
+    if !has_seal(seed, &[], own) {
+        return Err(SourceFault::OtherRecording);
+    }
+    copy_to(copy, place, own.at + 1)?;
+    Ok(None)
+}
+
+/// Reads the frame of a record from the copy, or passes an end record.
+fn read_usable<'a, C: CountedRead>(
+    alloc: Global,
+    matrix: &'a Matrix,
+    seed: u64,
     mode: Mode,
     reader: &mut FrameReader,
     copy: &mut C,
@@ -33,17 +89,15 @@ fn frame_of<'a, C: CountedRead>(
     requires mode { mode ≡ reader.old.mode }
     requires count { CanCount (C.count copy.old) }
     requires usable { IsUsable matrix.now (n_of reader.old.mode) place.old usable }
-    ensures frame { IfOk result (CopiesUsable (terms_by matrix.now reader.old) usable.record place.old place.new (C.remaining copy.old) (C.remaining copy.new)) }
+    ensures frame { IfOk result (CopiesUsable (terms_by matrix.now seed reader.old) usable.record place.old place.new (C.remaining copy.old) (C.remaining copy.new)) }
     ensures same { IsSameReader reader.old reader.new }
     ensures counts { CountsCopy (C.count copy.old) (C.count copy.new) result }
 {
-    let at = usable.record.at;
-    match copy_frame(alloc, copy, place, at, mode.symbols())? {
-        Some(symbols) => match made_frame(alloc, matrix, reader, usable, symbols) {
-            Ok(frame) => Ok(Some(frame)),
-            Err(_) => Err(SourceFault::NoMemory),
-        },
-        None => Ok(None),
+    match usable.record.verdict {
+        Some(verdict) => frame_of(
+            alloc, matrix, seed, mode, reader, copy, place, verdict, usable,
+        ),
+        None => end_of(seed, copy, place, &usable.record),
     }
 }
 
@@ -51,6 +105,7 @@ fn frame_of<'a, C: CountedRead>(
 fn next_frame<'a, Q: CountedRead, C: CountedRead>(
     alloc: Global,
     matrix: &'a Matrix,
+    seed: u64,
     mode: Mode,
     reader: &mut FrameReader,
     records: &mut Q,
@@ -61,12 +116,14 @@ fn next_frame<'a, Q: CountedRead, C: CountedRead>(
     requires mode { mode ≡ reader.old.mode }
     requires records { CanCount (Q.count records.old) }
     requires copy { CanCount (C.count copy.old) }
-    ensures reads { ReadsResult (terms_by matrix.now reader.old) at place.old place.new (Q.remaining records.old) (Q.remaining records.new) (C.remaining copy.old) (C.remaining copy.new) result }
+    ensures reads { ReadsResult (terms_by matrix.now seed reader.old) at place.old place.new (Q.remaining records.old) (Q.remaining records.new) (C.remaining copy.old) (C.remaining copy.new) result }
     ensures same { IsSameReader reader.old reader.new }
     ensures counts { CountsSource (fault_in result) (Q.count records.old) (Q.count records.new) (C.count copy.old) (C.count copy.new) }
 {
     match next_usable(alloc, matrix, records, mode.n(), at.max(*place)) {
-        Ok(Some(usable)) => frame_of(alloc, matrix, mode, reader, copy, place, usable),
+        Ok(Some(usable)) => {
+            read_usable(alloc, matrix, seed, mode, reader, copy, place, usable)
+        }
         Ok(None) => Ok(None),
         Err(fault) => Err(SourceFault::Records(fault)),
     }
@@ -78,6 +135,7 @@ fn next_frame<'a, Q: CountedRead, C: CountedRead>(
 /// position in symbols, and the fault that stopped it.
 pub struct RecordSource<'a, Q: CountedRead, C: CountedRead> {
     matrix: &'a Matrix,
+    seed: u64,
     mode: Mode,
     reader: FrameReader,
     records: Q,
@@ -90,6 +148,7 @@ impl<'a, Q: CountedRead + Drop, C: CountedRead + Drop> Drop for RecordSource<'a,
     fn drop(self) {
         let RecordSource {
             matrix: _,
+            seed: _,
             mode: _,
             reader: _,
             records: _,
@@ -107,17 +166,19 @@ impl<'a, Q: CountedRead, C: CountedRead> Model for RecordSource<'a, Q, C> {
 
     ghost Value = { RecordSourceValue };
 
-    ghost view = { λ s. source_by Q.remaining Q.count C.remaining C.count (terms_by s.matrix.now s.reader) s.records s.copy s.place s.fault };
+    ghost view = { λ s. source_by Q.remaining Q.count C.remaining C.count (terms_by s.matrix.now s.seed s.reader) s.records s.copy s.place s.fault };
 
     ghost invariant = { λ s. s.mode ≡ s.reader.mode };
 }
 
 impl<'a, Q: CountedRead, C: CountedRead> RecordSource<'a, Q, C> {
     /// A source of the frames of a mode and a scrambling number. `records` has the records of [`crate::record_into`], one after
-    /// another, and `copy` the recording from its first symbol on, four bytes for each. `AllocError` only if memory does not suffice.
+    /// another, and `copy` the recording from its first symbol on, four bytes for each. `seed` is that of the records' seals
+    /// ([`crate::seal_of`]). `AllocError` only if memory does not suffice.
     pub fn new(
         alloc: Global,
         matrix: &'a Matrix,
+        seed: u64,
         mode: Mode,
         number: ScramblingNumber,
         options: FrameOptions,
@@ -128,11 +189,12 @@ impl<'a, Q: CountedRead, C: CountedRead> RecordSource<'a, Q, C> {
         Q: Drop,
         C: Drop,
         ensures { IfOk result (λ s. s ≡ source_by Q.remaining Q.count C.remaining C.count
-            (record { rows = matrix.now; mode = mode; number = number; options = options }) records copy 0 None) }
+            (record { rows = matrix.now; seed = seed; mode = mode; number = number; options = options }) records copy 0 None) }
     {
         let reader = FrameReader::new(alloc, mode, number, options)?;
         Ok(RecordSource {
             matrix,
+            seed,
             mode,
             reader,
             records,
@@ -151,18 +213,20 @@ impl<'a, Q: CountedRead, C: CountedRead> RecordSource<'a, Q, C> {
 
     /// The frame of the next record at this position or after it, in symbols. It passes records before this position and before
     /// the position up to which the copy was read, and records whose certificate does not suit the matrix. `None` at the end of the
-    /// records, if the copy ends before the frame is whole, and after a fault.
+    /// records, if the copy ends before the frame is whole, and after a fault. After an end record it is `None` up to the position of
+    /// that, and nothing is read. `OtherRecording` if the record has another seal than its frame.
     pub fn next(&mut self, alloc: Global, at: u64) -> Option<RecordedFrame<'a>>
         requires records { CanCount self.old.record_reads }
         requires copy { CanCount self.old.copy_reads }
         ensures { Gives at self.old self.new result }
     {
-        if self.fault.is_some() {
+        if self.fault.is_some() || at < self.place {
             return None;
         }
         match next_frame(
             alloc,
             self.matrix,
+            self.seed,
             self.mode,
             &mut self.reader,
             &mut self.records,

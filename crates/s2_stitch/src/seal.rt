@@ -1,0 +1,68 @@
+//! The seal that binds a record to its frame.
+ghost use Rattle.std.specs.Prelude.{◌≡◌, fold, map};
+ghost use Rattle.std.specs.Int.{cast_unsigned, w16};
+ghost use Rattle.s2_certfile.specs.Field.{bytes_of_bits};
+ghost use Rattle.s2_stitch.specs.Records.{seal_of, sum_step};
+
+use crate::verdicts::verdict_byte;
+use s2_bits::Bits;
+use s2_check::Verdict;
+
+/// The factor of a sum's steps. It is odd, so each step can be undone.
+const FACTOR: u64 = 6_364_136_223_846_793_005;
+
+/// A sum with one number more.
+fn step(sum: u64, number: u64) -> u64
+    ensures { result ≡ sum_step sum number }
+{
+    sum.wrapping_mul(FACTOR).wrapping_add(number)
+}
+
+/// A sum with these soft values.
+fn with_values(mut sum: u64, soft: &[i16]) -> u64
+    ensures { result ≡ fold sum_step sum (map (cast_unsigned w16) soft.now) }
+{
+    'values: for value in soft {
+        sum = step(sum, u64::from(value.cast_unsigned()));
+    }
+    sum
+}
+
+/// A sum with these bytes.
+fn with_bytes(mut sum: u64, bytes: &[u8]) -> u64
+    ensures { result ≡ fold sum_step sum bytes.now }
+{
+    'bytes: for byte in bytes {
+        sum = step(sum, u64::from(*byte));
+    }
+    sum
+}
+
+/// A sum with bits, eight to a byte.
+fn with_bits(mut sum: u64, word: &Bits) -> u64
+    ensures { result ≡ fold sum_step sum (bytes_of_bits word.now) }
+{
+    'bytes: for k in 0..word.len().div_ceil(8) {
+        sum = step(sum, u64::from(word.byte(k)));
+    }
+    sum
+}
+
+/// The seal of a record: a sum of the soft values of its frame and of all that the record says. So a record of another frame, and an
+/// altered record, has another seal. `seed` is a number that stands for the rows and the options of the receiver.
+pub fn seal_of(
+    seed: u64,
+    soft: &[i16],
+    at: u64,
+    rounds: u32,
+    verdict: Option<Verdict>,
+    word: &Bits,
+    certificate: &[u8],
+) -> u64
+    ensures { result ≡ seal_of seed soft.now (record { at = at; seal = 0; rounds = rounds; verdict = verdict; bits = word.now; certificate = certificate.now }) }
+{
+    let sum = with_values(seed, soft);
+    let sum = step(step(sum, at), u64::from(rounds));
+    let sum = step(sum, u64::from(verdict_byte(verdict)));
+    with_bytes(with_bits(sum, word), certificate)
+}
