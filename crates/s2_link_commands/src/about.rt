@@ -22,7 +22,7 @@ pub(crate) fn open_about<'a, P: Opens<'a>>(
     opener: &mut P,
     name: Option<&'a str>,
 ) -> Result<AboutFile<P::Output>, Unserved<'a>>
-    requires { P.opened opener.old < 10 }
+    requires { P.opened opener.old < 12 }
     ensures { IfOk result (λ made. wanted_count (λ file. P.Output.count file.to) made ≡ 0) }
 {
     match name {
@@ -32,7 +32,7 @@ pub(crate) fn open_about<'a, P: Opens<'a>>(
 }
 
 /// Appends the mode, and all options of a receiver.
-fn push_receiver(
+pub(crate) fn push_receiver(
     text: &mut String,
     link: LinkArguments,
     tuning: &Tuning,
