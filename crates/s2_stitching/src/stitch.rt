@@ -125,7 +125,7 @@ fn stitch_files<
 
 /// `stitch`: as [`s2_commands::demod_command`], by the records of pieces. `records` are those of [`s2_records::Recorder`], one after
 /// another, and `copy` has the same symbols as the file of the link. `certified` says whether frames have certificates: then the
-/// records must have them too. `seed` is a number that stands for the rows and for all options of the receiver. The records' seals must
+/// records must have them too. `seed` is a number that identifies the rows and all options of the receiver. The records' seals must
 /// begin with it ([`s2_stitch::seal_of`]), so records of other rows or options are refused.
 ///
 /// If the records are true for the recording, packets, report, notes, exit and the frames that the sinks take are those of
