@@ -26,6 +26,8 @@ mod mode_tests;
 #[cfg(test)]
 mod progress_tests;
 #[cfg(test)]
+mod record_tests;
+#[cfg(test)]
 mod split_memory_tests;
 #[cfg(test)]
 mod values;

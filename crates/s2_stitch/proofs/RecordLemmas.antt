@@ -29,14 +29,14 @@ number32_is = record { long = λ n h. refl; passes = λ n h. refl; back = λ n h
 number64_is : IsField (number w64) (λ n. n < 2 ^ 64)
 number64_is = record { long = λ n h. refl; passes = λ n h. refl; back = λ n h. from_be_bytes-to_be_bytes_8 n h }
 
-abbrev Fits : ℕ × (ℕ × ℕ) → Type 0
-Fits x = (x.0 < 2 ^ 64) × ((x.1.0 < 2 ^ 32) × (x.1.1 < 2 ^ 32))
+abbrev Fits : ℕ × (ℕ × (ℕ × ℕ)) → Type 0
+Fits x = (x.0 < 2 ^ 64) × ((x.1.0 < 2 ^ 64) × ((x.1.1.0 < 2 ^ 32) × (x.1.1.1 < 2 ^ 32)))
 
 front_is : IsField front Fits
-front_is = both_are (number w64) (both (number w32) (number w32)) _ _ number64_is (both_are (number w32) (number w32) _ _ number32_is number32_is)
+front_is = both_are (number w64) (both (number w64) (both (number w32) (number w32))) _ _ number64_is (both_are (number w64) (both (number w32) (number w32)) _ _ number64_is (both_are (number w32) (number w32) _ _ number32_is number32_is))
 
--- what begins with sixteen bytes
-begins : (n : ℕ) (head : List ℕ) (byte : ℕ) (rest : List ℕ) → length head ≡ front.size → record_at n (head ++ (byte ∷ rest)) ≡ body_at n (front.value head).0 (front.value head).1.0 (front.value head).1.1 (verdict_of byte) rest
+-- what begins with twenty-four bytes
+begins : (n : ℕ) (head : List ℕ) (byte : ℕ) (rest : List ℕ) → length head ≡ front.size → record_at n (head ++ (byte ∷ rest)) ≡ body_at n (front.value head).0 (front.value head).1.0 (front.value head).1.1.0 (front.value head).1.1.1 (verdict_of byte) rest
 unfolding record_at
 begins n head byte rest long =
     let enough : ltb (length (head ++ (byte ∷ rest))) front.size ≡ false = le-ltb _ _ (omega (arith, long, length-append head (byte ∷ rest))) in
@@ -45,44 +45,44 @@ begins n head byte rest long =
     rw (enough, a, b) refl
 
 -- no record: too few bytes for a front, another byte than a verdict's, a certificate that is too long, or too few bytes after the front
-pub too_short : (n : ℕ) (bytes : List ℕ) → length bytes < 17 → record_at n bytes ≡ None
+pub too_short : (n : ℕ) (bytes : List ℕ) → length bytes < 25 → record_at n bytes ≡ None
 unfolding record_at
 too_short n bytes few = elim (cases_Bool (ltb (length bytes) front.size)) [
   | inl less ↦ rw less refl
   | inr enough ↦ (
-      let full : length bytes ≡ 16 = omega (arith, few, ltb-false _ _ enough) in
-      let none : drop front.size bytes ≡ [] = drop_all 16 bytes (omega (arith, full)) in
+      let full : length bytes ≡ 24 = omega (arith, few, ltb-false _ _ enough) in
+      let none : drop front.size bytes ≡ [] = drop_all 24 bytes (omega (arith, full)) in
       rw (enough, none) refl
       )
 ]
 
 module _ (n : ℕ) (head : List ℕ) (byte : ℕ) (rest : List ℕ) (long : length head ≡ front.size) where
   pub no_verdict : verdict_of byte ≡ None → record_at n (head ++ (byte ∷ rest)) ≡ None
-  no_verdict none = begins n head byte rest long ∙ ap (λ v. body_at n (front.value head).0 (front.value head).1.0 (front.value head).1.1 v rest) none
+  no_verdict none = begins n head byte rest long ∙ ap (λ v. body_at n (front.value head).0 (front.value head).1.0 (front.value head).1.1.0 (front.value head).1.1.1 v rest) none
 
-  long_body : (v : Option Verdict) → ltb max_certificate (front.value head).1.1 ≡ true → body_at n (front.value head).0 (front.value head).1.0 (front.value head).1.1 v rest ≡ None
+  long_body : (v : Option (Option Verdict)) → ltb max_certificate (front.value head).1.1.1 ≡ true → body_at n (front.value head).0 (front.value head).1.0 (front.value head).1.1.0 (front.value head).1.1.1 v rest ≡ None
   long_body None is = refl
   long_body (Some verdict) is = rw is refl
 
-  pub too_long : max_certificate < (front.value head).1.1 → record_at n (head ++ (byte ∷ rest)) ≡ None
+  pub too_long : max_certificate < (front.value head).1.1.1 → record_at n (head ++ (byte ∷ rest)) ≡ None
   too_long more = begins n head byte rest long ∙ long_body (verdict_of byte) (lt-ltb _ _ more)
 
-  short_body : (v : Option Verdict) (over : Bool) → ltb max_certificate (front.value head).1.1 ≡ over → ltb (length rest) ((bit_list n).size + (front.value head).1.1) ≡ true → body_at n (front.value head).0 (front.value head).1.0 (front.value head).1.1 v rest ≡ None
+  short_body : (v : Option (Option Verdict)) (over : Bool) → ltb max_certificate (front.value head).1.1.1 ≡ over → ltb (length rest) ((bit_list n).size + (front.value head).1.1.1) ≡ true → body_at n (front.value head).0 (front.value head).1.0 (front.value head).1.1.0 (front.value head).1.1.1 v rest ≡ None
   short_body None over is less = refl
   short_body (Some verdict) true is less = rw is refl
   short_body (Some verdict) false is less = rw (is, less) refl
 
-  pub no_body : length rest < (bit_list n).size + (front.value head).1.1 → record_at n (head ++ (byte ∷ rest)) ≡ None
+  pub no_body : length rest < (bit_list n).size + (front.value head).1.1.1 → record_at n (head ++ (byte ∷ rest)) ≡ None
   no_body less = begins n head byte rest long ∙ short_body (verdict_of byte) _ refl (lt-ltb _ _ less)
 
 -- ---- front, verdict and body
 
 -- the parts of a record, one after another, are read as these
-module _ (n : ℕ) (head word certificate rest : List ℕ) (byte : ℕ) (verdict : Verdict) (long : length head ≡ front.size) (is : verdict_of byte ≡ Some verdict) (word_long : length word ≡ (bit_list n).size) (size_is : (front.value head).1.1 ≡ length certificate) (few : length certificate ≤ max_certificate) where
+module _ (n : ℕ) (head word certificate rest : List ℕ) (byte : ℕ) (verdict : Option Verdict) (long : length head ≡ front.size) (is : verdict_of byte ≡ Some verdict) (word_long : length word ≡ (bit_list n).size) (size_is : (front.value head).1.1.1 ≡ length certificate) (few : length certificate ≤ max_certificate) where
   abbrev made : Record
-  made = record { at = (front.value head).0; rounds = (front.value head).1.0; verdict = verdict; bits = (bit_list n).value word; certificate = certificate }
+  made = record { at = (front.value head).0; seal = (front.value head).1.0; rounds = (front.value head).1.1.0; verdict = verdict; bits = (bit_list n).value word; certificate = certificate }
 
-  in_body : body_at n (front.value head).0 (front.value head).1.0 (front.value head).1.1 (Some verdict) (word ++ (certificate ++ rest)) ≡ Some (made, rest)
+  in_body : body_at n (front.value head).0 (front.value head).1.0 (front.value head).1.1.0 (front.value head).1.1.1 (Some verdict) (word ++ (certificate ++ rest)) ≡ Some (made, rest)
   in_body =
       let size = (bit_list n).size in
       let all = word ++ (certificate ++ rest) in
@@ -96,27 +96,28 @@ module _ (n : ℕ) (head word certificate rest : List ℕ) (byte : ℕ) (verdict
       rw (size_is, small, enough, a, b, c, e) refl
 
   pub parts_are : record_at n (head ++ (byte ∷ (word ++ (certificate ++ rest)))) ≡ Some (made, rest)
-  parts_are = begins n head byte (word ++ (certificate ++ rest)) long ∙ ap (λ v. body_at n (front.value head).0 (front.value head).1.0 (front.value head).1.1 v (word ++ (certificate ++ rest))) is ∙ in_body
+  parts_are = begins n head byte (word ++ (certificate ++ rest)) long ∙ ap (λ v. body_at n (front.value head).0 (front.value head).1.0 (front.value head).1.1.0 (front.value head).1.1.1 v (word ++ (certificate ++ rest))) is ∙ in_body
 
-verdict_again : (v : Verdict) → verdict_of (verdict_byte v) ≡ Some v
-verdict_again Sole = refl
-verdict_again MostLikely = refl
-verdict_again Parity = refl
-verdict_again Broken = refl
+verdict_again : (v : Option Verdict) → verdict_of (verdict_byte v) ≡ Some v
+verdict_again (Some Sole) = refl
+verdict_again (Some MostLikely) = refl
+verdict_again (Some Parity) = refl
+verdict_again (Some Broken) = refl
+verdict_again None = refl
 
 -- ---- a record
 
 pub read_again : ReadAgainLaw
 read_again n r rest is =
-    let fits : Fits (r.at, (r.rounds, length r.certificate)) = (is.at, (is.rounds, omega (arith, is.certificate))) in
-    let head = front.bytes (r.at, (r.rounds, length r.certificate)) in
+    let fits : Fits (r.at, (r.seal, (r.rounds, length r.certificate))) = (is.at, (is.seal, (is.rounds, omega (arith, is.certificate)))) in
+    let head = front.bytes (r.at, (r.seal, (r.rounds, length r.certificate))) in
     let word = bytes_of_bits r.bits in
-    let back : front.value head ≡ (r.at, (r.rounds, length r.certificate)) = front_is.back _ fits in
+    let back : front.value head ≡ (r.at, (r.seal, (r.rounds, length r.certificate))) = front_is.back _ fits in
     let again : (bit_list n).value word ≡ r.bits = (bit_list_is n).back r.bits is.bits in
-    let parts = parts_are n head word r.certificate rest (verdict_byte r.verdict) r.verdict (front_is.long _ fits) (verdict_again r.verdict) ((bit_list_is n).long r.bits is.bits) (ap (λ x. x.1.1) back) is.certificate in
+    let parts = parts_are n head word r.certificate rest (verdict_byte r.verdict) r.verdict (front_is.long _ fits) (verdict_again r.verdict) ((bit_list_is n).long r.bits is.bits) (ap (λ x. x.1.1.1) back) is.certificate in
     let one : record_bytes r ++ rest ≡ head ++ (verdict_byte r.verdict ∷ (word ++ (r.certificate ++ rest))) =
     append_assoc head (verdict_byte r.verdict ∷ (word ++ r.certificate)) rest ∙ ap (λ l. head ++ (verdict_byte r.verdict ∷ l)) (append_assoc word r.certificate rest) in
-    let two : made n head word r.certificate rest (verdict_byte r.verdict) r.verdict (front_is.long _ fits) (verdict_again r.verdict) ((bit_list_is n).long r.bits is.bits) (ap (λ x. x.1.1) back) is.certificate ≡ r = λ i. record { at = (back i).0; rounds = (back i).1.0; verdict = r.verdict; bits = again i; certificate = r.certificate } in
+    let two : made n head word r.certificate rest (verdict_byte r.verdict) r.verdict (front_is.long _ fits) (verdict_again r.verdict) ((bit_list_is n).long r.bits is.bits) (ap (λ x. x.1.1.1) back) is.certificate ≡ r = λ i. record { at = (back i).0; seal = (back i).1.0; rounds = (back i).1.1.0; verdict = r.verdict; bits = again i; certificate = r.certificate } in
     ap (record_at n) one ∙ parts ∙ ap (λ x. Some (x, rest)) two
 
 -- ---- what is read
@@ -132,7 +133,7 @@ word_is n bytes bits long at =
     ))
 
 -- too few bytes are left for a front
-pub cut_front : (old new : Option (List ℕ)) (bytes : List ℕ) → Consumes old new bytes → IsAtEnd new → length bytes < 17 → IfSome old (λ xs. (n : ℕ) → record_at n xs ≡ None)
+pub cut_front : (old new : Option (List ℕ)) (bytes : List ℕ) → Consumes old new bytes → IsAtEnd new → length bytes < 25 → IfSome old (λ xs. (n : ℕ) → record_at n xs ≡ None)
 cut_front None new bytes read end few = tt
 cut_front (Some xs) None bytes read end few = absurd read
 cut_front (Some xs) (Some ys) bytes read end few = λ n. too_short n xs (omega (arith, few, ap length read, ap length end, length-append bytes ys))
@@ -143,19 +144,19 @@ no_front None new head byte read none = tt
 no_front (Some xs) None head byte read none = absurd read
 no_front (Some xs) (Some ys) head byte read none = λ n. ap (record_at n) (read ∙ append_assoc head (byte ∷ []) ys) ∙ none n ys
 
--- seventeen bytes
-pub seventeen : (bytes : List ℕ) → length bytes ≡ 17 → bytes ≡ take 16 bytes ++ (get_or bytes 16 0 ∷ [])
-seventeen bytes long =
-    let one = drop_more bytes 16 0 (omega (arith, long)) in
-    let none = drop_all 17 bytes (omega (arith, long)) in
-    sym (take-append-drop 16 bytes) ∙ ap (λ l. take 16 bytes ++ l) (one ∙ ap (λ l. get_or bytes 16 0 ∷ l) none)
+-- the bytes of a front, and that of the verdict
+pub front_bytes : (bytes : List ℕ) → length bytes ≡ 25 → bytes ≡ take 24 bytes ++ (get_or bytes 24 0 ∷ [])
+front_bytes bytes long =
+    let one = drop_more bytes 24 0 (omega (arith, long)) in
+    let none = drop_all 25 bytes (omega (arith, long)) in
+    sym (take-append-drop 24 bytes) ∙ ap (λ l. take 24 bytes ++ l) (one ∙ ap (λ l. get_or bytes 24 0 ∷ l) none)
 
 module _ (n : ℕ) (head : List ℕ) (byte : ℕ) (f : Front) (is : IsFront head byte f) where
   abbrev size : ℕ
   size = (bit_list n).size
 
-  size_is : (front.value head).1.1 ≡ f.size
-  size_is = ap (λ x. x.1.1) is.numbers
+  size_is : (front.value head).1.1.1 ≡ f.size
+  size_is = ap (λ x. x.1.1.1) is.numbers
 
   -- the decided bits are cut
   pub cut_word : (old mid : Option (List ℕ)) → Consumes old mid (head ++ (byte ∷ [])) → IfSome mid (λ xs. length xs < size) → IfSome old (λ xs. record_at n xs ≡ None)
@@ -173,25 +174,28 @@ module _ (n : ℕ) (head : List ℕ) (byte : ℕ) (f : Front) (is : IsFront head
 
   -- all of the record was read
   pub whole : (old mid next new : Option (List ℕ)) (word certificate : List ℕ) (bits : List Bool) → length word ≡ size → length certificate ≡ f.size → bits ≡ (bit_list n).value word
-      → Consumes old mid (head ++ (byte ∷ [])) → Consumes mid next word → Consumes next new certificate → ReadsAs n old new (record { at = f.at; rounds = f.rounds; verdict = f.verdict; bits = bits; certificate = certificate })
+      → Consumes old mid (head ++ (byte ∷ [])) → Consumes mid next word → Consumes next new certificate → ReadsAs n old new (record { at = f.at; seal = f.seal; rounds = f.rounds; verdict = f.verdict; bits = bits; certificate = certificate })
   whole None mid next new word certificate bits long size_of bits_are read more last = tt
   whole (Some xs) None next new word certificate bits long size_of bits_are read more last = absurd read
   whole (Some xs) (Some ys) None new word certificate bits long size_of bits_are read more last = absurd more
   whole (Some xs) (Some ys) (Some zs) None word certificate bits long size_of bits_are read more last = absurd last
   whole (Some xs) (Some ys) (Some zs) (Some rest) word certificate bits long size_of bits_are read more last =
       let few : length certificate ≤ max_certificate = omega (arith, size_of, is.few) in
-      let same : (front.value head).1.1 ≡ length certificate = size_is ∙ sym size_of in
+      let same : (front.value head).1.1.1 ≡ length certificate = size_is ∙ sym size_of in
       let all : xs ≡ head ++ (byte ∷ (word ++ (certificate ++ rest))) = read ∙ append_assoc head (byte ∷ []) ys ∙ ap (λ l. head ++ (byte ∷ l)) (more ∙ ap (λ l. word ++ l) last) in
-      let made_is : made n head word certificate rest byte f.verdict is.long is.verdict long same few ≡ record { at = f.at; rounds = f.rounds; verdict = f.verdict; bits = bits; certificate = certificate } =
-      λ i. record { at = (is.numbers i).0; rounds = (is.numbers i).1.0; verdict = f.verdict; bits = sym bits_are i; certificate = certificate } in
+      let made_is : made n head word certificate rest byte f.verdict is.long is.verdict long same few ≡ record { at = f.at; seal = f.seal; rounds = f.rounds; verdict = f.verdict; bits = bits; certificate = certificate } =
+      λ i. record { at = (is.numbers i).0; seal = (is.numbers i).1.0; rounds = (is.numbers i).1.1.0; verdict = f.verdict; bits = sym bits_are i; certificate = certificate } in
       ap (record_at n) all ∙ parts_are n head word certificate rest byte f.verdict is.long is.verdict long same few ∙ ap (λ x. Some (x, rest)) made_is
 
 -- ---- what is written
 
--- four parts, one after another
-pub put_four : (start one two three four a b c d : List ℕ) → one ≡ start ++ a → two ≡ one ++ b → three ≡ two ++ c → four ≡ three ++ d → four ≡ start ++ ((a ++ (b ++ c)) ++ d)
-put_four start one two three four a b c d e1 e2 e3 e4 =
-    e4 ∙ ap (λ l. l ++ d) (e3 ∙ ap (λ l. l ++ c) (e2 ∙ ap (λ l. l ++ b) e1 ∙ append_assoc start a b) ∙ append_assoc start (a ++ b) c ∙ ap (λ l. start ++ l) (append_assoc a b c)) ∙ append_assoc start (a ++ (b ++ c)) d
+-- five parts, one after another
+pub put_five : (start one two three four five a b c d e : List ℕ) → one ≡ start ++ a → two ≡ one ++ b → three ≡ two ++ c → four ≡ three ++ d → five ≡ four ++ e → five ≡ start ++ ((a ++ (b ++ (c ++ d))) ++ e)
+put_five start one two three four five a b c d e e1 e2 e3 e4 e5 =
+    let second : two ≡ start ++ (a ++ b) = e2 ∙ ap (λ l. l ++ b) e1 ∙ append_assoc start a b in
+    let fourth : four ≡ start ++ (a ++ (b ++ (c ++ d))) =
+    e4 ∙ ap (λ l. l ++ d) (e3 ∙ ap (λ l. l ++ c) second) ∙ append_assoc (start ++ (a ++ b)) c d ∙ append_assoc start (a ++ b) (c ++ d) ∙ ap (λ l. start ++ l) (append_assoc a b (c ++ d)) in
+    e5 ∙ ap (λ l. l ++ e) fourth ∙ append_assoc start (a ++ (b ++ (c ++ d))) e
 
 -- one more byte of some
 pub put_byte : (start old new xs : List ℕ) (k byte : ℕ) → k < length xs → old ≡ start ++ take k xs → new ≡ old ++ (byte ∷ []) → byte ≡ get_or xs k 0 → new ≡ start ++ take (k + 1) xs

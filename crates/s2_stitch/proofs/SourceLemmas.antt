@@ -1,7 +1,7 @@
 -- What a source of recorded frames reads.
-use Rattle.std.proofs.Common.{◌≡◌, ◌≢◌, ℕ, ◌+◌, ◌-◌, ◌*◌, ◌<◌, ◌≤◌, max, true, false, List, [], ◌∷◌, ◌++◌, length, take, drop, Option, Some, None, IfSome, IfOk, Result, Ok, Err, inl, inr, refl, sym, ap, subst, ◌∙◌, arith, append_assoc, length-append}
+use Rattle.std.proofs.Common.{◌≡◌, ◌≢◌, ℕ, ◌+◌, ◌-◌, ◌*◌, ◌<◌, ◌≤◌, max, Bool, true, false, List, [], ◌∷◌, ◌++◌, length, take, drop, Option, Some, None, IfSome, IfOk, Result, Ok, Err, inl, inr, refl, sym, ap, subst, ◌∙◌, arith, append_assoc, length-append}
 use Rattle.std.proofs.KnownBytes.{Consumes-nil, Consumes-trans}
-use Rattle.std.proofs.lemmas.List.{drop-drop, drop_at, take_at}
+use Rattle.std.proofs.lemmas.List.{drop-drop, drop_at, nil_from_length, take_at}
 use Rattle.std.specs.Io.KnownBytes.{Consumes, IsAtEnd}
 use Rattle.s2_mode.proofs.SymbolLists.{length-symbols, symbols-append}
 use Rattle.s2_mode.specs.Mode.{n_of, symbols_in}
@@ -9,11 +9,11 @@ use Rattle.s2_mode.specs.Symbols.{YieldsSymbol, symbols_of}
 use Rattle.s2_mode.specs.declared.symbols.Symbol.{Symbol}
 use Rattle.s2_rows.specs.Rows.{Rows}
 use Rattle.s2_receive.specs.Receiving.{Decision}
-use Rattle.s2_stitch.specs.Copies.{CopiesFrame, CountsCopy, ReadsSymbols, SkipsSymbols}
+use Rattle.s2_stitch.specs.Copies.{CopiesFrame, CopiesTo, CountsCopy, ReadsSymbols, SkipsSymbols}
 use Rattle.s2_stitch.specs.Frames.{IsFrameOf, IsTrueRecord, RecordedFrame, Terms, decision_by, frame_at}
 use Rattle.s2_stitch.specs.Reading.{CountsRead, ReadsRecord}
 use Rattle.s2_stitch.specs.Records.{AreRecords, Record}
-use Rattle.s2_stitch.specs.Sources.{ArePassed, AreRead, AreTrueIn, AreTrueLeft, CountsSource, Gives, GivesBy, IsCopyFrom, IsOfUse, ReadsNext, ReadsResult, RecordSource, fault_in}
+use Rattle.s2_stitch.specs.Sources.{ArePassed, AreRead, AreTrueIn, AreTrueLeft, CountsSource, Gives, GivesBy, IsCopyFrom, IsOfUse, IsOpen, ReadsNext, ReadsResult, RecordSource, fault_in}
 use Rattle.s2_stitch.specs.Usable.{CopiesUsable, IsUsable, ReadsUsable}
 use Rattle.s2_stitch.specs.declared.fault.SourceFault.{SourceFault}
 use Rattle.s2_stitch.specs.declared.fault.SourceFault.TheVariants as faults
@@ -80,45 +80,54 @@ skips_more k a b c symbol (bytes, long, read) (four, four_long, is, more) = (byt
 pub skips_end : (k n : ℕ) (a b c : Option (List ℕ)) → SkipsSymbols k a b true → YieldsSymbol b c None → SkipsSymbols n a c false
 skips_end k n a b c (bytes, long, read) (few, short, more, end) = (bytes ++ few, Consumes-trans a b c bytes few read more, end)
 
-module _ (recording : List Symbol) (size at place : ℕ) where
-  -- a frame is copied
-  copied : (xs ys zs bytes more : List ℕ) → place ≤ at → 0 < size → xs ≡ bytes ++ ys → ys ≡ more ++ zs → length bytes ≡ 4 * (at - place) → length more ≡ 4 * size → (xs ≢ [] → drop place recording ≡ symbols_of xs)
-      → (drop (at + size) recording ≡ symbols_of zs) × (symbols_of more ≡ take size (drop at recording))
-  copied xs ys zs bytes more after some first next_is long more_long from =
-      let all : length xs ≡ length bytes + (length more + length zs) = ap length first ∙ length-append bytes ys ∙ ap (λ n. length bytes + n) (ap length next_is ∙ length-append more zs) in
-      let there = from (λ none. absurd (omega (arith, ap length none, all, more_long, some))) in
-      let skipped : symbols_of xs ≡ symbols_of bytes ++ symbols_of ys = ap symbols_of first ∙ symbols-append (at - place) bytes ys long in
-      let own : symbols_of ys ≡ symbols_of more ++ symbols_of zs = ap symbols_of next_is ∙ symbols-append size more zs more_long in
-      let count : length (symbols_of bytes) ≡ at - place = length-symbols (at - place) bytes long in
-      let own_count : length (symbols_of more) ≡ size = length-symbols size more more_long in
-      let place_is : place + (at - place) ≡ at = omega (arith, after) in
-      let here : drop at recording ≡ symbols_of more ++ symbols_of zs =
-      ap (λ k. drop k recording) (sym place_is) ∙ sym (drop-drop (at - place) place recording) ∙ ap (drop (at - place)) (there ∙ skipped) ∙ drop_at (symbols_of bytes) (symbols_of ys) (at - place) count ∙ own in (
-        sym (drop-drop size at recording) ∙ ap (drop size) here ∙ drop_at (symbols_of more) (symbols_of zs) size own_count,
-        sym (ap (take size) here ∙ take_at (symbols_of more) (symbols_of zs) size own_count),
-      )
-
--- all of a frame was read
-pub copies_whole : (size at place : ℕ) (a b c : Option (List ℕ)) (symbols : List Symbol) → place ≤ at → 0 < size → SkipsSymbols (at - place) a b true → ReadsSymbols size b c (Some symbols) → CopiesFrame size at place (at + size) a c (Some symbols)
-copies_whole size at place None b c symbols after some skips reads = λ recording from. absurd from
-copies_whole size at place (Some xs) None c symbols after some (bytes, long, read) reads = absurd read
-copies_whole size at place (Some xs) (Some ys) None symbols after some skips (more, more_long, is, read) = absurd read
-copies_whole size at place (Some xs) (Some ys) (Some zs) symbols after some (bytes, long, first) (more, more_long, is, next_is) = λ recording from. (
-    let (left, own) = copied recording size at place xs ys zs bytes more after some first next_is long more_long from in (λ other. left, is ∙ own)
-    )
-
 -- a copy at its end is one from any position on
 ends : (recording : List Symbol) (place : ℕ) (a c : Option (List ℕ)) (bytes : List ℕ) → Consumes a c bytes → IsAtEnd c → IsCopyFrom recording place a → IsCopyFrom recording place c
 ends recording place None c bytes read end from = absurd from
 ends recording place (Some xs) None bytes read end from = absurd read
 ends recording place (Some xs) (Some zs) bytes read end from = λ other. absurd (other end)
 
--- too few symbols are left
-pub copies_short : (size at place k : ℕ) (a c : Option (List ℕ)) → SkipsSymbols k a c false → CopiesFrame size at place place a c None
-copies_short size at place k a c (bytes, read, end) = (λ recording from. ends recording place a c bytes read end from, end)
+-- symbols were skipped
+pub copies_to : (at place : ℕ) (a b : Option (List ℕ)) → place ≤ at → SkipsSymbols (at - place) a b true → CopiesTo at place at a b true
+copies_to at place a b after skips = (λ recording from. passed recording a b skips from, refl)
+  where
+    passed : (recording : List Symbol) (a b : Option (List ℕ)) → SkipsSymbols (at - place) a b true → IsCopyFrom recording place a → IsCopyFrom recording at b
+    passed recording None b skips from = absurd from
+    passed recording (Some xs) None (bytes, long, read) from = absurd read
+    passed recording (Some xs) (Some ys) (bytes, long, read) from = λ some.
+        let there = from (λ none. some (nil_from_length ys (omega (arith, ap length none, ap length read, length-append bytes ys)))) in
+        let place_is : place + (at - place) ≡ at = omega (arith, after) in
+        let count : length (symbols_of bytes) ≡ at - place = length-symbols (at - place) bytes long in
+        ap (λ k. drop k recording) (sym place_is) ∙ sym (drop-drop (at - place) place recording) ∙ ap (drop (at - place)) (there ∙ ap symbols_of read ∙ symbols-append (at - place) bytes ys long) ∙ drop_at (symbols_of bytes) (symbols_of ys) (at - place) count
 
-pub copies_cut : (size at place k : ℕ) (a b c : Option (List ℕ)) → SkipsSymbols k a b true → ReadsSymbols size b c None → CopiesFrame size at place place a c None
-copies_cut size at place k a b c (bytes, long, first) (more, read, end) = (λ recording from. ends recording place a c (bytes ++ more) (Consumes-trans a b c bytes more first read) end from, end)
+-- or too few were left
+pub copies_to_end : (at place k : ℕ) (a c : Option (List ℕ)) → SkipsSymbols k a c false → CopiesTo at place place a c false
+copies_to_end at place k a c (bytes, read, end) = (λ recording from. ends recording place a c bytes read end from, end)
+
+-- a frame is copied
+copied : (recording : List Symbol) (size at : ℕ) (ys zs more : List ℕ) → 0 < size → ys ≡ more ++ zs → length more ≡ 4 * size → (ys ≢ [] → drop at recording ≡ symbols_of ys)
+    → (drop (at + size) recording ≡ symbols_of zs) × (symbols_of more ≡ take size (drop at recording))
+copied recording size at ys zs more some next_is more_long from =
+    let there = from (λ none. absurd (omega (arith, ap length none, ap length next_is, length-append more zs, more_long, some))) in
+    let count : length (symbols_of more) ≡ size = length-symbols size more more_long in
+    let here : drop at recording ≡ symbols_of more ++ symbols_of zs = there ∙ ap symbols_of next_is ∙ symbols-append size more zs more_long in (
+      sym (drop-drop size at recording) ∙ ap (drop size) here ∙ drop_at (symbols_of more) (symbols_of zs) size count,
+      sym (ap (take size) here ∙ take_at (symbols_of more) (symbols_of zs) size count),
+    )
+
+-- all of a frame was read
+pub copies_whole : (size at place : ℕ) (a b c : Option (List ℕ)) (symbols : List Symbol) → 0 < size → CopiesTo at place at a b true → ReadsSymbols size b c (Some symbols) → CopiesFrame size at place (at + size) a c (Some symbols)
+copies_whole size at place a b c symbols some (copies, there) reads = λ recording from. read recording b c reads (copies recording from)
+  where
+    read : (recording : List Symbol) (b c : Option (List ℕ)) → ReadsSymbols size b c (Some symbols) → IsCopyFrom recording at b → IsCopyFrom recording (at + size) c × (symbols ≡ take size (drop at recording))
+    read recording None c reads from = absurd from
+    read recording (Some ys) None (more, more_long, is, next_is) from = absurd next_is
+    read recording (Some ys) (Some zs) (more, more_long, is, next_is) from = (
+        let (left, own) = copied recording size at ys zs more some next_is more_long from in (λ other. left, is ∙ own)
+        )
+
+-- too few symbols are left
+pub copies_cut : (size at place : ℕ) (a b c : Option (List ℕ)) → CopiesTo at place at a b true → ReadsSymbols size b c None → CopiesFrame size at place at a c None
+copies_cut size at place a b c (copies, there) (more, read, end) = (λ recording from. ends recording at b c more read end (copies recording from), end)
 
 -- ---- the frame of a record
 
@@ -135,27 +144,35 @@ copied_frame t r size place place_new a c symbols f size_is copies own is = (
 
 -- no frame
 pub copied_none : (t : Terms) (r : Record) (size place place_new : ℕ) (a c : Option (List ℕ)) → CopiesFrame size r.at place place_new a c None → CopiesUsable t r place place_new a c None
-copied_none t r size place place_new a c (copies, end) = (λ recording from. (copies recording from, tt), end)
+copied_none t r size place place_new a c (copies, end) = (λ recording from. (copies recording from, tt), inl end)
+
+-- the copy is read up to an end record
+pub copied_end : (t : Terms) (r : Record) (place place_new : ℕ) (a c : Option (List ℕ)) (is_there : Bool) → r.verdict ≡ None → CopiesTo (r.at + 1) place place_new a c is_there → CopiesUsable t r place place_new a c None
+copied_end t r place place_new a c true none (copies, there) = (λ recording from. (copies recording from, tt), inr (none, there))
+copied_end t r place place_new a c false none (copies, end) = (λ recording from. (copies recording from, tt), inl end)
 
 -- ---- the next frame
 
 -- a record was read, and then its frame
 pub reads_frame : (t : Terms) (at place place_new : ℕ) (a b c d : Option (List ℕ)) (u : Usable) (result : Result (Option RecordedFrame) SourceFault) → ReadsUsable t.rows (n_of t.mode) (max at place) a b (Some u) → max at place ≤ u.record.at
     → IfOk result (CopiesUsable t u.record place place_new c d) → ReadsResult t at place place_new a b c d result
-reads_frame t at place place_new a b c d u (Ok None) (passed, are, none) from (copies, end) = record { reads = (passed ++ u.record ∷ [], are); copies = copies; from = tt; none = λ e. inr end }
+reads_frame t at place place_new a b c d u (Ok None) (passed, are, none) from (copies, inl end) = record { reads = (passed ++ u.record ∷ [], are); copies = copies; from = tt; none = λ e. inl (inr end) }
+reads_frame t at place place_new a b c d u (Ok None) (passed, are, none) from (copies, inr (no_verdict, there)) =
+    record { reads = (passed ++ u.record ∷ [], are); copies = copies; from = tt; none = λ e. inr (passed, u.record, are, no_verdict, there) }
 reads_frame t at place place_new a b c d u (Ok (Some f)) (passed, are, none) from (copies, is) =
     record { reads = (passed, u.record, are, none, is); copies = copies; from = subst (λ k. max at place ≤ k) (sym is.place) from; none = λ e. cc }
 reads_frame t at place place_new a b c d u (Err fault) reads from copies = tt
 
 -- there is no record left
 pub reads_none : (t : Terms) (at place : ℕ) (a b c : Option (List ℕ)) → ReadsUsable t.rows (n_of t.mode) (max at place) a b None → ReadsResult t at place place a b c c (Ok None)
-reads_none t at place a b c (passed, are, end) = record { reads = (passed, are); copies = λ recording from. (from, tt); from = tt; none = λ e. inl end }
+reads_none t at place a b c (passed, are, end) = record { reads = (passed, are); copies = λ recording from. (from, tt); from = tt; none = λ e. inl (inl end) }
 
 -- what was counted
 pub counts_frame : (q q' c c' : ℕ) (result : Result (Option RecordedFrame) SourceFault) → q' ≡ q → CountsCopy c c' result → CountsSource (fault_in result) q q' c c'
 counts_frame q q' c c' (Ok frame) same counts = (same, counts)
 counts_frame q q' c c' (Err (faults.Records fault)) same counts = absurd counts
 counts_frame q q' c c' (Err faults.Recording) same counts = (same, counts)
+counts_frame q q' c c' (Err faults.OtherRecording) same counts = (same, counts)
 counts_frame q q' c c' (Err faults.NoMemory) same counts = (same, counts)
 
 pub counts_record : (q q' c : ℕ) (fault : RecordFault) → CountsRead {A = Option Usable} q q' (Err fault) → CountsSource (fault_in {A = Option RecordedFrame} (Err (faults.Records fault))) q q' c c
@@ -167,29 +184,34 @@ counts_record q q' c record_faults.NoMemory counts = (counts, refl)
 
 module _ (at : ℕ) (old new : RecordSource) where
   -- it gives what was read
-  pub gives_frame : (frame : Option RecordedFrame) → new.terms ≡ old.terms → old.fault ≡ None → new.fault ≡ None
+  pub gives_frame : (frame : Option RecordedFrame) → new.terms ≡ old.terms → IsOpen at old → new.fault ≡ None
       → ReadsResult old.terms at old.place new.place old.records new.records old.copy new.copy (Ok frame)
       → CountsSource None old.record_reads new.record_reads old.copy_reads new.copy_reads → Gives at old new frame
-  gives_frame frame terms whole still reads counts = record {
+  gives_frame frame terms is_open still reads counts = record {
     terms = terms;
     gives = λ e. subst (λ f. GivesBy f at old new frame) (sym still) reads;
     counts = λ e. subst (λ f. CountsSource f old.record_reads new.record_reads old.copy_reads new.copy_reads) (sym still) counts;
-    stopped = λ other. absurd (other whole);
+    closed = λ other. absurd (other is_open);
   }
 
   -- or it stops with a fault
-  pub gives_fault : (fault : SourceFault) → new.terms ≡ old.terms → old.fault ≡ None → new.fault ≡ Some fault
+  pub gives_fault : (fault : SourceFault) → new.terms ≡ old.terms → IsOpen at old → new.fault ≡ Some fault
       → CountsSource (Some fault) old.record_reads new.record_reads old.copy_reads new.copy_reads → Gives at old new None
-  gives_fault fault terms whole is counts = record {
+  gives_fault fault terms is_open is counts = record {
     terms = terms;
     gives = λ e. subst (λ f. GivesBy f at old new None) (sym is) refl;
     counts = λ e. subst (λ f. CountsSource f old.record_reads new.record_reads old.copy_reads new.copy_reads) (sym is) counts;
-    stopped = λ other. absurd (other whole);
+    closed = λ other. absurd (other is_open);
   }
 
--- after a fault it stays as it is
-pub gives_nothing : (at : ℕ) (s : RecordSource) (fault : SourceFault) → s.fault ≡ Some fault → Gives at s s None
-gives_nothing at s fault is = record { terms = refl; gives = λ none. cc; counts = λ none. cc; stopped = λ other. (refl, refl) }
+-- if it is closed it stays as it is
+pub gives_nothing : (at : ℕ) (s : RecordSource) → ¬ IsOpen at s → Gives at s s None
+gives_nothing at s is_closed = record {
+  terms = refl;
+  gives = λ is_open. absurd (is_closed is_open);
+  counts = λ whole. subst (λ f. CountsSource f s.record_reads s.record_reads s.copy_reads s.copy_reads) (sym whole) (refl, refl);
+  closed = λ other. (refl, refl);
+}
 
 -- ---- true records
 
@@ -211,7 +233,9 @@ module _ (t : Terms) (decide : List Symbol → Decision) (recording : List Symbo
   true_frame : (r : Record) (f : RecordedFrame) → IsFrameOf t r f → f.symbols ≡ frame_at t recording f.at → IsTrueRecord t decide recording r → f.decision ≡ decide f.symbols
   true_frame r f is own so =
       let there : f.symbols ≡ frame_at t recording r.at = own ∙ ap (frame_at t recording) is.place in
-      is.decided ∙ ap (λ s. decision_by t s r) there ∙ so ∙ ap decide (sym there)
+      let (verdict, verdict_is, decided) = is.decided in
+      let true_is = subst (λ v. IfSome v (λ verdict. decision_by t (frame_at t recording r.at) verdict r ≡ decide (frame_at t recording r.at))) verdict_is so in
+      decided ∙ ap (λ s. decision_by t s verdict r) there ∙ true_is ∙ ap decide (sym there)
 
 -- after the next frame was read, all is still true
 module _ (decide : List Symbol → Decision) (at : ℕ) (old new : RecordSource) (terms : new.terms ≡ old.terms) where

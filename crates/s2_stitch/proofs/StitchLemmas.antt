@@ -1,5 +1,6 @@
 -- A run by the decisions of records, step by step.
-use Rattle.std.proofs.Common.{◌≡◌, ◌≢◌, ℕ, ◌+◌, ◌<◌, ◌≤◌, ◌⊎◌, Bool, true, false, List, [], Option, Some, None, Result, Ok, Err, refl, sym, ap, subst, ◌∙◌, arith}
+use Rattle.std.proofs.Common.{◌≡◌, ◌≢◌, ℕ, ◌+◌, ◌<◌, ◌≤◌, ◌⊎◌, Bool, true, false, List, [], Option, Some, None, IfSome, Result, Ok, Err, inl, inr, refl, sym, ap, subst, ◌∙◌, arith}
+use Rattle.std.proofs.lemmas.Bool.{cases_lt}
 use Rattle.s2_mode.specs.Mode.{symbols_in}
 use Rattle.s2_mode.specs.Streams.{NoneFailed, OneFailed, Streams}
 use Rattle.s2_mode.specs.declared.stream_fault.StreamFault.{StreamFault}
@@ -19,7 +20,7 @@ use Rattle.s2_receive.specs.declared.report.Phase.TheVariants as phases
 use Rattle.s2_receive.specs.declared.report.Received.{Received}
 use Rattle.s2_receive.proofs.RunLemmas.{Came, finishes, goes, processed_none}
 use Rattle.s2_stitch.specs.Recalling.{Recalling, is_ahead, recalls}
-use Rattle.s2_stitch.specs.Sources.{AreTrueLeft, CountsSource, Gives, GivesBy, RecordSource}
+use Rattle.s2_stitch.specs.Sources.{AreTrueLeft, CountsSource, Gives, GivesBy, IsOpen, RecordSource}
 use Rattle.s2_stitch.specs.Stitching.{AreTrue, HasMet, HoldsNext, OnlyFaultsOf, Supplies, own_rule, own_rules, recall_rule}
 use Rattle.s2_stitch.specs.declared.fault.SourceFault.{SourceFault}
 use Rattle.s2_stitch.specs.declared.fault.StitchFault.TheVariants as stitch_faults
@@ -33,11 +34,19 @@ module _ {D : Type 0} (at : ℕ) (old new : Recalling D) (s s' : RecordSource) (
   pub true_supplied : (decide : D → List Symbol → Decision) → s'.fault ≡ None → AreTrue decide old s → AreTrue decide new s'
   true_supplied decide still all = by (is_ahead at old.held) supplies.held
     where
+      -- what the source gave is true, and what it has left
+      given : Gives at s s' new.held → (at < s.place) ⊎ (s.place ≤ at) → AreTrueLeft (decide old.decider) s' × IfSome new.held (λ f. f.decision ≡ decide old.decider f.symbols)
+      given gives (inr before) = true_next (decide old.decider) at s s' gives.terms new.held (subst (λ f. GivesBy f at s s' new.held) still (gives.gives (whole, before))) all.left
+      given gives (inl after) =
+          let (same, nothing) = gives.closed (λ is_open. (let before = is_open.1 in omega (arith, after, before))) in (
+            subst (λ x. AreTrueLeft (decide old.decider) x) (sym same) all.left,
+            subst (λ held. IfSome held (λ f. f.decision ≡ decide old.decider f.symbols)) (sym nothing) tt,
+          )
+
       by : (ahead : Bool) → HoldsNext ahead at old new s s' → AreTrue decide new s'
       by true (same, same_source) = subst (λ r. AreTrue decide r s') (sym same) (subst (λ x. AreTrue decide old x) (sym same_source) all)
       by false (none, gives) =
-          let reads = subst (λ f. GivesBy f at s s' new.held) still (gives.gives whole) in
-          let (left, held) = true_next (decide old.decider) at s s' gives.terms new.held reads all.left in
+          let (left, held) = given gives (cases_lt at s.place) in
           let own : decide new.decider ≡ decide old.decider = ap decide supplies.decider in
           record {
             held = subst (λ r. recalls r new.held ≡ r) (sym own) (rule_is (decide old.decider) new.held held);

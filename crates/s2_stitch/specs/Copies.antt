@@ -1,5 +1,5 @@
 -- The symbols of a frame, from a copy of the recording (own).
-use Rattle.std.specs.Prelude.{◌≡◌, ℕ, ◌+◌, ◌*◌, Bool, true, false, if◌then◌else◌, List, length, take, drop, Option, Some, None, Result, Ok, Err}
+use Rattle.std.specs.Prelude.{◌≡◌, ℕ, ◌+◌, ◌*◌, Bool, true, false, List, length, take, drop, Option, Some, None, Result, Ok, Err}
 use Rattle.std.specs.Io.KnownBytes.{Consumes, IsAtEnd}
 use Rattle.s2_mode.specs.Symbols.{symbols_of}
 use Rattle.s2_mode.specs.declared.symbols.Symbol.{Symbol}
@@ -25,8 +25,8 @@ CopiesFrame size at place place_new old new None = ((recording : List Symbol) �
 
 -- the copy is read on up to this position, or to its end
 abbrev pub CopiesTo : (at place place_new : ℕ) → (old new : Option (List ℕ)) → Bool → Type 0
-CopiesTo at place place_new old new is_there =
-    ((recording : List Symbol) → IsCopyFrom recording place old → IsCopyFrom recording place_new new) × (if is_there then place_new ≡ at else IsAtEnd new)
+CopiesTo at place place_new old new true = ((recording : List Symbol) → IsCopyFrom recording place old → IsCopyFrom recording place_new new) × (place_new ≡ at)
+CopiesTo at place place_new old new false = ((recording : List Symbol) → IsCopyFrom recording place old → IsCopyFrom recording place_new new) × IsAtEnd new
 
 -- only a failed read of the copy is counted
 abbrev pub CountsCopy : {A : Type 0} → (old new : ℕ) → Result A SourceFault → Type 0

@@ -18,7 +18,7 @@ use Rattle.s2_check.specs.declared.verdict.Verdict.{Verdict}
 use Rattle.s2_stitch.specs.Records.{Record, seal_of}
 
 -- how frames are read: the rows of their code, their mode, their scrambling number, and the options. The seed is a number that
--- stands for all of these in the seals of records
+-- identifies all of these in the seals of records
 pub record Terms : Type 0 where
   pub rows : Rows
   pub seed : ℕ

@@ -55,7 +55,7 @@ abbrev pub sum_step : ℕ → ℕ → ℕ
 sum_step sum x = (sum * 6364136223846793005 + x) % 2 ^ 64
 
 -- The seal of a record: the sum of its frame's soft values, in sixteen bits each, and of all that it says. The sum begins at a
--- number that stands for the rows and the options
+-- number that identifies the rows and the options
 abbrev pub seal_of : (seed : ℕ) → (soft : List ℤ) → Record → ℕ
 seal_of seed soft r = fold sum_step (fold sum_step (fold sum_step seed (map (cast_unsigned w16) soft)) (r.at ∷ r.rounds ∷ verdict_byte r.verdict ∷ [])) (bytes_of_bits r.bits ++ r.certificate)
 

@@ -105,7 +105,7 @@ abbrev pub IsOpen : ℕ → RecordSource → Type 0
 IsOpen at s = (s.fault ≡ None) × (s.place ≤ at)
 
 -- What a source gives for the next frame, at this position or after it. After a fault it gives nothing and reads nothing. So it does
--- before the position up to which the copy was read, where no other frame comes
+-- before the position up to which the copy was read: no other frame comes there
 pub record Gives (at : ℕ) (old new : RecordSource) (frame : Option RecordedFrame) : Type 0 where
   pub terms : new.terms ≡ old.terms
   pub gives : IsOpen at old → GivesBy new.fault at old new frame

@@ -81,7 +81,7 @@ pub(crate) fn copy_frame<C: CountedRead>(
     ensures long { IfOk result (λ o. IfSome o (λ v. length v.items ≡ size)) }
     ensures counts { CountsCopy (C.count copy.old) (C.count copy.new) result }
 {
-    if !skip(copy, at - *place)? {
+    if !copy_to(copy, place, at)? {
         return Ok(None);
     }
     match read_symbols(alloc, copy, size)? {

@@ -7,7 +7,6 @@ ghost use Rattle.s2_mode.specs.Mode.{n_of, symbols_in};
 ghost use Rattle.s2_stitch.specs.Frames.{IsFrameOf, file_in, terms_by};
 ghost use Rattle.s2_stitch.specs.Records.{seal_of};
 
-use crate::fault::SourceFault;
 use crate::frame::RecordedFrame;
 use crate::next::Usable;
 use crate::record::Record;
@@ -16,26 +15,26 @@ use s2_check::Verdict;
 use s2_matrix::Matrix;
 use s2_message::FrameReader;
 use s2_mode::Symbol;
-use std::alloc::Global;
+use std::alloc::{AllocError, Global};
 
 /// Whether a record has the seal of a frame with these soft values.
-pub(crate) fn has_seal(seed: u64, soft: &[i16], record: &Record) -> bool
-    ensures { IsTrue result ↔ record.now.seal ≡ seal_of seed soft.now record.now }
+pub(crate) fn has_seal(seed: u64, soft: &[i16], own: &Record) -> bool
+    ensures { IsTrue result ↔ own.now.seal ≡ seal_of seed soft.now own.now }
 {
     let seal = seal_of(
         seed,
         soft,
-        record.at,
-        record.rounds,
-        record.verdict,
-        &record.word,
-        &record.certificate,
+        own.at,
+        own.rounds,
+        own.verdict,
+        &own.word,
+        &own.certificate,
     );
-    record.seal == seal
+    own.seal == seal
 }
 
 /// The frame of a record that has this verdict, with these symbols. Its soft values, its message and its data field are found by a
-/// reader of frames. `OtherRecording` if the record has another seal.
+/// reader of frames. `None` if the record has another seal.
 pub(crate) fn made_frame<'a>(
     alloc: Global,
     matrix: &'a Matrix,
@@ -44,27 +43,27 @@ pub(crate) fn made_frame<'a>(
     verdict: Verdict,
     usable: Usable,
     symbols: Vec<Symbol>,
-) -> Result<RecordedFrame<'a>, SourceFault>
+) -> Result<Option<RecordedFrame<'a>>, AllocError>
     requires verdict { usable.record.verdict ≡ Some verdict }
     requires bits { length usable.record.bits ≡ n_of reader.old.mode }
     requires certificate { usable.certificate ≡ file_in (file_of_bytes usable.record.certificate) }
     requires suits { IfSome usable.certificate (Suits matrix.now) }
     requires symbols { length symbols.items ≡ symbols_in reader.old.mode }
-    ensures makes { IfOk result (λ f. (f.symbols ≡ symbols.items) × IsFrameOf (terms_by matrix.now seed reader.old) usable.record f) }
+    ensures makes { IfOk result (λ o. IfSome o (λ f. (f.symbols ≡ symbols.items) × IsFrameOf (terms_by matrix.now seed reader.old) usable.record f)) }
     ensures same { IsSameReader reader.old reader.new }
 {
     let Usable {
         record,
         certificate,
     } = usable;
-    let mut soft = vec![in alloc; 0i16; record.word.len()].map_err(|_| SourceFault::NoMemory)?;
+    let mut soft = vec![in alloc; 0i16; record.word.len()]?;
     reader.find_soft(&symbols, &mut soft);
     if !has_seal(seed, &soft, &record) {
-        return Err(SourceFault::OtherRecording);
+        return Ok(None);
     }
     let decided = reader.read(&symbols, &soft, &record.word, verdict, record.rounds);
-    let message = Vec::from_slice(alloc, reader.message()).map_err(|_| SourceFault::NoMemory)?;
-    let field = Vec::from_slice(alloc, reader.field()).map_err(|_| SourceFault::NoMemory)?;
+    let message = Vec::from_slice(alloc, reader.message())?;
+    let field = Vec::from_slice(alloc, reader.field())?;
     let Record {
         at,
         seal: _,
@@ -73,7 +72,7 @@ pub(crate) fn made_frame<'a>(
         word,
         certificate: _,
     } = record;
-    Ok(RecordedFrame {
+    Ok(Some(RecordedFrame {
         matrix,
         at,
         symbols,
@@ -83,5 +82,5 @@ pub(crate) fn made_frame<'a>(
         message,
         decided,
         field,
-    })
+    }))
 }

@@ -49,7 +49,7 @@ fn with_bits(mut sum: u64, word: &Bits) -> u64
 }
 
 /// The seal of a record: a sum of the soft values of its frame and of all that the record says. So a record of another frame, and an
-/// altered record, has another seal. `seed` is a number that stands for the rows and the options of the receiver.
+/// altered record, has another seal. `seed` is a number that identifies the rows and the options of the receiver.
 pub fn seal_of(
     seed: u64,
     soft: &[i16],

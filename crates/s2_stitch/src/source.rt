@@ -47,8 +47,11 @@ fn frame_of<'a, C: CountedRead>(
     let at = usable.record.at;
     match copy_frame(alloc, copy, place, at, mode.symbols())? {
         Some(symbols) => {
-            let frame = made_frame(alloc, matrix, seed, reader, verdict, usable, symbols)?;
-            Ok(Some(frame))
+            match made_frame(alloc, matrix, seed, reader, verdict, usable, symbols) {
+                Ok(Some(frame)) => Ok(Some(frame)),
+                Ok(None) => Err(SourceFault::OtherRecording),
+                Err(_) => Err(SourceFault::NoMemory),
+            }
         }
         None => Ok(None),
     }

@@ -22,14 +22,15 @@ returns-clause-makes c =
     let message = c.in_ok-message.message.items in
     let field = c.in_ok-field.field.items in
     let d = c.read-decided.result in
-    let own : Record = record { at = r.at; rounds = r.rounds; verdict = r.verdict; bits = r.word; certificate = r.certificate.items } in
+    let own : Record = record { at = r.at; seal = r.seal; rounds = r.rounds; verdict = r.verdict; bits = r.word; certificate = r.certificate.items } in
     let frame : RecordedFrame = record { at = r.at; symbols = symbols; decision = shown_decision soft r.word (certificate_of rows c.args.usable.certificate) message d field; field = field } in
     let long : length lent ≡ length vec.items = search rules in
     let soft_is = refilled vec.len lent vec.items vec.ok.0 long ∙ c.find_soft.ensures.is ∙ ap (soft_frame old.mode old.number old.options) c.deref.ensures.value in
-    let decides = subst (λ s. DecidesBy mid new s soft r.verdict r.word r.rounds d) c.deref-2.ensures.value (subst (λ s. DecidesBy mid new c.deref-2.result.now s r.verdict r.word r.rounds d) c.deref-3.ensures.value c.read-decided.ensures.decides) in
+    let decides = subst (λ s. DecidesBy mid new s soft c.args.verdict r.word r.rounds d) c.deref-3.ensures.value (subst (λ s. DecidesBy mid new c.deref-3.result.now s c.args.verdict r.word r.rounds d) c.deref-4.ensures.value c.read-decided.ensures.decides) in
     let file_is = c.requires.certificate ∙ ap (λ (x : Record). file_in (file_of_bytes x.certificate)) (sym c.record.view_is) in
-    let is = decided_by rows old mid new own symbols soft c.args.usable.certificate message d field c.find_soft.ensures.same soft_is file_is decides (c.in_ok-message.ensures.items ∙ c.message.ensures) (c.in_ok-field.ensures.items ∙ c.field.ensures) in
-    (refl, subst (λ (x : Record). IsFrameOf (terms_by rows old) x frame) c.record.view_is (record { place = refl; decided = is }))
+    let is = decided_by rows c.args.seed old mid new c.args.verdict own symbols soft c.args.usable.certificate message d field c.find_soft.ensures.same soft_is file_is decides (c.in_ok-message.ensures.items ∙ c.message.ensures) (c.in_ok-field.ensures.items ∙ c.field.ensures) in
+    let verdict_is = ap (λ (x : Record). x.verdict) c.record.view_is ∙ c.requires.verdict in
+    (refl, subst (λ (x : Record). IsFrameOf (terms_by rows c.args.seed old) x frame) c.record.view_is (record { place = refl; decided = (c.args.verdict, verdict_is, is); sealed = search (rules, c.deref-2.ensures.value) }))
 
 pub returns-clause-same : goal.returns-clause-same
 returns-clause-same c = same_reader _ _ _ c.find_soft.ensures.same c.read-decided.ensures.same
