@@ -16,5 +16,6 @@ mod link_request;
 mod opening;
 mod piece;
 mod records;
+mod seed;
 
 pub use link_request::{LinkRequest, with_link};

@@ -12,7 +12,8 @@
 //! ([`laws::both_ends`]). [`Labels`] and [`PlainSymbols`] are sinks of a transmitter only. They write the labels of the
 //! interleaved bits (5.3.3), and their constellation points (5.4) before pilots and scrambling ([`laws::points`]).
 //!
-//! A [`Recorder`] writes the records of a piece of a recording, for [`s2_stitch::stitch_with`] ([`laws::recorded`]).
+//! A [`Recorder`] writes the records of a piece of a recording, for [`s2_stitch::stitch_with`] ([`laws::recorded`]), and at last an end
+//! record.
 //!
 //! A BBFRAME that was not delivered is replaced by zeros, so a file of them has whole BBFRAMEs ([`laws::whole`]). A line
 //! of values is read as these values ([`laws::values`]).

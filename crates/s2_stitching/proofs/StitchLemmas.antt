@@ -27,10 +27,10 @@ pub stitched_from : {K : Type 0} (takes fails : Taking K) (rules : Rules) (sinks
 stitched_from takes fails rules sinks first before new ended same h = subst (λ s. StitchesToEnd takes fails rules (ends_of s sinks) new ended) same h
 
 -- a new source of true records, for a decider that holds no frame
-pub true_from : {D Q C : Type 0} (decide : D → List Symbol → Decision) (records : Q → Option (List ℕ)) (record_reads : Q → ℕ) (copy : C → Option (List ℕ)) (copy_reads : C → ℕ) (r : Recalling D) (source : RecordSource) (link : Link) (tuning : Tuning) (q : Q) (c : C)
-    → r.held ≡ None → source ≡ source_by records record_reads copy copy_reads (terms_on link tuning) q c 0 None
-    → AreTrueBy (decide r.decider) link tuning (unread_by records copy q c) → AreTrue decide r source
-true_from decide records record_reads copy copy_reads r source link tuning q c none is h = record {
+pub true_from : {D Q C : Type 0} (decide : D → List Symbol → Decision) (records : Q → Option (List ℕ)) (record_reads : Q → ℕ) (copy : C → Option (List ℕ)) (copy_reads : C → ℕ) (r : Recalling D) (source : RecordSource) (link : Link) (tuning : Tuning) (seed : ℕ) (q : Q) (c : C)
+    → r.held ≡ None → source ≡ source_by records record_reads copy copy_reads (terms_on seed link tuning) q c 0 None
+    → AreTrueBy (decide r.decider) link tuning (unread_by records copy seed q c) → AreTrue decide r source
+true_from decide records record_reads copy copy_reads r source link tuning seed q c none is h = record {
   held = subst (λ held. recalls (decide r.decider) held ≡ decide r.decider) (sym none) refl;
   left = subst (λ s. AreTrueLeft (decide r.decider) s) (sym is) (record { recording = h.recording; copy_is = h.copy_is; true_are = h.true_are });
 }
@@ -42,14 +42,14 @@ begins_so P Q begun old new ended so (is, inl does) = (is, inl (so old new does)
 begins_so P Q begun old new ended so (is, inr cannot) = (is, inr cannot)
 
 -- a receiver of a link with such a source receives on the link
-pub stitches_on : {D K Q C : Type 0} (takes fails : Taking K) (decide : D → List Symbol → Decision) (records : Q → Option (List ℕ)) (record_reads : Q → ℕ) (copy : C → Option (List ℕ)) (copy_reads : C → ℕ) (r : Recalling D) (source : RecordSource) (rules : Rules) (link : Link) (tuning : Tuning) (q : Q) (c : C)
-    → r.held ≡ None → source ≡ source_by records record_reads copy copy_reads (terms_on link tuning) q c 0 None → rules ≡ rules_with (decide r.decider) link tuning
+pub stitches_on : {D K Q C : Type 0} (takes fails : Taking K) (decide : D → List Symbol → Decision) (records : Q → Option (List ℕ)) (record_reads : Q → ℕ) (copy : C → Option (List ℕ)) (copy_reads : C → ℕ) (r : Recalling D) (source : RecordSource) (rules : Rules) (link : Link) (tuning : Tuning) (seed : ℕ) (q : Q) (c : C)
+    → r.held ≡ None → source ≡ source_by records record_reads copy copy_reads (terms_on seed link tuning) q c 0 None → rules ≡ rules_with (decide r.decider) link tuning
     → (begun : Bool) (old new : Ends K) (ended : Result Received Fault)
     → BeginsWith (λ before behind result. AreTrue decide r source → StitchesToEnd takes fails rules before behind result) begun old new ended
-    → StitchesOn takes fails (decide r.decider) tuning (unread_by records copy q c) link begun old new ended
-stitches_on takes fails decide records record_reads copy copy_reads r source rules link tuning q c none is same begun old new ended h =
-    inl (begins_so _ (λ before behind result. AreTrueBy (decide r.decider) link tuning (unread_by records copy q c) → StitchesToEnd takes fails (rules_with (decide r.decider) link tuning) before behind result) begun old new ended (λ before behind does are.
-    subst (λ rs. StitchesToEnd takes fails rs before behind ended) same (does (true_from decide records record_reads copy copy_reads r source link tuning q c none is are))) h)
+    → StitchesOn takes fails (decide r.decider) tuning (unread_by records copy seed q c) link begun old new ended
+stitches_on takes fails decide records record_reads copy copy_reads r source rules link tuning seed q c none is same begun old new ended h =
+    inl (begins_so _ (λ before behind result. AreTrueBy (decide r.decider) link tuning (unread_by records copy seed q c) → StitchesToEnd takes fails (rules_with (decide r.decider) link tuning) before behind result) begun old new ended (λ before behind does are.
+    subst (λ rs. StitchesToEnd takes fails rs before behind ended) same (does (true_from decide records record_reads copy copy_reads r source link tuning seed q c none is are))) h)
 
 -- the same by the decisions of an equal rule
 pub stitches_so : {K : Type 0} (takes fails : Taking K) (one other : List Symbol → Decision) (tuning : Tuning) (unread : Unread) (link : Link) (begun : Bool) (old new : Ends K) (ended : Result Received Fault) → one ≡ other

@@ -1,4 +1,4 @@
--- The record of a receiver's decision is true.
+-- The record of a receiver's decision is true, and has the seal of its frame.
 use Rattle.std.proofs.Common.{◌≡◌, ℕ, ℤ, Bool, true, false, ◌==◌, ◌&&◌, if◌then◌else◌, List, [], take, Option, Some, None, Ok, refl, ap, subst, ◌∙◌}
 use Rattle.s2_mode.specs.Limits.{header_symbols}
 use Rattle.s2_mode.specs.Mode.{Mode}
@@ -27,9 +27,9 @@ use Rattle.s2_split.specs.Making.{Shared, made_view, shared_views}
 use Rattle.s2_split.specs.Scattered.{repaired}
 use Rattle.s2_tuning.specs.Tuning.{Tuning}
 use Rattle.s2_records.specs.Records.{certificate_bytes}
-use Rattle.s2_records.specs.Recording.{IsReadBack, record_of, rounds_of}
-use Rattle.s2_stitch.specs.Frames.{certificate_of, decision_by, file_in, frame_at}
-use Rattle.s2_stitch.specs.Records.{Record}
+use Rattle.s2_records.specs.Recording.{IsReadBack, record_of, rounds_of, said_of}
+use Rattle.s2_stitch.specs.Frames.{IsSealed, IsTrueRecord, certificate_of, decision_by, file_in, frame_at}
+use Rattle.s2_stitch.specs.Records.{Record, seal_of}
 use Rattle.s2_stitch.proofs.FrameLemmas.{no_file}
 use Rattle.s2_stitching.specs.Laws.{TrueRecordLaw}
 use Rattle.s2_stitching.specs.Stitches.{decides_on, terms_on}
@@ -104,6 +104,10 @@ kept : (m : Mode) (soft : List ℤ) (verdict : Verdict) (bits : List Bool) (cert
 kept m soft verdict bits certificate (Some w) = (refl, refl, refl)
 kept m soft verdict bits certificate None = (refl, refl, refl)
 
+kept_soft : (m : Mode) (soft : List ℤ) (verdict : Verdict) (bits : List Bool) (certificate : Option View) (x : Option (List Bool)) → (word_decision m soft verdict bits certificate x).soft ≡ soft
+kept_soft m soft verdict bits certificate (Some w) = refl
+kept_soft m soft verdict bits certificate None = refl
+
 -- without its certificate it is the decision without one
 bare : (m : Mode) (soft : List ℤ) (verdict : Verdict) (bits : List Bool) (certificate : Option View) (x : Option (List Bool))
     → word_decision m soft verdict bits None x ≡ record (word_decision m soft verdict bits certificate x) { certificate = None }
@@ -120,12 +124,12 @@ unfolding figures_of
 rounds_again true m number symbols soft bits own = refl
 rounds_again false m number symbols soft bits own = refl
 
-module _ (link : Link) (tuning : Tuning) (recording : List Symbol) (at : ℕ) where
+module _ (link : Link) (tuning : Tuning) (seed : ℕ) (recording : List Symbol) (at : ℕ) where
   abbrev m : Mode
   m = link.setup.mode
 
   abbrev symbols : List Symbol
-  symbols = frame_at (terms_on link tuning) recording at
+  symbols = frame_at (terms_on seed link tuning) recording at
 
   abbrev soft : List ℤ
   soft = frame_soft link tuning symbols
@@ -138,37 +142,42 @@ module _ (link : Link) (tuning : Tuning) (recording : List Symbol) (at : ℕ) wh
 
   -- the decision by these bits, with this certificate and these rounds
   abbrev made : Option View → ℕ → Decision
-  made certificate rounds = decision_with m link.setup.number (terms_on link tuning).options symbols soft d.verdict d.bits certificate rounds
+  made certificate rounds = decision_with m link.setup.number (terms_on seed link tuning).options symbols soft d.verdict d.bits certificate rounds
 
   -- a record of the decision is the decision with the certificate that is read again
   by_own : (certified : Bool) (certificate : Option View)
-      → certificate_of link.rows (file_in (file_of_bytes (record_of certified at (made d.certificate own)).certificate)) ≡ certificate
-      → decision_by (terms_on link tuning) symbols (record_of certified at (made d.certificate own)) ≡ made certificate own
+      → certificate_of link.rows (file_in (file_of_bytes (record_of certified seed at (made d.certificate own)).certificate)) ≡ certificate
+      → decision_by (terms_on seed link tuning) symbols (made d.certificate own).verdict (record_of certified seed at (made d.certificate own)) ≡ made certificate own
   by_own certified certificate again =
-      let t = terms_on link tuning in
-      let r = record_of certified at (made d.certificate own) in
+      let t = terms_on seed link tuning in
+      let r = record_of certified seed at (made d.certificate own) in
       let parts = kept m soft d.verdict d.bits d.certificate (nearest m (received_word m d.bits)) in
-      let one : decision_by t symbols r ≡ made certificate r.rounds =
+      let one : decision_by t symbols (made d.certificate own).verdict r ≡ made certificate r.rounds =
       λ i. decision_with m t.number t.options symbols soft (parts.0 i) (parts.1 i) (again i) r.rounds in
       let two = rounds_again t.options.figures m t.number (upright_frame m t.options symbols) soft d.bits own in
       one ∙ ap (λ f. measured (bits_decision m soft d.verdict d.bits certificate) f (energy_of (take header_symbols symbols)) (quarters m t.options symbols)) two
 
   by : (certified : Bool) → IsReadBack certified (made d.certificate own).certificate
-      → decision_by (terms_on link tuning) symbols (record_of certified at (made d.certificate own)) ≡ (if certified then made d.certificate own else record (made d.certificate own) { certificate = None })
+      → decision_by (terms_on seed link tuning) symbols (made d.certificate own).verdict (record_of certified seed at (made d.certificate own)) ≡ (if certified then made d.certificate own else record (made d.certificate own) { certificate = None })
   by true back =
       let same = (kept m soft d.verdict d.bits d.certificate (nearest m (received_word m d.bits))).2 in
       let again = certificate_again link.rows d.certificate (subst (λ c. IsReadBack true c) same back) (filed_decided link.rows soft tuning) in
       by_own true d.certificate (ap (λ c. certificate_of link.rows (file_in (file_of_bytes (certificate_bytes c)))) same ∙ again)
   by false back =
-      let t = terms_on link tuning in
+      let t = terms_on seed link tuning in
       let none = by_own false None (ap (certificate_of link.rows) no_file) in
       let without = bare m soft d.verdict d.bits d.certificate (nearest m (received_word m d.bits)) in
       none ∙ ap (λ x. measured x (made d.certificate own).figures (energy_of (take header_symbols symbols)) (quarters m t.options symbols)) without
 
+  -- the record has the seal of the frame's soft values
+  has_seal : (certified : Bool) → IsSealed (terms_on seed link tuning) recording (record_of certified seed at (made d.certificate own))
+  has_seal certified =
+      ap (λ values. seal_of seed values (said_of certified at (made d.certificate own))) (kept_soft m soft d.verdict d.bits d.certificate (nearest m (received_word m d.bits)))
+
 pub true_record : TrueRecordLaw
 unfolding frame_decision
-true_record link tuning recording certified at back = cases certified back
+true_record link tuning seed recording certified at back = (cases certified back, has_seal link tuning seed recording at certified)
   where
-    cases : (b : Bool) → IsReadBack b (made link tuning recording at (d link tuning recording at).certificate (own link tuning recording at)).certificate → decision_by (terms_on link tuning) (symbols link tuning recording at) (record_of b at (frame_decision link tuning (symbols link tuning recording at))) ≡ decides_on b link tuning (symbols link tuning recording at)
-    cases true back = by link tuning recording at true back
-    cases false back = by link tuning recording at false back
+    cases : (b : Bool) → IsReadBack b (frame_decision link tuning (symbols link tuning seed recording at)).certificate → IsTrueRecord (terms_on seed link tuning) (decides_on b link tuning) recording (record_of b seed at (frame_decision link tuning (symbols link tuning seed recording at)))
+    cases true back = by link tuning seed recording at true back
+    cases false back = by link tuning seed recording at false back

@@ -6,17 +6,18 @@ use Rattle.s2_link.specs.Link.{Link}
 use Rattle.s2_receive.specs.Meeting.{frame, met_from, no_gap}
 use Rattle.s2_receive.specs.declared.gap.Gap.{Gap}
 use Rattle.s2_tuning.specs.Tuning.{Tuning}
-use Rattle.s2_stitch.specs.Frames.{IsTrueRecord, frame_at}
+use Rattle.s2_stitch.specs.Frames.{IsSealed, IsTrueRecord, frame_at}
 use Rattle.s2_modem.specs.Reports.{frame_decision}
 use Rattle.s2_records.specs.Recording.{IsReadBack, record_of}
 use Rattle.s2_stitching.specs.Stitches.{decides_on, terms_on}
 
--- the record that a recorder writes of a receiver's decision on the frame at a position is true
+-- the record that a recorder writes of a receiver's decision on the frame at a position is true, and has the seal of this frame
 abbrev pub TrueRecordLaw : Type 0
 TrueRecordLaw =
-    (link : Link) (tuning : Tuning) (recording : List Symbol) (certified : Bool) (at : ℕ)
-    → IsReadBack certified (frame_decision link tuning (frame_at (terms_on link tuning) recording at)).certificate
-    → IsTrueRecord (terms_on link tuning) (decides_on certified link tuning) recording (record_of certified at (frame_decision link tuning (frame_at (terms_on link tuning) recording at)))
+    (link : Link) (tuning : Tuning) (seed : ℕ) (recording : List Symbol) (certified : Bool) (at : ℕ)
+    → IsReadBack certified (frame_decision link tuning (frame_at (terms_on seed link tuning) recording at)).certificate
+    → IsTrueRecord (terms_on seed link tuning) (decides_on certified link tuning) recording (record_of certified seed at (frame_decision link tuning (frame_at (terms_on seed link tuning) recording at)))
+    × IsSealed (terms_on seed link tuning) recording (record_of certified seed at (frame_decision link tuning (frame_at (terms_on seed link tuning) recording at)))
 
 -- A frame that is met in a piece has the symbols at its position. So it is the frame at that position of the recording, if the
 -- piece begins at `from`, and the recording goes on after the piece in any way

@@ -1,10 +1,8 @@
 -- What `stitch` receives, writes and reports (own).
 use Rattle.std.specs.Prelude.{◌≡◌, ◌⊎◌, ℕ, Bool, if◌then◌else◌, List, ◌++◌, codes, Option, None, Result, Ok, Err}
-use Rattle.s2_mode.specs.Mode.{Mode}
 use Rattle.s2_mode.specs.declared.symbols.Symbol.{Symbol}
-use Rattle.s2_rows.specs.Rows.{Rows}
-use Rattle.s2_link.specs.Link.{Link}
-use Rattle.s2_link.specs.declared.setup.Setup.{Setup}
+use Rattle.s2_link.specs.Link.{Link, setup_of}
+use Rattle.s2_link.specs.declared.setup.LinkSetup.{LinkSetup}
 use Rattle.s2_tuning.specs.Tuning.{Tuning}
 use Rattle.s2_receive.specs.Limits.{max_symbols}
 use Rattle.s2_receive.specs.Receiving.{Decision, Rules, State, begun}
@@ -26,15 +24,15 @@ use Rattle.s2_io.specs.Files.{Files, reporting}
 use Rattle.s2_io.specs.Screens.{Screen}
 use Rattle.s2_commands.specs.declared.choices.DemodOptions.{DemodOptions}
 use Rattle.s2_commands.specs.Ends.{BeginsWith, CausesWith, Ends, ends_of}
-use Rattle.s2_commands.specs.Links.{DoesOn, LinkCommand, OnLink}
+use Rattle.s2_commands.specs.Links.{DoesOn, LinkCommand, OnLink, noted_by}
 use Rattle.s2_commands.specs.Losses.{Finishes}
 use Rattle.s2_commands.specs.Receptions.{ReceivesToEnd}
 
 -- ---- the decisions
 
--- how the frames of a link are read by a tuning
-abbrev pub terms_on : Link → Tuning → Terms
-terms_on link tuning = record { rows = link.rows; mode = link.setup.mode; number = link.setup.number; options = options_of tuning }
+-- how the frames of a link are read by a tuning, with this seed of the seals of records
+abbrev pub terms_on : (seed : ℕ) → Link → Tuning → Terms
+terms_on seed link tuning = record { rows = link.rows; seed = seed; mode = link.setup.mode; number = link.setup.number; options = options_of tuning }
 
 -- the decision of a receiver of the link on a frame, with its certificate or without
 abbrev pub decides_on : (certified : Bool) → Link → Tuning → List Symbol → Decision
@@ -44,19 +42,20 @@ decides_on certified link tuning = if certified then frame_decision link tuning 
 abbrev pub rules_with : (List Symbol → Decision) → Link → Tuning → Rules
 rules_with decide link tuning = record (link_rules link tuning max_symbols) { decide = decide }
 
--- the records, and the copy of the recording, which are not read yet
+-- the seed of the records' seals; the records, and the copy of the recording, which are not read yet
 pub record Unread : Type 0 where
+  pub seed : ℕ
   pub records : Option (List ℕ)
   pub copy : Option (List ℕ)
 
 -- those of a reader of records and of a reader of the copy
-abbrev pub unread_by : {Q C : Type 0} → (Q → Option (List ℕ)) → (C → Option (List ℕ)) → Q → C → Unread
-unread_by records copy q c = record { records = records q; copy = copy c }
+abbrev pub unread_by : {Q C : Type 0} → (Q → Option (List ℕ)) → (C → Option (List ℕ)) → (seed : ℕ) → Q → C → Unread
+unread_by records copy seed q c = record { seed = seed; records = records q; copy = copy c }
 
 -- a source of them that is not begun, of which no read has failed
 abbrev pub new_source : Link → Tuning → Unread → RecordSource
 new_source link tuning unread =
-    record { terms = terms_on link tuning; records = unread.records; copy = unread.copy; record_reads = 0; copy_reads = 0; place = 0; fault = None }
+    record { terms = terms_on unread.seed link tuning; records = unread.records; copy = unread.copy; record_reads = 0; copy_reads = 0; place = 0; fault = None }
 
 -- each record has this decision on the frame at its position of the recording
 abbrev pub AreTrueBy : (List Symbol → Decision) → Link → Tuning → Unread → Type 0
@@ -69,6 +68,7 @@ abbrev pub fault_of : SourceFault → Fault
 fault_of (sources.Records records.Read) = faults.Refused (codes "records: " ++ codes "cannot read")
 fault_of (sources.Records records.NotARecord) = faults.Refused (codes "records: " ++ codes "not the record of a decision")
 fault_of (sources.Records records.NoMemory) = faults.NoMemory
+fault_of sources.OtherRecording = faults.Refused (codes "records: " ++ codes "of another recording, of other rows or of other options")
 fault_of sources.Recording = faults.Refused (codes "symbols, read again: " ++ codes "cannot read")
 fault_of sources.NoMemory = faults.NoMemory
 
@@ -96,10 +96,11 @@ Stitches takes fails certified tuning unread link = StitchesBy takes fails (deci
 
 -- ---- the command
 
--- `stitch` has ended with this exit: so it did on its files, its records and its sinks, and so it reported how it ended
+-- `stitch` has ended with this exit: so it did on its files, its records and its sinks, and so it reported how it ended. The note on
+-- rows is on a writer known by its contents and its count of failed calls
 abbrev pub StitchExits :
-    {K : Type 0} → (takes fails : Taking K) → (count : K → ℕ) → (certified : Bool) → Unread → Setup → DemodOptions → ((quiet : Bool) → Mode → Result Rows Fault → Type 0) → Files → Files → K → K → Screen → Screen → Exit → Type 0
-StitchExits takes fails count certified unread setup words Noted files left sinks_old sinks_new old new exit =
+    {K E : Type 0} → (takes fails : Taking K) → (count : K → ℕ) → (certified : Bool) → Unread → LinkSetup → DemodOptions → (contents : E → Option (List ℕ)) → (prints : E → ℕ) → (notes notes_new : E) → Files → Files → K → K → Screen → Screen → Exit → Type 0
+StitchExits takes fails count certified unread setup words contents prints notes notes_new files left sinks_old sinks_new old new exit =
     (reception : Result Received Fault)
-    × OnLink (Stitches takes fails certified words.tuning unread) (CausesWith count) (Noted words.notes.quiet setup.mode) setup files left (ends_of (reporting files old) sinks_old) (ends_of (reporting left new) sinks_new) reception
+    × OnLink (Stitches takes fails certified words.tuning unread) (CausesWith count) (noted_by contents prints notes notes_new words.notes.quiet setup.mode) (setup_of setup) files left (ends_of (reporting files old) sinks_old) (ends_of (reporting left new) sinks_new) reception
     × Finishes words.notes setup.mode reception exit old new

@@ -18,6 +18,10 @@ pub(crate) fn fault_of(fault: SourceFault) -> Fault<'static>
             Fault::about("records: ", FaultText::of("not the record of a decision"))
         }
         SourceFault::Records(RecordFault::NoMemory) => Fault::NoMemory,
+        SourceFault::OtherRecording => Fault::about(
+            "records: ",
+            FaultText::of("of another recording, of other rows or of other options"),
+        ),
         SourceFault::NoMemory => Fault::NoMemory,
         SourceFault::Recording => Fault::about(
             "symbols, read again: ",

@@ -37,19 +37,21 @@ pub(crate) fn receiver_of<'a, D: Decide + Drop>(
     )
 }
 
-/// The source of the records of a link's frames, and of their symbols.
+/// The source of the records of a link's frames, whose seals begin with this seed, and of their symbols.
 pub(crate) fn source_of<'a, Q: CountedRead + Drop, C: CountedRead + Drop>(
     alloc: Global,
     link: &Link<'a>,
     tuning: Tuning,
+    seed: u64,
     records: Q,
     copy: C,
 ) -> Result<RecordSource<'a, Q, C>, AllocError>
-    ensures { IfOk result (λ s. s ≡ source_by Q.remaining Q.count C.remaining C.count (terms_on link.now tuning) records copy 0 None) }
+    ensures { IfOk result (λ s. s ≡ source_by Q.remaining Q.count C.remaining C.count (terms_on seed link.now tuning) records copy 0 None) }
 {
     RecordSource::new(
         alloc,
         link.matrix(),
+        seed,
         link.mode(),
         link.number(),
         options_of(tuning),

@@ -110,7 +110,7 @@ fn stitch_begun<
     )
 }
 
-/// Receives with a new receiver of a link, by the decisions of these records.
+/// Receives with a new receiver of a link, by the decisions of these records, whose seals begin with this seed.
 fn stitch_records<
     'a,
     D: Decide,
@@ -124,6 +124,7 @@ fn stitch_records<
     alloc: Global,
     link: &Link<'a>,
     tuning: Tuning,
+    seed: u64,
     receiver: &mut Receiver<Recalling<'a, D>>,
     records: Q,
     copy: C,
@@ -143,13 +144,13 @@ fn stitch_records<
     requires none { receiver.old.decider.held ≡ None }
     requires rules { own_rules D.decide receiver.old ≡ rules_with (D.decide receiver.old.decider.decider) link.now tuning }
     ensures receives { let ends = streams_by S.remaining S.count W.contents W.count O.contents O.count in
-        StitchesOn K.takes K.fails (D.decide receiver.old.decider.decider) tuning (unread_by Q.remaining C.remaining records copy) link.now packets.new.begun
+        StitchesOn K.takes K.fails (D.decide receiver.old.decider.decider) tuning (unread_by Q.remaining C.remaining seed records copy) link.now packets.new.begun
         (ends_of (ends symbols.old packets.old.to out.old) sinks.old) (ends_of (ends symbols.new packets.new.to out.new) sinks.new) result }
     ensures causes { let ends = streams_by S.remaining S.count W.contents W.count O.contents O.count in
         CausesWith K.count (ends_of (ends symbols.old packets.old.to out.old) sinks.old) (ends_of (ends symbols.new packets.new.to out.new) sinks.new) result }
     ensures few { K.count sinks.new ≤ K.count sinks.old + 1 }
 {
-    match source_of(alloc, link, tuning, records, copy) {
+    match source_of(alloc, link, tuning, seed, records, copy) {
         Ok(mut source) => {
             stitch_begun(alloc, receiver, &mut source, symbols, sinks, packets, out)
         }
@@ -157,7 +158,8 @@ fn stitch_records<
     }
 }
 
-/// Receives the symbols of a link by the decisions of these records, and the other frames by this decider.
+/// Receives the symbols of a link by the decisions of these records, whose seals begin with this seed, and the other frames by this
+/// decider.
 pub(crate) fn stitch_by<
     'a,
     D: Decide + Drop,
@@ -171,6 +173,7 @@ pub(crate) fn stitch_by<
     alloc: Global,
     link: &Link<'a>,
     tuning: Tuning,
+    seed: u64,
     decider: D,
     records: Q,
     copy: C,
@@ -188,7 +191,7 @@ pub(crate) fn stitch_by<
     requires unbegun { packets.old.begun ≡ false }
     requires out { CanCount (O.count out.old) }
     ensures receives { let ends = streams_by S.remaining S.count W.contents W.count O.contents O.count in
-        StitchesOn K.takes K.fails (D.decide decider) tuning (unread_by Q.remaining C.remaining records copy) link.now packets.new.begun
+        StitchesOn K.takes K.fails (D.decide decider) tuning (unread_by Q.remaining C.remaining seed records copy) link.now packets.new.begun
         (ends_of (ends symbols.old packets.old.to out.old) sinks.old) (ends_of (ends symbols.new packets.new.to out.new) sinks.new) result }
     ensures causes { let ends = streams_by S.remaining S.count W.contents W.count O.contents O.count in
         CausesWith K.count (ends_of (ends symbols.old packets.old.to out.old) sinks.old) (ends_of (ends symbols.new packets.new.to out.new) sinks.new) result }
@@ -199,6 +202,7 @@ pub(crate) fn stitch_by<
             alloc,
             link,
             tuning,
+            seed,
             &mut receiver,
             records,
             copy,

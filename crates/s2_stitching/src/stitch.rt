@@ -1,5 +1,5 @@
 //! `stitch`: receives symbols by the records of pieces.
-ghost use Rattle.std.specs.Prelude.{◌≡◌, ◌≢◌, ◌+◌, ◌≤◌, if◌then◌else◌};
+ghost use Rattle.std.specs.Prelude.{◌≡◌, ◌≢◌, ◌+◌, ◌≤◌, false};
 ghost use Rattle.s2_mode.specs.Counts.{CanCount};
 ghost use Rattle.s2_mode.specs.Streams.{streams_by};
 ghost use Rattle.s2_link.specs.Link.{setup_of};
@@ -35,6 +35,7 @@ fn stitch_link<
     link: &Link<'_>,
     tuning: Tuning,
     certified: bool,
+    seed: u64,
     records: Q,
     copy: C,
     symbols: &mut S,
@@ -50,7 +51,7 @@ fn stitch_link<
     requires unbegun { packets.old.begun ≡ false }
     requires out { CanCount (O.count out.old) }
     ensures receives { let ends = streams_by S.remaining S.count W.contents W.count O.contents O.count in
-        StitchesOn K.takes K.fails (decides_on certified link.now tuning) tuning (unread_by Q.remaining C.remaining records copy) link.now packets.new.begun
+        StitchesOn K.takes K.fails (decides_on certified link.now tuning) tuning (unread_by Q.remaining C.remaining seed records copy) link.now packets.new.begun
         (ends_of (ends symbols.old packets.old.to out.old) sinks.old) (ends_of (ends symbols.new packets.new.to out.new) sinks.new) result }
     ensures causes { let ends = streams_by S.remaining S.count W.contents W.count O.contents O.count in
         CausesWith K.count (ends_of (ends symbols.old packets.old.to out.old) sinks.old) (ends_of (ends symbols.new packets.new.to out.new) sinks.new) result }
@@ -58,12 +59,12 @@ fn stitch_link<
 {
     match Decider::new(alloc, link, tuning) {
         Ok(decider) if certified => stitch_by(
-            alloc, link, tuning, decider, records, copy, symbols, sinks, packets, out,
+            alloc, link, tuning, seed, decider, records, copy, symbols, sinks, packets, out,
         ),
         Ok(decider) => {
             let decider = Uncertified::new(decider);
             stitch_by(
-                alloc, link, tuning, decider, records, copy, symbols, sinks, packets, out,
+                alloc, link, tuning, seed, decider, records, copy, symbols, sinks, packets, out,
             )
         }
         Err(_) => Err(Fault::NoMemory),
@@ -84,6 +85,7 @@ fn stitch_files<
     setup: LinkSetup,
     words: &DemodOptions,
     certified: bool,
+    seed: u64,
     files: &mut LinkFiles<R, W>,
     records: Q,
     copy: C,
@@ -99,7 +101,7 @@ fn stitch_files<
     requires notes { CanCount (E.count notes.old) }
     ensures errors { (console.new.errors ≡ console.old.errors) × (console.new.errors_failed ≡ console.old.errors_failed) }
     ensures run { let noted = noted_by E.contents E.count notes.old notes.new words.now.notes.quiet setup.mode in
-        OnLink (Stitches K.takes K.fails certified words.now.tuning (unread_by Q.remaining C.remaining records copy)) (CausesWith K.count) noted (setup_of setup) files.old files.new
+        OnLink (Stitches K.takes K.fails certified words.now.tuning (unread_by Q.remaining C.remaining seed records copy)) (CausesWith K.count) noted (setup_of setup) files.old files.new
         (ends_of (reporting files.old console.old) sinks.old) (ends_of (reporting files.new console.new) sinks.new) result }
     ensures few { K.count sinks.new ≤ K.count sinks.old + 1 }
 {
@@ -111,6 +113,7 @@ fn stitch_files<
         &link,
         words.tuning,
         certified,
+        seed,
         records,
         copy,
         &mut files.from,
@@ -122,11 +125,12 @@ fn stitch_files<
 
 /// `stitch`: as [`s2_commands::demod_command`], by the records of pieces. `records` are those of [`s2_records::Recorder`], one after
 /// another, and `copy` has the same symbols as the file of the link. `certified` says whether frames have certificates: then the
-/// records must have them too.
+/// records must have them too. `seed` is a number that identifies the rows and all options of the receiver. The records' seals must
+/// begin with it ([`s2_stitch::seal_of`]), so records of other rows or options are refused.
 ///
 /// If the records are true for the recording, packets, report, notes, exit and the frames that the sinks take are those of
-/// [`s2_commands::demod_command`]. Or it stops at a record that cannot be read. That is reported, and everything met before is
-/// written.
+/// [`s2_commands::demod_command`]. Or it stops at a record that cannot be read, or that has another seal than its frame. That is
+/// reported, and everything met before is written.
 pub fn stitch_command<
     Q: CountedRead + Drop,
     C: CountedRead + Drop,
@@ -140,6 +144,7 @@ pub fn stitch_command<
     setup: LinkSetup,
     words: &DemodOptions,
     certified: bool,
+    seed: u64,
     files: &mut LinkFiles<R, W>,
     records: Q,
     copy: C,
@@ -155,12 +160,12 @@ pub fn stitch_command<
     requires notes { CanCount (E.count notes.old) }
     ensures quiet { result ≢ Exit.Fault → console.new.errors_failed ≡ console.old.errors_failed }
     ensures whole { result ≢ Exit.Fault → console.new.output_failed ≡ console.old.output_failed }
-    ensures run { StitchExits K.takes K.fails K.count certified (unread_by Q.remaining C.remaining records copy) (setup_of setup) words.now
-        (noted_by E.contents E.count notes.old notes.new) files.old files.new sinks.old sinks.new console.old console.new result }
+    ensures run { StitchExits K.takes K.fails K.count certified (unread_by Q.remaining C.remaining seed records copy) setup words.now
+        E.contents E.count notes.old notes.new files.old files.new sinks.old sinks.new console.old console.new result }
     ensures few { K.count sinks.new ≤ K.count sinks.old + 1 }
 {
     let reception = stitch_files(
-        alloc, setup, words, certified, files, records, copy, sinks, console, notes,
+        alloc, setup, words, certified, seed, files, records, copy, sinks, console, notes,
     );
     finish_reception(words.notes, &setup.mode, reception, console)
 }
