@@ -25,7 +25,7 @@ STANDARD = ("-", "/dev/stdout")
 SYMBOL, FRAME, OVER = 4, 33282, 33282 + 90
 # Pieces for each process, and frames of a piece at least and at most. With --hosts and --slurm: frames at least, pieces at most.
 FOR_EACH, LEAST, MOST, LEAST_AWAY, MOST_AWAY = 8, 32, 1024, 512, 1000
-# Frames of a group; seconds without input that end it, and that are noted; bytes behind which a copy ends: above a pipe, buffers and three frames.
+# Frames of a group; seconds without input that end it, and that are noted; bytes that a copy keeps: more than a pipe, buffers and three frames.
 GROUP, PAUSE, LONG, PASSED = 63, 0.1, 1.0, 1 << 20
 # The end of the name of an output that is not complete, which nobody can guess; the names of the files in a work folder.
 PART, OWN = f".pieces-{os.urandom(8).hex()}", re.compile(r"plan|log(-\d+)?|piece-\d{6,}(\.\d+)?|\..+\.pieces-\w{16}")
@@ -134,7 +134,7 @@ def received(what, words, symbols, at, others=()):
 
 
 def pour(files, pipe, copy=None):
-    """Writes files, each from a place on, to a pipe of `s2 stitch`. If that ends before, its exit status says why. Far behind, a copy is emptied."""
+    """Writes files, each from a place on, to a pipe of `s2 stitch`. If that ends before, its exit status says why. A copy keeps the last ones."""
     passed = -PASSED
     with contextlib.suppress(BrokenPipeError):
         for file, at in files:
@@ -145,7 +145,7 @@ def pour(files, pipe, copy=None):
 
 
 def ahead(items, size=0):
-    """The items of a generator that runs ahead in a thread of its own, by `size` items at most."""
+    """The items of a generator that runs in another thread, ahead by `size` items at most."""
     found, end = queue.Queue(size), object()
     running = ThreadPoolExecutor(1).submit(lambda: any(map(found.put, items)))
     running.add_done_callback(lambda _: found.put(end))

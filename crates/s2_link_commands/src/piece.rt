@@ -31,8 +31,8 @@ pub(crate) fn symbols_of(piece: Option<Piece>, mode: &Mode) -> Option<u64>
     }
 }
 
-/// The part of a piece in which each frame was decided, if this number of symbols came: without the last symbols if fewer came than
-/// were to be received, since a frame that begins there may be cut.
+/// The part of a piece in which each frame was decided, if this number of symbols came. It is the piece, if enough came. A frame that
+/// begins in its last symbols may be cut otherwise.
 pub(crate) fn searched(piece: Option<Piece>, mode: &Mode, came: u64) -> Option<Piece> {
     match piece {
         Some(piece) => {
@@ -44,7 +44,7 @@ pub(crate) fn searched(piece: Option<Piece>, mode: &Mode, came: u64) -> Option<P
     }
 }
 
-/// The last line of the report on a piece, of which this number of frames were recorded.
+/// The last line of the report on a piece with this number of recorded frames.
 fn piece_line(piece: Piece, frames: u64) -> Line {
     let mut line = Line::new();
     line.push_number("piece ", piece.from);
