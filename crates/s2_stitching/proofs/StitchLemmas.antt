@@ -38,8 +38,8 @@ true_from decide records record_reads copy copy_reads r source link tuning seed 
 -- what it does after it began its output, if that follows
 pub begins_so : {K T : Type 0} (P Q : (old new : Ends K) → Result T Fault → Type 0) (begun : Bool) (old new : Ends K) (ended : Result T Fault)
     → ((old new : Ends K) → P old new ended → Q old new ended) → BeginsWith P begun old new ended → BeginsWith Q begun old new ended
-begins_so P Q begun old new ended so (is, inl does) = (is, inl (so old new does))
-begins_so P Q begun old new ended so (is, inr cannot) = (is, inr cannot)
+begins_so P Q truncated old new ended so (is, inl does) = (is, inl (so old new does))
+begins_so P Q truncated old new ended so (is, inr cannot) = (is, inr cannot)
 
 -- a receiver of a link with such a source receives on the link
 pub stitches_on : {D K Q C : Type 0} (takes fails : Taking K) (decide : D → List Symbol → Decision) (records : Q → Option (List ℕ)) (record_reads : Q → ℕ) (copy : C → Option (List ℕ)) (copy_reads : C → ℕ) (r : Recalling D) (source : RecordSource) (rules : Rules) (link : Link) (tuning : Tuning) (seed : ℕ) (q : Q) (c : C)
@@ -48,7 +48,7 @@ pub stitches_on : {D K Q C : Type 0} (takes fails : Taking K) (decide : D → Li
     → BeginsWith (λ before behind result. AreTrue decide r source → StitchesToEnd takes fails rules before behind result) begun old new ended
     → StitchesOn takes fails (decide r.decider) tuning (unread_by records copy seed q c) link begun old new ended
 stitches_on takes fails decide records record_reads copy copy_reads r source rules link tuning seed q c none is same begun old new ended h =
-    inl (begins_so _ (λ before behind result. AreTrueBy (decide r.decider) link tuning (unread_by records copy seed q c) → StitchesToEnd takes fails (rules_with (decide r.decider) link tuning) before behind result) begun old new ended (λ before behind does are.
+    inl (begins_so (λ before behind result. AreTrue decide r source → StitchesToEnd takes fails rules before behind result) (λ before behind result. AreTrueBy (decide r.decider) link tuning (unread_by records copy seed q c) → StitchesToEnd takes fails (rules_with (decide r.decider) link tuning) before behind result) begun old new ended (λ before behind does are.
     subst (λ rs. StitchesToEnd takes fails rs before behind ended) same (does (true_from decide records record_reads copy copy_reads r source link tuning seed q c none is are))) h)
 
 -- the same by the decisions of an equal rule
