@@ -46,8 +46,8 @@ record_of certificates seed at decision = sealed seed decision.soft (said_of cer
 abbrev pub end_record : (seed n last : ℕ) → Record
 end_record seed n last = sealed seed [] (record { at = last; seal = 0; rounds = 0; verdict = None; bits = replicate n false; certificate = [] })
 
--- a recorder: the position in the recording at which its piece begins, the seed of the seals, whether it records certificates, its
--- writer, the number of records that it has written, and how often memory was refused
+-- A recorder: the position in the recording at which its piece begins, the seed of the seals, whether it records certificates, and
+-- its writer. Then the number of records of frames that it has written, and how often memory was refused
 pub record Recorder (W : Type 0) : Type 0 where
   pub from : ℕ
   pub seed : ℕ

@@ -52,7 +52,7 @@ pub record Unread : Type 0 where
 abbrev pub unread_by : {Q C : Type 0} → (Q → Option (List ℕ)) → (C → Option (List ℕ)) → (seed : ℕ) → Q → C → Unread
 unread_by records copy seed q c = record { seed = seed; records = records q; copy = copy c }
 
--- a source of them that is not begun, of which no read has failed
+-- a new source of them, without a failed read
 abbrev pub new_source : Link → Tuning → Unread → RecordSource
 new_source link tuning unread =
     record { terms = terms_on unread.seed link tuning; records = unread.records; copy = unread.copy; record_reads = 0; copy_reads = 0; place = 0; fault = None }
