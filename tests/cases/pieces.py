@@ -67,8 +67,8 @@ def piece_cases(two, made):
     end = "end frames 1 delivered 1 packets 1 bad 0\n"
     yield case("--piece 0..8190", TWO + line(0, 8190, 0, 2), piece(two, begun, 0, 8190))
     cut = "cut at 8190 symbols 8189\n"
-    yield case("--piece 0..8099", TWO.splitlines(True)[0] + cut + end + line(0, 8099, 0, 1), piece(one, begun, 0, 8099))
-    yield case("--piece 50..8149", moved(50, TWO.splitlines(True)[0] + cut) + end + line(50, 8149, 0, 1), piece(one, begun, 50, 8149))
+    yield case("--piece 0..8099", TWO.splitlines(True)[0] + cut + end + line(0, 8099, 0, 1), piece(one, begun, 0, 8099), errors=noted("1 packet incomplete"))
+    yield case("--piece 50..8149", moved(50, TWO.splitlines(True)[0] + cut) + end + line(50, 8149, 0, 1), piece(one, begun, 50, 8149), errors=noted("1 packet incomplete"))
     # the last piece has all symbols
     yield case("--piece 0..1 --last", TWO + line(0, 1, 1, 2), piece(two, begun))
     nothing = "end frames 0 delivered 0 packets 0 bad 0\n"
@@ -155,3 +155,9 @@ def stitch_cases(two, made):
 
 def cases(two, made):
     return [*piece_cases(two, made), *stitch_cases(two, made)]
+
+
+def by_stitch(effect):
+    """An option of `demod`, as one of `stitch` without records: the results are the same."""
+    words, reads = effect.words.replace("demod ", "stitch ").replace(" made in out", " made in none out"), effect.more["reads"] | {"none": b""}
+    return replace(effect, words=words, more=effect.more | {"reads": reads})
