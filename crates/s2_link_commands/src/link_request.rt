@@ -12,7 +12,7 @@ use crate::beside::{Beside, BesideNames, open_beside};
 use crate::opening::{Reading, Watching, link_files, open_two};
 use crate::piece::{end_piece, searched, symbols_of};
 use crate::records::{
-    RecordNames, Records, end_records, finish_command, open_records, recorded_frames,
+    RecordNames, Records, end_of, end_records, finish_command, open_records, recorded_frames,
 };
 use crate::seed::seed_for;
 use crate::tally::Tally;
@@ -381,7 +381,7 @@ fn finish_all<'a, W: Output + Drop>(
     ensures { OnErr result (exit ≢ Exit.Fault) }
 {
     let (mut records, about) = recorded;
-    if end_records(piece, mode, exit, &mut records).is_err() {
+    if end_records(end_of(piece), mode, exit, &mut records).is_err() {
         return Err(Unserved::Write);
     }
     match finish_command(exit, begun, records) {

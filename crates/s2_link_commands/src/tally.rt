@@ -35,7 +35,8 @@ impl<'m, M: Meter> Meter for Tally<'m, M> {
     }
 
     fn took(&self, bytes: usize) {
-        self.taken.set(self.taken.get().saturating_add(bytes as u64));
+        self.taken
+            .set(self.taken.get().saturating_add(bytes as u64));
         self.meter.took(bytes);
     }
 
