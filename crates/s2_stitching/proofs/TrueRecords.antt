@@ -1,5 +1,6 @@
 -- The record of a receiver's decision is true, and has the seal of its frame.
 use Rattle.std.proofs.Common.{◌≡◌, ℕ, ℤ, Bool, true, false, ◌==◌, ◌&&◌, if◌then◌else◌, List, [], take, Option, Some, None, Ok, refl, ap, subst, ◌∙◌}
+use Rattle.std.specs.Prelude.{⊤}
 use Rattle.s2_mode.specs.Limits.{header_symbols}
 use Rattle.s2_mode.specs.Mode.{Mode}
 use Rattle.s2_mode.specs.declared.symbols.Symbol.{Symbol}
