@@ -1,12 +1,12 @@
 -- The frames that are met in symbols.
-use Rattle.std.proofs.Common.{◌≡◌, ◌⊎◌, ℕ, zero, suc, ◌+◌, ◌-◌, ◌≤◌, Bool, true, false, nat_le, if◌then◌else◌, List, [], ◌∷◌, ◌++◌, length, drop, take, Contains, inl, inr, refl, sym, ap, subst, ◌∙◌, arith}
+use Rattle.std.proofs.Common.{◌≡◌, ◌⊎◌, ℕ, zero, suc, ◌+◌, ◌-◌, ◌≤◌, Bool, true, false, nat_le, if◌then◌else◌, List, [], ◌∷◌, ◌++◌, length, drop, take, Contains, inl, inr, refl, sym, ap, ◌∙◌, arith}
 use Rattle.std.proofs.lemmas.List.{drop-append-le, drop-drop, length-drop, take-append-le}
 use Rattle.std.proofs.lemmas.Bool.{leb-true}
 use Rattle.s2_mode.specs.Limits.{dummy_symbols}
 use Rattle.s2_mode.specs.declared.symbols.Symbol.{Symbol}
 use Rattle.s2_plframe.specs.declared.receive.found.Found.{Found}
 use Rattle.s2_plframe.specs.declared.receive.found.Found.TheVariants as founds
-use Rattle.s2_receive.specs.Meeting.{Met, frame, cut, ended, begins, by_found, extended, met_from, no_gap, rest_of}
+use Rattle.s2_receive.specs.Meeting.{frame, cut, ended, begins, by_found, extended, met_from, no_gap, rest_of}
 use Rattle.s2_receive.specs.declared.gap.Gap.{Gap}
 use Rattle.s2_stitching.specs.Laws.{FrameThereLaw}
 

@@ -1,5 +1,5 @@
 -- A reception by records that are true, from its beginning.
-use Rattle.std.proofs.Common.{◌≡◌, ◌⊎◌, ℕ, Bool, List, Option, None, Result, Ok, Err, refl, sym, ap, subst, ◌∙◌, inl, inr}
+use Rattle.std.proofs.Common.{◌≡◌, ℕ, Bool, List, Option, None, Result, Err, refl, sym, ap, subst, ◌∙◌, inl, inr}
 use Rattle.s2_mode.specs.Streams.{Streams}
 use Rattle.s2_mode.specs.declared.symbols.Symbol.{Symbol}
 use Rattle.s2_link.specs.Link.{Link}
@@ -16,7 +16,7 @@ use Rattle.s2_stitch.specs.Stitching.{AreTrue, HasMet, StitchesAs}
 use Rattle.s2_stitch.specs.declared.fault.SourceFault.{SourceFault}
 use Rattle.s2_stitch.specs.declared.fault.StitchFault.{StitchFault}
 use Rattle.s2_stitch.specs.declared.fault.StitchFault.TheVariants as faults
-use Rattle.s2_stitching.specs.Stitches.{AreTrueBy, StitchesBy, StitchesOn, StitchesToEnd, Unread, fault_of, rules_with, terms_on, unread_by}
+use Rattle.s2_stitching.specs.Stitches.{AreTrueBy, StitchesOn, StitchesToEnd, Unread, fault_of, rules_with, terms_on, unread_by}
 
 -- a run that stopped at a record, from its beginning
 pub stopped_from : {K : Type 0} (takes fails : Taking K) (rules : Rules) (start state : State) (old new : Ends K) (fault : SourceFault) → start ≡ begun
