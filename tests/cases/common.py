@@ -159,7 +159,7 @@ def fault(words, text, *notes, cause="No such file or directory", **more):
 
 
 # The commands, each with its own help.
-COMMANDS = "modes rows table judge check mod noise demod run scan join audit compare".split()
+COMMANDS = "modes rows table judge check mod noise demod run scan join audit compare stitch".split()
 
 
 def misuse(words, text, way=None):

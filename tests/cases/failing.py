@@ -7,6 +7,7 @@ MOD, DEMOD = f"mod {LINK} made packets out", f"demod {LINK} made two out"
 DUMMY, ACROSS = f"mod {LINK} --dummy 1 made packets out", f"demod {LINK} made among out"
 NOISE, RUN = "noise --seed 1 --level 256 two out", f"run {LINK} --seed 1 --level 0 made packets out"
 RUNS, EACH = f"run {LINK} --seeds 1..2 --level 0 made packets out", f"judge {TOY} --each --cert out toy soft"
+PIECE, STITCH = f"demod {LINK} --piece 0..16380 made two out", f"stitch {LINK} made two recorded out"
 NOTHING, FRAMES = [(0, 0)], [(188, 0), (376, 26), (376, 55)]
 
 
@@ -48,6 +49,16 @@ FAILING = [
     (DEMOD, "two", READ, [(0, 0), (188, 26), (376, 55)]),
     (DEMOD, "out", WRITE, [(0, 0), (188, 26)]),
     (DEMOD, "printed", WRITE, FRAMES),
+    # a record is one write, before the line of its frame; the end record is written after the report, before its last line
+    (PIECE, "made", READ, NOTHING),
+    (PIECE, "two", READ, [(0, 0), (2050, 26), (4100, 55)]),
+    (PIECE, "out", WRITE, [(0, 0), (2050, 26), (4100, len(TWO))]),
+    (PIECE, "printed", WRITE, [(2050, 0), (4100, 26), (4100, 55), (6150, len(TWO))]),
+    (STITCH, "made", READ, NOTHING),
+    # the records of both frames are in the buffer by the first read
+    (STITCH, "recorded", f"records: {READ}", [(0, 0), (376, 55)]),
+    (STITCH, "out", WRITE, [(0, 0), (188, 26)]),
+    (STITCH, "printed", WRITE, FRAMES),
     # each frame is written with the dummy frame after it
     (DUMMY, "packets", READ, [(0, 0), (46_080, 0)]),
     (DUMMY, "out", WRITE, [(0, 0), (46_080, 0)]),

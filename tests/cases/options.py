@@ -3,7 +3,7 @@
 import re
 from dataclasses import dataclass, field
 
-from cases import about, audit, comparing, equalized, figured, links, listing, progress, records, rotations, slips
+from cases import about, audit, comparing, equalized, figured, links, listing, pieces, progress, records, rotations, slips
 from cases.common import (
     ANY, FINE, LINK, NO, ONE, PACKET, PAIR, SLIPPED, STORED, STORED_CERTIFICATE, STORED_MOVED, TOY, TWO, UNDECODED, WANTED, Case, Rule, digest, ending, noted,
 )  # fmt: skip
@@ -401,16 +401,26 @@ def run_effects(report, others):
     yield Effect("--lock", "run {} {{}} --seed {} --level {} made packets out".format(LINK, *links.LOCKED), by_default("--lock", 12, 30, one, both_found))
 
 
+def piece_effects(two, made):
+    begun, files = pieces.seed(made), {"reads": {"in": two}}
+    first, last = (ended(TWO + pieces.line(0, 16380, it, 2), out=pieces.piece(two, begun, 0, None if it else 16380)) for it in (0, 1))
+    yield Effect("--piece", f"demod {LINK} {{}} made in out", {"": WELL, "--piece 0..16380": first}, files)
+    yield Effect("--last", f"demod {LINK} --piece 0..16380 {{}} made in out", {"": first, "--last": last}, files)
+    ends = {"": refused(pieces.SYMBOLS_ONCE), "--again in": WELL}
+    yield Effect("--again", f"stitch {LINK} {{}} made - none out", ends, {"reads": {"in": two, "none": b""}, "given": two})
+
+
 def effects(two, made, pilots, dummy, report, others):
     found = [*rows_effects(), *judge_effects(), *few_effects(), *join_effects(), *mod_effects(two, dummy), *tuning_effects(two, report)]
     found += [*link_effects(two), *figure_effects(two, made), *scan_effects(two)]
     written = records.records(two)
     found += compare_effects(written["--certificates"], written["--bbframes"])
-    return found + [*record_effects(two, made), *audit_effects(two, made), *demod_effects(two, pilots), *run_effects(report, others)]
+    found += [*record_effects(two, made), *audit_effects(two, made), *demod_effects(two, pilots), *run_effects(report, others)]
+    return found + [pieces.by_stitch(effect) for effect in found if effect.name() == "demod"] + [*piece_effects(two, made)]
 
 
 # Options with cases in progress.py.
-SHOWN = {(name, option) for name in progress.WORDS for option in ("--quiet", "--progress")}
+SHOWN = {(name, option) for name in progress.WORDS for option in ("--quiet", "--progress")} | {("stitch", "--progress")}
 
 
 def told(text):
@@ -441,7 +451,7 @@ def unshown(name, text, found):
 
 
 # Options without a visible effect: these commands write no notes, a receiver accepts any roll-off, and the channel of `run` has no slips.
-SAME = {("modes", "--quiet"), ("rows", "--quiet"), ("check", "--quiet"), ("compare", "--quiet"), ("audit", "--ro"), ("demod", "--ro"), ("run", "--turns")}
+SAME = {("modes", "--quiet"), ("rows", "--quiet"), ("check", "--quiet"), ("compare", "--quiet"), ("audit", "--ro"), ("demod", "--ro"), ("stitch", "--ro"), ("run", "--turns")}
 
 
 def has_difference(effect):

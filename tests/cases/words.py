@@ -25,6 +25,7 @@ Commands:
   audit    Checks a report against the recording and its certificates, without decoding
   compare  Compares another receiver's words with certified ones, without decoding
   join     Reassembles packets from BBFRAMEs
+  stitch   Demodulates a recording by the records of its pieces
   help     Print this message or the help of the given subcommand(s)
 
 Options:
@@ -128,6 +129,10 @@ def no_mode(value):
 
 def no_range(text):
     return f"--seeds: {text} is not two unsigned 64-bit numbers with two dots between them, the first at most the second, for example 1..100"
+
+
+def no_piece(text):
+    return f"--piece: {text} is not two positions with two dots between them, the first at most the second, for example 0..1000000"
 
 
 def no_ratio(text):
@@ -249,6 +254,21 @@ MISUSES = [
     ("run --modcod 1 --seeds --level 1 made packets out", "--seeds: the value is missing"),
     *((f"run --modcod 1 --seeds={text} --level 1 made packets out", no_range(text)) for text in RANGES),
     ("demod --modcod 1 --seeds 1..2 made packets out", "--seeds is not an option of demod"),
+    *((f"demod --modcod 1 --piece={text} made packets out", no_piece(text)) for text in (*RANGES, f"0..{2**60 + 1}")),
+    ("demod --modcod 1 made packets out --piece", "--piece: the value is missing"),
+    ("demod --modcod 1 --last made packets out", "missing: --piece <FROM..TO>"),
+    ("demod --modcod 1 --piece 0..1 --last=1 made packets out", "--last takes no value"),
+    ("demod --modcod 1 --again in made packets out", "--again is not an option of demod"),
+    (f"{RUN} --piece 0..1 made packets out", "--piece is not an option of run"),
+    ("stitch", "missing: --modcod <M>, <ROWS>, <SYMBOLS>, <RECORDS>, <PACKETS>"),
+    ("stitch --modcod 1 made in pieces", "missing: <PACKETS>"),
+    ("stitch made in pieces out", "missing: --modcod <M>"),
+    ("stitch --modcod 1 made in pieces out more", "more is an unexpected argument"),
+    ("stitch --modcod 1 --piece 0..1 made in pieces out", "--piece is not an option of stitch"),
+    ("stitch --modcod 1 --last made in pieces out", "--last is not an option of stitch"),
+    ("stitch --modcod 1 --seed 1 made in pieces out", "--seed is not an option of stitch"),
+    ("stitch --modcod 1 --uncertified --passes 96 made in pieces out", NOT_BOTH),
+    ("stitch --modcod 1 made in pieces out --again", "--again: the value is missing"),
     ("noise --seeds 1..2 --level 1 packets out", "--seeds is not an option of noise"),
     *((f"run --modcod 1 --seed 1 --esn0 {text} made packets out", no_ratio(text)) for text in RATIOS),
     ("run --seed 1 --level 1 made packets out", "missing: --modcod <M>"),
@@ -315,6 +335,7 @@ ABOUTS = {
     "audit": "Checks a report against the recording and its certificates, without decoding",
     "join": "Reassembles packets from BBFRAMEs",
     "compare": "Compares another receiver's words with certified ones, without decoding",
+    "stitch": "Demodulates a recording by the records of its pieces",
 }
 RECEIVING = ("demod --modcod 1", RUN)
 ENDS = {
@@ -334,6 +355,12 @@ ENDS = {
 }
 # What a word says, and the value where it is left out.
 WORDS = [
+    ("stitch", "0, 2", "those of `demod`"),
+    ("stitch", "--again <FILE>", "by default SYMBOLS, which then must be a regular file"),
+    ("stitch", "ROWS is read twice,", "so it must be a regular file."),
+    ("demod", "--piece <FROM..TO>", "and write its records for `stitch` instead of packets; SYMBOLS begins with symbol FROM"),
+    ("demod", "--last", "This is the last piece: read SYMBOLS to the end; needs --piece"),
+    ("demod", "piece FROM TO last 0|1 frames N", "N records were written; 1 with --last"),
     ("rows", "--group <G>", "Bits per group, 1 to 360"),
     ("rows", "--weight <W>", "Addresses per row, 1 to 24"),
     ("judge", "--cert <FILE>", "Write the certificate of a `sole` or `most-likely` word to this file"),
@@ -414,7 +441,7 @@ WORDS = [
 ]
 # The commands that show how far they are, those that may be strict, those that decide, and a line of each command with what it
 # needs.
-SHOWING, STRICT, DECIDING = ("mod", "noise", "demod", "run", "scan"), ("demod", "run"), ("judge", "demod", "run")
+SHOWING, STRICT, DECIDING = ("mod", "noise", "demod", "run", "scan", "stitch"), ("demod", "run", "stitch"), ("judge", "demod", "run", "stitch")
 LINES = {
     "modes": "modes",
     "rows": f"rows {PAIR} --weight 1 --seed 1",
@@ -429,6 +456,7 @@ LINES = {
     "join": f"join {LINK} empty out",
     "audit": f"audit {LINK} made empty empty empty",
     "compare": f"compare {TOY} toy certificate stored_word",
+    "stitch": f"stitch {LINK} made empty empty out",
 }
 # The commands that take --quiet.
 QUIET = [name for name in LINES if name not in ("join", "audit")]
@@ -457,6 +485,7 @@ ENDED = {
     "mod": {"out": "packets 2 frames 2\n", "writes": {"out": size(65_520)}},
     "noise": {"writes": {"out": 2 * PACKET}},
     "demod": {"out": "end frames 0 delivered 0 packets 0 bad 0\n", "reads": {"empty": b""}, "writes": {"out": b""}},
+    "stitch": {"out": "end frames 0 delivered 0 packets 0 bad 0\n", "reads": {"empty": b""}, "writes": {"out": b""}},
     "run": {"out": TWO, "writes": {"out": 2 * PACKET}},
     "audit": {"code": NO, "out": "report line 1: expected end frames 0 delivered 0 packets 0 bad 0\n", "errors": noted(HINT), "reads": {"empty": b""}},
     "join": {"out": "end frames 0 delivered 0 packets 0 bad 0\n", "reads": {"empty": b""}, "writes": {"out": b""}},
@@ -499,6 +528,14 @@ MISSING = [
     (f"{RUN} none packets old", "none"),
     (f"{RUN} made none old", "none"),
     (f"{RUN} made packets none/out", "none/out"),
+    ("stitch --modcod 1 none packets packets old", "none"),
+    ("stitch --modcod 1 made none packets old", "none"),
+    ("stitch --modcod 1 made packets none old", "none"),
+    ("stitch --modcod 1 --again none made packets packets old", "none"),
+    ("stitch --modcod 1 made packets packets none/out", "none/out"),
+    ("demod --modcod 1 --piece 0..1 none packets old", "none"),
+    ("demod --modcod 1 --piece 0..1 made none old", "none"),
+    ("demod --modcod 1 --piece 0..1 made packets none/out", "none/out"),
     ("mod --modcod 11 --pilots none none none", "none"),
     ("demod --modcod 1 /dev/null none none", "none"),
     *((f"{command} {option} none/file made packets old", "none/file") for command in RECEIVING for option in RECORDS),
@@ -521,6 +558,8 @@ REFUSED = [
     ("mod --modcod 11 --short made packets old", "no such mode"),
     ("demod --modcod 11 --short made packets old", "no such mode"),
     ("demod --modcod 17 --short none none old", "no such mode"),
+    ("demod --modcod 17 --short --piece 0..1 none none old", "no such mode"),
+    ("stitch --modcod 17 --short none none none old", "no such mode"),
     ("run --modcod 11 --short --seed 1 --level 1 none none old", "no such mode"),
     ("join --modcod 11 --short none old", "no such mode"),
     ("audit --modcod 11 --short none none none none", "no such mode"),
@@ -566,7 +605,7 @@ CASES = [
     *(refused("--quiet", name) for name in LINES if name not in QUIET),
     *(taken(word, name) for name in SHOWING for word in ("--progress", "--quiet --progress")),
     *(Case(f"{name} --help", out=option("--every <N>", "a line of totals after every N frames: `audit` cannot use this report")) for name in STRICT),
-    *(Case(f"{name} --help", out=option("sum frames F delivered D certified C", "D were delivered, C of them sole or most-likely")) for name in STRICT),
+    *(Case(f"{name} --help", out=option("sum frames F delivered D certified C", "D were delivered, C of them sole or most-likely")) for name in ("demod", "run")),
     *(taken(word, name) for name in STRICT for word in ("--exit-by certainty", "--exit-by delivery", "--exit-by=delivery --strict")),
     *(taken("--turns", name) for name in (*STRICT, "audit")),
     *(refused("--turns", name) for name in LINES if name not in (*STRICT, "audit")),

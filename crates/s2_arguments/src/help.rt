@@ -224,8 +224,8 @@ const DEMOD_MORE: &str = report!(
     "",
     "
 With --piece FROM..TO, for `stitch`:
-  Up to TO - FROM symbols are read, and a frame and 90 symbols after them; with --last all symbols.
-  The last file gets a binary record of each frame in place of packets. No other files are written: --certificates only adds the certificates to the records.
+  Up to TO - FROM symbols are read, and a frame and 90 symbols after them; with --last all symbols. ROWS is read twice, so it must be a regular file.
+  The last file gets a binary record of each frame in place of packets, and one for the end of the piece if it is not the last. No other files are written: --certificates only adds the certificates to the records.
   Symbols in the report are counted from the beginning of the recording. The report has one more line at the end, and the exit status is 0 unless there is an error:
   piece FROM TO last 0|1 frames N    N records were written; 1 with --last
 ",
@@ -368,6 +368,8 @@ The output:
 
 Files:
   RECORDS has the records of all pieces, one after another, in the order of the pieces. The pieces may overlap.
+  `demod --piece` must have the same rows and the same options of the receiver as `stitch`, and --certificates if `stitch` has it: other records are refused.
+  ROWS is read twice, so it must be a regular file.
   SYMBOLS is read twice at the same time. If it is no regular file, --again is another one with the same symbols, for example a second pipe.
   SYMBOLS, RECORDS and the file of --again may be pipes that are filled meanwhile.
 

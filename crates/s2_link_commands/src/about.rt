@@ -22,7 +22,7 @@ pub(crate) fn open_about<'a, P: Opens<'a>>(
     opener: &mut P,
     name: Option<&'a str>,
 ) -> Result<AboutFile<P::Output>, Unserved<'a>>
-    requires { P.opened opener.old < 10 }
+    requires { P.opened opener.old < 12 }
     ensures { IfOk result (λ made. wanted_count (λ file. P.Output.count file.to) made ≡ 0) }
 {
     match name {
@@ -32,7 +32,7 @@ pub(crate) fn open_about<'a, P: Opens<'a>>(
 }
 
 /// Appends the mode, and all options of a receiver.
-fn push_receiver(
+pub(crate) fn push_receiver(
     text: &mut String,
     link: LinkArguments,
     tuning: &Tuning,
@@ -109,15 +109,14 @@ fn push_sums(
     push_sum(alloc, text, report, sums.report.take())
 }
 
-/// The record of a command that receives symbols.
-fn reception_record(
+/// The record of `demod`, and of `stitch`, which does the same.
+fn demod_record(
     alloc: Global,
-    command: &str,
     words: &DemodArguments<'_>,
     tuning: &Tuning,
     sums: &FileSums,
 ) -> Result<String, AllocError> {
-    let mut text = begin_record(alloc, command)?;
+    let mut text = begin_record(alloc, "demod")?;
     push_receiver(&mut text, words.link, tuning)?;
     push_fields(
         &mut text,
@@ -167,11 +166,9 @@ fn record_of(
 ) -> Result<String, AllocError> {
     match request {
         LinkRequest::Mod(_) => Ok(String::new(alloc)),
-        LinkRequest::Demod(words, options) => {
-            reception_record(alloc, "demod", words, &options.tuning, sums)
-        }
+        LinkRequest::Demod(words, options) => { demod_record(alloc, words, &options.tuning, sums) }
         LinkRequest::Stitch(words, options) => {
-            reception_record(alloc, "stitch", &words.demod, &options.tuning, sums)
+            demod_record(alloc, &words.demod, &options.tuning, sums)
         }
         LinkRequest::Run(words, options) => run_record(alloc, words, &options.tuning, sums),
     }

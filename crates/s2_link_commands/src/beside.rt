@@ -4,15 +4,17 @@ ghost use Rattle.std.specs.Option.{ForSome};
 
 use s2_opening::{Opens, Unserved};
 
-/// The names of the files: that of the records, and that of the symbols once more, if it is given.
+/// The names of the files: that of the records, and that of the symbols once more, if it is given. The seals of the records begin
+/// with the seed.
 #[derive(Clone, Copy)]
 pub(crate) struct BesideNames<'a> {
     pub records: &'a str,
     pub again: Option<&'a str>,
+    pub seed: u64,
 }
 
-/// The records and the symbols, if the command reads them.
-pub(crate) type Beside<I> = Option<(I, I)>;
+/// The records, the symbols, and the seed of the records' seals, if the command reads them.
+pub(crate) type Beside<I> = Option<(I, I, u64)>;
 
 /// The name of the file that has the symbols once more. The recording itself serves if it has a length: then it is a regular file.
 fn again_name<'a>(
@@ -33,8 +35,8 @@ pub(crate) fn open_beside<'a, P: Opens<'a>>(
     names: Option<BesideNames<'a>>,
     recording: &'a str,
 ) -> Result<Beside<P::Input>, Unserved<'a>>
-    requires { P.opened opener.old ≡ 2 }
-    ensures count { OnOk result (P.opened opener.new ≤ 4) }
+    requires { P.opened opener.old ≤ 3 }
+    ensures count { OnOk result (P.opened opener.new ≤ 5) }
     ensures fresh { IfOk result (λ made. ForSome made (λ b. (P.Input.count b.0 ≡ 0) × (P.Input.count b.1 ≡ 0))) }
 {
     let Some(names) = names else {
@@ -43,5 +45,5 @@ pub(crate) fn open_beside<'a, P: Opens<'a>>(
     let again = again_name(names, recording, opener.last_length())?;
     let records = opener.read_buffered(names.records)?;
     let copy = opener.read_buffered(again)?;
-    Ok(Some((records, copy)))
+    Ok(Some((records, copy, names.seed)))
 }

@@ -16,5 +16,7 @@ mod link_request;
 mod opening;
 mod piece;
 mod records;
+mod seed;
+mod tally;
 
 pub use link_request::{LinkRequest, with_link};

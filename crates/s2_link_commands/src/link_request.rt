@@ -10,8 +10,12 @@ ghost use Rattle.s2_link_commands.specs.Failed.{records_failed};
 use crate::about::{AboutFile, finish_about, open_about};
 use crate::beside::{Beside, BesideNames, open_beside};
 use crate::opening::{Reading, Watching, link_files, open_two};
-use crate::piece::{end_piece, symbols_of};
-use crate::records::{RecordNames, Records, finish_command, open_records, recorded_frames};
+use crate::piece::{end_piece, searched, symbols_of};
+use crate::records::{
+    RecordNames, Records, end_records, finish_command, open_records, recorded_frames,
+};
+use crate::seed::seed_for;
+use crate::tally::Tally;
 use s2_about::FileSums;
 use s2_commands::{DemodOptions, LinkFiles, RunOptions, demod_command, mod_command, run_command};
 use s2_io::{Console, Disk, Exit, Meter, Output, Pace, Show, Terminal, Truncating};
@@ -102,13 +106,14 @@ fn receiving_words<'a>(words: &DemodArguments<'a>) -> FileWords<'a> {
 }
 
 /// Of a piece, only its records are written: to the file of the packets.
-fn piece_words<'a>(words: &DemodArguments<'a>, piece: Piece) -> FileWords<'a> {
+fn piece_words<'a>(words: &DemodArguments<'a>, piece: Piece, seed: u64) -> FileWords<'a> {
     FileWords {
         names: [words.rows, words.symbols, "/dev/null"],
         piece: Some(piece),
         records: RecordNames::OfPiece {
             to: words.packets,
             from: piece.from,
+            seed,
             certificates: words.records.certificates.is_some(),
         },
         about: None,
@@ -117,18 +122,19 @@ fn piece_words<'a>(words: &DemodArguments<'a>, piece: Piece) -> FileWords<'a> {
     }
 }
 
-fn demod_words<'a>(words: &DemodArguments<'a>) -> FileWords<'a> {
+fn demod_words<'a>(words: &DemodArguments<'a>, seed: u64) -> FileWords<'a> {
     match words.piece {
-        Some(piece) => piece_words(words, piece),
+        Some(piece) => piece_words(words, piece, seed),
         None => receiving_words(words),
     }
 }
 
-fn stitching_words<'a>(words: &StitchArguments<'a>) -> FileWords<'a> {
+fn stitching_words<'a>(words: &StitchArguments<'a>, seed: u64) -> FileWords<'a> {
     FileWords {
         beside: Some(BesideNames {
             records: words.records,
             again: words.again,
+            seed,
         }),
         ..receiving_words(&words.demod)
     }
@@ -152,12 +158,13 @@ fn looping_words<'a>(words: &RunArguments<'a>) -> FileWords<'a> {
     }
 }
 
-fn file_words<'a>(request: LinkRequest<'_, 'a>) -> FileWords<'a> {
+/// The words of a request. If its records have seals, they begin with this seed.
+fn file_words<'a>(request: LinkRequest<'_, 'a>, seed: u64) -> FileWords<'a> {
     match request {
         LinkRequest::Mod(words) => sending_words(words),
-        LinkRequest::Demod(words, _) => demod_words(words),
+        LinkRequest::Demod(words, _) => demod_words(words, seed),
         LinkRequest::Run(words, _) => looping_words(words),
-        LinkRequest::Stitch(words, _) => stitching_words(words),
+        LinkRequest::Stitch(words, _) => stitching_words(words, seed),
     }
 }
 
@@ -255,11 +262,12 @@ fn run_receiver<
     ensures few { records_failed F.count records.new ≤ 1 }
 {
     match beside {
-        Some((pieces, copy)) => stitch_command(
+        Some((pieces, copy, seed)) => stitch_command(
             alloc,
             setup,
             options,
             certified,
+            seed,
             files,
             pieces,
             copy,
@@ -339,7 +347,7 @@ fn open_all<'a, 'm, 'h, P: Opens<'a>, M: Meter>(
     words: &FileWords<'a>,
     sums: Option<&'h FileSums>,
 ) -> Result<Opened<'m, 'h, P::Input, P::Output, M>, Unserved<'a>>
-    requires { P.opened opener.old ≡ 0 }
+    requires { P.opened opener.old ≤ 1 }
     ensures start { IfOk result (λ files. CanStart files.0) }
     ensures beside { IfOk result (λ files. ForSome files.1 (λ b. (P.Input.count b.0 ≡ 0) × (P.Input.count b.1 ≡ 0))) }
     ensures fresh { IfOk result (λ files. records_failed P.Output.count files.2.0 ≡ 0) }
@@ -361,6 +369,8 @@ fn open_all<'a, 'm, 'h, P: Opens<'a>, M: Meter>(
 fn finish_all<'a, W: Output + Drop>(
     alloc: Global,
     request: LinkRequest<'_, '_>,
+    piece: Option<Piece>,
+    mode: &Mode,
     exit: Exit,
     begun: bool,
     recorded: Recorded<W>,
@@ -370,7 +380,10 @@ fn finish_all<'a, W: Output + Drop>(
     requires about { wanted_count (λ t. W.count t.to) recorded.1 ≡ 0 }
     ensures { OnErr result (exit ≢ Exit.Fault) }
 {
-    let (records, about) = recorded;
+    let (mut records, about) = recorded;
+    if end_records(piece, mode, exit, &mut records).is_err() {
+        return Err(Unserved::Write);
+    }
     match finish_command(exit, begun, records) {
         Ok(_) => finish_about(alloc, request, exit, begun, about, sums),
         Err(_) => Err(Unserved::Write),
@@ -392,14 +405,16 @@ pub fn with_link<'a, P: Opens<'a>, R: Disk + Clock + AllocGlobal, O: CountedWrit
     requires notes { CanCount (E.count notes.old) }
     ensures { OnErr result (CanCount console.new.errors_failed) }
 {
-    let words = file_words(request);
     let alloc = terminal.host().alloc();
+    let seed = seed_for(opener, alloc, request)?;
+    let words = file_words(request, seed);
     let setup = setup_of(words.link).ok_or(Unserved::NoMode)?;
     let pace = pace_of(request, &setup.mode);
     let show = show_of(terminal, pace, words.progress, words.notes_gaps);
     let unseen = Show::new(terminal, pace, false);
+    let (read, unread) = (Tally::new(&show), Tally::new(&unseen));
     let (mut files, beside, mut recorded) = open_all(
-        opener, alloc, &show, &unseen, setup.mode, &words, sums,
+        opener, alloc, &read, &unread, setup.mode, &words, sums,
     )?;
     let exit = run_on_files(
         setup,
@@ -416,7 +431,16 @@ pub fn with_link<'a, P: Opens<'a>, R: Disk + Clock + AllocGlobal, O: CountedWrit
     let exit = conclude_packets(terminal, words.noted_packets, left_out, exit);
     let begun = files.to.is_begun();
     let frames = recorded_frames(&recorded.0);
-    match finish_all(alloc, request, exit, begun, recorded, sums) {
+    match finish_all(
+        alloc,
+        request,
+        searched(words.piece, &setup.mode, read.symbols()),
+        &setup.mode,
+        exit,
+        begun,
+        recorded,
+        sums,
+    ) {
         Ok(_) => end_piece(words.piece, frames, exit, console),
         Err(unserved) => Err(unserved),
     }

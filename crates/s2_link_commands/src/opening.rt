@@ -1,5 +1,5 @@
 //! Opens the files of a command on a link.
-ghost use Rattle.std.specs.Prelude.{◌≡◌, ◌^◌, ◌<◌, IfOk, OnOk};
+ghost use Rattle.std.specs.Prelude.{◌≡◌, ◌^◌, ◌<◌, ◌≤◌, IfOk, OnOk};
 ghost use Rattle.std.specs.Option.{ForSome};
 ghost use Rattle.either.specs.Either.{either};
 ghost use Rattle.s2_io.specs.Files.{CanStart};
@@ -40,9 +40,9 @@ fn read_as<'a, P: Opens<'a>>(
     name: &'a str,
     buffered: bool,
 ) -> Result<P::Input, Unserved<'a>>
-    requires room { P.opened opener.old ≡ 1 }
+    requires room { P.opened opener.old ≤ 2 }
     ensures fresh { IfOk result (λ file. P.Input.count file ≡ 0) }
-    ensures count { OnOk result (P.opened opener.new ≡ 2) }
+    ensures count { OnOk result (P.opened opener.new ≤ 3) }
 {
     if buffered {
         opener.read_buffered(name)
@@ -76,8 +76,8 @@ pub(crate) fn open_two<'a, P: Opens<'a>, M: Meter>(
     buffered: bool,
     limit: Option<u64>,
 ) -> Result<(P::Input, P::Input), Unserved<'a>>
-    requires first { P.opened opener.old ≡ 0 }
-    ensures room { OnOk result (P.opened opener.new ≡ 2) }
+    requires first { P.opened opener.old ≤ 1 }
+    ensures room { OnOk result (P.opened opener.new ≤ 3) }
     ensures inputs { IfOk result (λ files. (P.Input.count files.0 ≡ 0) × (P.Input.count files.1 ≡ 0)) }
 {
     let rows = opener.read(rows)?;

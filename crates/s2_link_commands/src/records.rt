@@ -7,7 +7,7 @@ use s2_io::{Exit, Output, Truncating};
 use s2_mode::{Mode, WriteFault};
 use s2_opening::{Opens, Unserved};
 use s2_records::{Bbframes, Certificates, Codewords, Labels, PlainSymbols, Recorder, Values};
-use s2_words::{RecordArguments, SentRecordArguments};
+use s2_words::{Piece, RecordArguments, SentRecordArguments};
 use std::alloc::Global;
 
 /// The sinks of a receiver's records, each if its file is given. Frames go to them in this order.
@@ -38,10 +38,12 @@ pub(crate) type Records<W> = (ReceivedRecords<W>, SentRecords<W>);
 #[derive(Clone, Copy)]
 pub(crate) enum RecordNames<'a> {
     Received(RecordArguments<'a>),
-    /// The file of the records of a piece, the position at which the piece begins, and whether certificates are recorded.
+    /// The file of the records of a piece, the position at which the piece begins, the seed of the records' seals, and whether
+    /// certificates are recorded.
     OfPiece {
         to: &'a str,
         from: u64,
+        seed: u64,
         certificates: bool,
     },
     Sent(SentRecordArguments<'a>),
@@ -54,7 +56,7 @@ fn open_certificates<'a, P: Opens<'a>>(
     mode: Mode,
     name: Option<&'a str>,
 ) -> Result<Option<Certificates<Truncating<P::Output>>>, Unserved<'a>>
-    requires room { P.opened opener.old < 10 }
+    requires room { P.opened opener.old < 12 }
     ensures room { OnOk result (P.opened opener.new ≤ P.opened opener.old + 1) }
     ensures fresh { IfOk result (λ made. wanted_count (λ file. P.Output.count file.to) made ≡ 0) }
 {
@@ -75,7 +77,7 @@ fn open_values<'a, P: Opens<'a>>(
     mode: Mode,
     name: Option<&'a str>,
 ) -> Result<Option<Values<Truncating<P::Output>>>, Unserved<'a>>
-    requires room { P.opened opener.old < 10 }
+    requires room { P.opened opener.old < 12 }
     ensures room { OnOk result (P.opened opener.new ≤ P.opened opener.old + 1) }
     ensures fresh { IfOk result (λ made. wanted_count (λ file. P.Output.count file.to) made ≡ 0) }
 {
@@ -96,7 +98,7 @@ fn open_codewords<'a, P: Opens<'a>>(
     mode: Mode,
     name: Option<&'a str>,
 ) -> Result<Option<Codewords<Truncating<P::Output>>>, Unserved<'a>>
-    requires room { P.opened opener.old < 10 }
+    requires room { P.opened opener.old < 12 }
     ensures room { OnOk result (P.opened opener.new ≤ P.opened opener.old + 1) }
     ensures fresh { IfOk result (λ made. wanted_count (λ file. P.Output.count file.to) made ≡ 0) }
 {
@@ -117,7 +119,7 @@ fn open_bbframes<'a, P: Opens<'a>>(
     mode: Mode,
     name: Option<&'a str>,
 ) -> Result<Option<Bbframes<Truncating<P::Output>>>, Unserved<'a>>
-    requires room { P.opened opener.old < 10 }
+    requires room { P.opened opener.old < 12 }
     ensures room { OnOk result (P.opened opener.new ≤ P.opened opener.old + 1) }
     ensures fresh { IfOk result (λ made. wanted_count (λ sink. P.Output.count sink.to.to) made ≡ 0) }
 {
@@ -138,7 +140,7 @@ fn open_labels<'a, P: Opens<'a>>(
     mode: Mode,
     name: Option<&'a str>,
 ) -> Result<Option<Labels<Truncating<P::Output>>>, Unserved<'a>>
-    requires room { P.opened opener.old < 10 }
+    requires room { P.opened opener.old < 12 }
     ensures room { OnOk result (P.opened opener.new ≤ P.opened opener.old + 1) }
     ensures fresh { IfOk result (λ made. wanted_count (λ sink. P.Output.count sink.to.to) made ≡ 0) }
 {
@@ -159,7 +161,7 @@ fn open_plain_symbols<'a, P: Opens<'a>>(
     mode: Mode,
     name: Option<&'a str>,
 ) -> Result<Option<PlainSymbols<Truncating<P::Output>>>, Unserved<'a>>
-    requires room { P.opened opener.old < 10 }
+    requires room { P.opened opener.old < 12 }
     ensures room { OnOk result (P.opened opener.new ≤ P.opened opener.old + 1) }
     ensures fresh { IfOk result (λ made. wanted_count (λ sink. P.Output.count sink.to.to) made ≡ 0) }
 {
@@ -180,7 +182,7 @@ fn open_received<'a, P: Opens<'a>>(
     mode: Mode,
     words: RecordArguments<'a>,
 ) -> Result<ReceivedRecords<Truncating<P::Output>>, Unserved<'a>>
-    requires room { P.opened opener.old ≤ 5 }
+    requires room { P.opened opener.old ≤ 6 }
     ensures room { OnOk result (P.opened opener.new ≤ P.opened opener.old + 4) }
     ensures fresh { IfOk result (λ made. received_failed P.Output.count made ≡ 0) }
 {
@@ -197,14 +199,15 @@ fn open_recorder<'a, P: Opens<'a>>(
     alloc: Global,
     name: &'a str,
     from: u64,
+    seed: u64,
     certificates: bool,
 ) -> Result<ReceivedRecords<Truncating<P::Output>>, Unserved<'a>>
-    requires room { P.opened opener.old ≤ 5 }
+    requires room { P.opened opener.old ≤ 6 }
     ensures room { OnOk result (P.opened opener.new ≤ P.opened opener.old + 4) }
     ensures fresh { IfOk result (λ made. received_failed P.Output.count made ≡ 0) }
 {
     let file = Truncating::new(opener.write(name)?);
-    let recorder = Recorder::new(alloc, from, certificates, file);
+    let recorder = Recorder::new(alloc, from, seed, certificates, file);
     Ok((Some(recorder), (None, (None, (None, None)))))
 }
 
@@ -215,7 +218,7 @@ fn open_sent<'a, P: Opens<'a>>(
     mode: Mode,
     words: SentRecordArguments<'a>,
 ) -> Result<SentRecords<Truncating<P::Output>>, Unserved<'a>>
-    requires room { P.opened opener.old ≤ 5 }
+    requires room { P.opened opener.old ≤ 6 }
     ensures room { OnOk result (P.opened opener.new ≤ P.opened opener.old + 4) }
     ensures fresh { IfOk result (λ made. sent_failed P.Output.count made ≡ 0) }
 {
@@ -233,7 +236,7 @@ pub(crate) fn open_records<'a, P: Opens<'a>>(
     mode: Mode,
     names: RecordNames<'a>,
 ) -> Result<Records<Truncating<P::Output>>, Unserved<'a>>
-    requires room { P.opened opener.old ≤ 5 }
+    requires room { P.opened opener.old ≤ 6 }
     ensures room { OnOk result (P.opened opener.new ≤ P.opened opener.old + 4) }
     ensures fresh { IfOk result (λ made. records_failed P.Output.count made ≡ 0) }
 {
@@ -245,9 +248,10 @@ pub(crate) fn open_records<'a, P: Opens<'a>>(
         RecordNames::OfPiece {
             to,
             from,
+            seed,
             certificates,
         } => {
-            let received = open_recorder(opener, alloc, to, from, certificates)?;
+            let received = open_recorder(opener, alloc, to, from, seed, certificates)?;
             Ok((received, (None, (None, (None, None)))))
         }
         RecordNames::Sent(words) => {
@@ -263,6 +267,27 @@ pub(crate) fn recorded_frames<W: Output>(records: &Records<Truncating<W>>) -> u6
         Some(recorder) => recorder.records(),
         None => 0,
     }
+}
+
+/// Writes the end record of a piece of a mode, if a command without a fault received it and it is not the last one: no other
+/// frame of the piece begins in it. An empty piece has none.
+pub(crate) fn end_records<W: Output>(
+    piece: Option<Piece>,
+    mode: &Mode,
+    exit: Exit,
+    records: &mut Records<Truncating<W>>,
+) -> Result<(), WriteFault>
+    requires { records_failed W.count records.old ≤ 1 }
+    ensures few { OnOk result (records_failed W.count records.new ≤ 1) }
+    ensures first { OnErr result (exit ≢ Exit.Fault) }
+{
+    let (Some(piece), Some(recorder)) = (piece, &mut records.0.0) else {
+        return Ok(());
+    };
+    if exit == Exit::Fault || piece.is_last || piece.to <= piece.from {
+        return Ok(());
+    }
+    recorder.finish(piece.to - 1, mode.n())
 }
 
 /// Truncates a file if nothing was written to it.

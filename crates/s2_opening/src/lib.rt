@@ -22,6 +22,7 @@ mod opening;
 mod opens;
 mod screen;
 mod thinned;
+mod uses;
 
 pub use file_opener::FileOpener;
 pub use moved::Moved;

@@ -70,7 +70,7 @@ fn read_named<'a, 'h, P: Opens<'a>>(
     name: Option<&'a str>,
     sum: Option<&'h SharedSum>,
 ) -> Result<Option<Hashed<'h, P::Input>>, Unserved<'a>>
-    requires room { P.opened opener.old < 10 }
+    requires room { P.opened opener.old < 12 }
     ensures count { OnOk result (P.opened opener.new ≤ P.opened opener.old + 1) }
     ensures fresh { IfOk result (λ made. IfSome made (λ file. P.Input.count file.inner ≡ 0)) }
 {

@@ -12,10 +12,14 @@ pub enum Unserved<'a> {
     /// The file of this name is used twice.
     UsedTwice(&'a str),
     NoMemory,
+    /// A row file that is read before its command cannot be read.
+    Read,
     /// The rest of an output cannot be written.
     Write,
     /// The symbols are to be read twice, and come from a stream.
     ReadOnce,
+    /// The row file is to be read twice, and comes from a stream.
+    RowsReadOnce,
     /// The standard has no mode with these numbers.
     NoMode,
     /// No code has a shape with these numbers.
@@ -30,7 +34,7 @@ pub trait Finishes {
     fn finish(self) -> Result<(), WriteFault>;
 }
 
-/// It opens the files of a command by their names, at most 10, each once. To contracts it is the number of files that it has
+/// It opens the files of a command by their names, at most 12, each once. To contracts it is the number of files that it has
 /// opened.
 pub trait Opens<'a> {
     /// An opened input.
@@ -43,25 +47,25 @@ pub trait Opens<'a> {
 
     /// Opens an input.
     fn read(&mut self, name: &'a str) -> Result<Self::Input, Unserved<'a>>
-        requires room { opened self.old < 10 }
+        requires room { opened self.old < 12 }
         ensures fresh { IfOk result (λ file. Self.Input.count file ≡ 0) }
         ensures count { OnOk result (opened self.new ≡ opened self.old + 1) };
 
     /// Opens an input with a buffer.
     fn read_buffered(&mut self, name: &'a str) -> Result<Self::Input, Unserved<'a>>
-        requires room { opened self.old < 10 }
+        requires room { opened self.old < 12 }
         ensures fresh { IfOk result (λ file. Self.Input.count file ≡ 0) }
         ensures count { OnOk result (opened self.new ≡ opened self.old + 1) };
 
     /// Opens an output.
     fn write(&mut self, name: &'a str) -> Result<Self::Output, Unserved<'a>>
-        requires room { opened self.old < 10 }
+        requires room { opened self.old < 12 }
         ensures fresh { IfOk result (λ file. Self.Output.count file ≡ 0) }
         ensures count { OnOk result (opened self.new ≡ opened self.old + 1) };
 
     /// Opens an output with a buffer.
     fn write_buffered(&mut self, name: &'a str) -> Result<Self::Output, Unserved<'a>>
-        requires room { opened self.old < 10 }
+        requires room { opened self.old < 12 }
         ensures fresh { IfOk result (λ file. Self.Output.count file ≡ 0) }
         ensures count { OnOk result (opened self.new ≡ opened self.old + 1) };
 

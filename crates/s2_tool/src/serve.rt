@@ -140,10 +140,14 @@ fn fault_of<'a>(unserved: Unserved<'a>) -> Fault<'a> {
         Unserved::Open(name) => Fault::Open(name),
         Unserved::UsedTwice(name) => Fault::UsedTwice(name),
         Unserved::NoMemory => Fault::NoMemory,
+        Unserved::Read => Fault::Read,
         Unserved::Write => Fault::Write,
         Unserved::ReadOnce => Fault::refused(FaultText::of(
             "symbols: no regular file, which can be read twice: use --again",
         )),
+        Unserved::RowsReadOnce => {
+            Fault::of_rows(FaultText::of("no regular file, which can be read twice"))
+        }
         Unserved::NoMode => Fault::refused(FaultText::of("no such mode")),
         Unserved::NoShape => Fault::refused(FaultText::of("no such shape")),
         Unserved::OutOfRange => Fault::refused(FaultText::of("a number is out of its range")),
