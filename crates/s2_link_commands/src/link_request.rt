@@ -410,11 +410,10 @@ pub fn with_link<'a, P: Opens<'a>, R: Disk + Clock + AllocGlobal, O: CountedWrit
     let words = file_words(request, seed);
     let setup = setup_of(words.link).ok_or(Unserved::NoMode)?;
     let pace = pace_of(request, &setup.mode);
-    let show = show_of(terminal, pace, words.progress, words.notes_gaps);
-    let unseen = Show::new(terminal, pace, false);
-    let (read, unread) = (Tally::new(&show), Tally::new(&unseen));
+    let read = Tally::new(show_of(terminal, pace, words.progress, words.notes_gaps));
+    let unseen = Tally::new(Show::new(terminal, pace, false));
     let (mut files, beside, mut recorded) = open_all(
-        opener, alloc, &read, &unread, setup.mode, &words, sums,
+        opener, alloc, &read, &unseen, setup.mode, &words, sums,
     )?;
     let exit = run_on_files(
         setup,
@@ -426,7 +425,7 @@ pub fn with_link<'a, P: Opens<'a>, R: Disk + Clock + AllocGlobal, O: CountedWrit
         notes,
         alloc,
     );
-    show.finish();
+    read.meter().finish();
     let left_out = files.from.left_out();
     let exit = conclude_packets(terminal, words.noted_packets, left_out, exit);
     let begun = files.to.is_begun();

@@ -3,24 +3,29 @@ use s2_io::Meter;
 use std::cell::Cell;
 
 /// A meter that passes everything on to another one, and counts the bytes that were read.
-pub(crate) struct Tally<'m, M> {
-    meter: &'m M,
+pub(crate) struct Tally<M> {
+    meter: M,
     taken: Cell<u64>,
 }
 
-impl<'m, M> Drop for Tally<'m, M> {
+impl<M: Drop> Drop for Tally<M> {
     fn drop(self) {
         let Tally { meter: _, taken: _ } = self;
     }
 }
 
-impl<'m, M> Tally<'m, M> {
+impl<M> Tally<M> {
     /// Nothing was read yet.
-    pub fn new(meter: &'m M) -> Tally<'m, M> {
+    pub fn new(meter: M) -> Tally<M> {
         Tally {
             meter,
             taken: Cell::new(0),
         }
+    }
+
+    /// The meter to which it passes everything on.
+    pub fn meter(&self) -> &M {
+        &self.meter
     }
 
     /// The number of complete symbols that were read.
@@ -29,7 +34,7 @@ impl<'m, M> Tally<'m, M> {
     }
 }
 
-impl<'m, M: Meter> Meter for Tally<'m, M> {
+impl<M: Meter> Meter for Tally<M> {
     fn expect(&self, length: Option<u64>) {
         self.meter.expect(length);
     }
