@@ -25,12 +25,12 @@ STANDARD = ("-", "/dev/stdout")
 SYMBOL, FRAME, OVER = 4, 33282, 33282 + 90
 # Pieces for each process, and frames of a piece at least and at most. With --hosts and --slurm: frames at least, pieces at most.
 FOR_EACH, LEAST, MOST, LEAST_AWAY, MOST_AWAY = 8, 32, 1024, 512, 1000
-# Frames of a group of live; seconds without input that end a group, and that are noted.
-GROUP, PAUSE, LONG = 63, 0.1, 1.0
+# Frames of a group; seconds without input that end it, and that are noted; bytes that a copy keeps: more than a pipe, buffers and three frames.
+GROUP, PAUSE, LONG, PASSED = 63, 0.1, 1.0, 1 << 20
 # The end of the name of an output that is not complete, which nobody can guess; the names of the files in a work folder.
 PART, OWN = f".pieces-{os.urandom(8).hex()}", re.compile(r"plan|log(-\d+)?|piece-\d{6,}(\.\d+)?|\..+\.pieces-\w{16}")
-# of Linux: the signal that a process gets when the thread that began it ends
-LIBC, PR_SET_PDEATHSIG = ctypes.CDLL(None), 1
+# of Linux: the signal that a process gets when the thread that began it ends, and a hole in a file of the same size
+LIBC, PR_SET_PDEATHSIG, FALLOC_FL_PUNCH_HOLE = ctypes.CDLL(None), 1, 3
 BOTH = {
     "--jobs": {"type": int, "metavar": "N", "help": "processes at a time: here (default: one for each core), on each host, or of the array job"},
     "--frames": {"type": int, "metavar": "F", "help": "frames of a piece or a group, if they have the greatest length"},
@@ -61,10 +61,9 @@ class Output(str):
 
 
 def program_of(chosen):
-    """The program: the one that is named, otherwise that of this folder, which is built first if that can be done. Of two, the one that `s2` runs."""
+    """The program: the one that is named, otherwise that of this folder: an archive has it itself, else it is built if possible. Of two, that of `s2`."""
     front, built = os.path.join(TOP, "s2"), os.path.join(TOP, "crates/s2_tool/out/s2_tool")
     if chosen or not os.path.exists(os.path.join(TOP, "crates.txt")):
-        # an archive has the program itself
         return os.path.abspath(chosen or front)
     if (shutil.which("rt") or not os.path.exists(built)) and subprocess.run([front, "--build"], check=False).returncode:
         sys.exit(1)
@@ -124,23 +123,34 @@ def tied(parent=os.getpid()):
 
 
 def received(what, words, symbols, at, others=()):
-    """Runs `s2 demod --piece` on a file from a place on. If it fails, it runs once more."""
+    """What `s2 demod --piece` reports of a file from a place on. If it fails, it runs once more."""
     for _ in range(2):
         os.lseek(symbols.fileno(), at, os.SEEK_SET)
         ended = subprocess.run(words, stdin=symbols, capture_output=True, pass_fds=others, preexec_fn=tied, check=False)
         if not ended.returncode:
-            return
+            return ended.stdout
     last = ended.stderr.decode(errors="replace").strip().split("\n")[-1]
     raise Fault(f"{what}: {subprocess.CalledProcessError(ended.returncode, 's2 demod')} {last}".rstrip())
 
 
-def pour(files, pipe):
-    """Writes files, each from a place on, to a pipe of `s2 stitch`. If that ends before, its exit status says why."""
+def pour(files, pipe, copy=None):
+    """Writes files, each from a place on, to a pipe of `s2 stitch`. If that ends before, its exit status says why. A copy keeps the last ones."""
+    passed = -PASSED
     with contextlib.suppress(BrokenPipeError):
         for file, at in files:
             while sent := os.sendfile(pipe.fileno(), file.fileno(), at, 1 << 20):
-                at += sent
+                at, passed = at + sent, passed + sent
+            copy and LIBC.fallocate(copy.fileno(), FALLOC_FL_PUNCH_HOLE, ctypes.c_long(0), ctypes.c_long(passed))
         pipe.close()
+
+
+def ahead(items, size=0):
+    """The items of a generator that runs in another thread, ahead by `size` items at most."""
+    found, end = queue.Queue(size), object()
+    running = ThreadPoolExecutor(1).submit(lambda: any(map(found.put, items)))
+    running.add_done_callback(lambda _: found.put(end))
+    yield from iter(found.get, end)
+    running.result()
 
 
 def stitched(words, outputs, records, *left):
@@ -296,52 +306,42 @@ def groups(chosen, wake):
             os.write(2, f"live: note: no symbols after {stop}\n".encode())
 
 
-def decoded(chosen, rows, wake, pipes):
-    """The records of the groups in order. Before, their symbols go to the two pipes of `s2 stitch`."""
-    jobs, table = chosen.jobs or len(os.sched_getaffinity(0)), open(rows, "rb")
-    begun, pool = queue.Queue(jobs), ThreadPoolExecutor(jobs)
+def decoded(chosen, rows, wake, pipe, copy):
+    """The records of the groups, after their symbols. While `s2 stitch` finds no frame it reads one record: the others of such a stretch are left out."""
+    pool, had_frames = ThreadPoolExecutor(jobs := chosen.jobs or len(os.sched_getaffinity(0))), True
 
     def decode(start, stop, symbols, shared):
         records = open(os.memfd_create("records"), "w+b", 0)
-        words = [*chosen.call, "--piece", f"{start}..{stop}", f"/dev/fd/{table.fileno()}", "-", f"/dev/fd/{records.fileno()}"]
-        received(f"symbols {start} to {stop}", words, symbols, 0, [table.fileno(), records.fileno()])
-        return records, (symbols, shared)
+        words = [*chosen.call, "--piece", f"{start}..{stop}", rows, "-", f"/dev/fd/{records.fileno()}"]
+        report = received(f"symbols {start} to {stop}", words, symbols, 0, [records.fileno()])
+        return report.split()[-1] != b"0", records, (symbols, shared)
 
-    def read():
-        try:
-            for group in groups(chosen, wake):
-                begun.put(pool.submit(decode, *group))
-        finally:
-            begun.put(None)
-
-    reading = ThreadPoolExecutor(1).submit(read)
-    for group in iter(begun.get, None):
-        records, symbols = group.result()
-        for it in pipes:
-            it.put(symbols)
-        yield records, 0
-    reading.result()
-    for it in pipes:
-        it.put(None)
+    for group in ahead((pool.submit(decode, *it) for it in groups(chosen, wake)), jobs):
+        has_frames, records, symbols = group.result()
+        copy.write(os.pread(symbols[0].fileno(), 1 << 30, symbols[1]))
+        pipe.put(symbols)
+        if has_frames or had_frames:
+            yield records, 0
+        had_frames = has_frames
+    pipe.put(None)
 
 
 def live(text):
     """The exit status of tools/live."""
     chosen = line_of("live", text, 1, LIVE)
-    (rows,), (wake, waker), names, pipes = chosen.files, os.pipe2(os.O_NONBLOCK | os.O_CLOEXEC), [], (queue.SimpleQueue(), queue.SimpleQueue())
+    (rows,), (wake, waker), pipe = chosen.files, os.pipe2(os.O_NONBLOCK | os.O_CLOEXEC), queue.SimpleQueue()
+    copy = open(os.memfd_create("copy", 0), "w+b", 0)
     outputs = outputs_of(chosen, [rows], [rows, "-", "-"])
     signal.set_wakeup_fd(waker)
     for it in (signal.SIGTERM, signal.SIGINT):
         # one that is ignored, as SIGINT is in the background of a shell, stays so; a second SIGINT ends the tool
         if signal.getsignal(it) != signal.SIG_IGN:
             signal.signal(it, lambda number, _: number == signal.SIGINT and signal.signal(number, signal.default_int_handler))
-    for it in pipes:
-        end, into = os.pipe()
-        os.set_inheritable(end, True)
-        names.append(f"/dev/fd/{end}")
-        ThreadPoolExecutor(1).submit(pour, iter(it.get, None), open(into, "wb"))
-    words = [chosen.s2, "stitch", *chosen.words, "--again", names[0], rows, names[1], "-", "-"]
-    code = stitched(words, outputs, decoded(chosen, rows, wake, pipes))
+    end, into = os.pipe()
+    os.set_inheritable(end, True)
+    ThreadPoolExecutor(1).submit(pour, iter(pipe.get, None), open(into, "wb"), copy)
+    words = [chosen.s2, "stitch", *chosen.words, "--again", f"/dev/fd/{copy.fileno()}", rows, f"/dev/fd/{end}", "-", "-"]
+    code = stitched(words, outputs, ahead(decoded(chosen, rows, wake, pipe, copy)))
     return 128 + os.read(wake, 1)[0] if code != 1 and select.select([wake], [], [], 0)[0] else code
 
 

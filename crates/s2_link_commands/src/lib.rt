@@ -17,5 +17,6 @@ mod opening;
 mod piece;
 mod records;
 mod seed;
+mod tally;
 
 pub use link_request::{LinkRequest, with_link};

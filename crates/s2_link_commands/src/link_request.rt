@@ -10,11 +10,12 @@ ghost use Rattle.s2_link_commands.specs.Failed.{records_failed};
 use crate::about::{AboutFile, finish_about, open_about};
 use crate::beside::{Beside, BesideNames, open_beside};
 use crate::opening::{Reading, Watching, link_files, open_two};
-use crate::piece::{end_piece, symbols_of};
+use crate::piece::{end_piece, searched, symbols_of};
 use crate::records::{
     RecordNames, Records, end_records, finish_command, open_records, recorded_frames,
 };
 use crate::seed::seed_for;
+use crate::tally::Tally;
 use s2_about::FileSums;
 use s2_commands::{DemodOptions, LinkFiles, RunOptions, demod_command, mod_command, run_command};
 use s2_io::{Console, Disk, Exit, Meter, Output, Pace, Show, Terminal, Truncating};
@@ -411,8 +412,9 @@ pub fn with_link<'a, P: Opens<'a>, R: Disk + Clock + AllocGlobal, O: CountedWrit
     let pace = pace_of(request, &setup.mode);
     let show = show_of(terminal, pace, words.progress, words.notes_gaps);
     let unseen = Show::new(terminal, pace, false);
+    let (read, unread) = (Tally::new(&show), Tally::new(&unseen));
     let (mut files, beside, mut recorded) = open_all(
-        opener, alloc, &show, &unseen, setup.mode, &words, sums,
+        opener, alloc, &read, &unread, setup.mode, &words, sums,
     )?;
     let exit = run_on_files(
         setup,
@@ -432,7 +434,7 @@ pub fn with_link<'a, P: Opens<'a>, R: Disk + Clock + AllocGlobal, O: CountedWrit
     match finish_all(
         alloc,
         request,
-        words.piece,
+        searched(words.piece, &setup.mode, read.symbols()),
         &setup.mode,
         exit,
         begun,

@@ -1,4 +1,4 @@
-//! The seed of the seals of records: a number that stands for the rows and for all options of the receiver. This is plain code.
+//! The seed of the seals of records: a number that identifies the rows and all options of the receiver. This is plain code.
 ghost use Rattle.std.specs.Prelude.{◌≡◌, ◌≤◌, OnOk};
 ghost use Rattle.s2_mode.specs.Counts.{CanCount};
 

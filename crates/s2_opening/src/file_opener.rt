@@ -13,7 +13,7 @@ type Unnamed<R> = Reader<<R as Files>::File, <R as StandardStreams>::Input>;
 /// An output before it has its name.
 type UnnamedOutput<R> = Target<<R as Files>::File, <R as StandardStreams>::Output>;
 
-/// Opens the files of a command, each with an opener of its own. A call on one of them that fails is noted on a terminal.
+/// Opens the files of a command, each with its own opener. A call on one of them that fails is noted on a terminal.
 pub struct FileOpener<'t, 'r, R> {
     terminal: &'t Terminal<'r, R>,
     uses: Uses,

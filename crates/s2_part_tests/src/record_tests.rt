@@ -31,7 +31,15 @@ fn writes_the_vector(rt: HostRuntime) -> Result<(), Fail> {
     let word = Bits::from_bytes(rt.alloc(), &RECORD[FRONT..FRONT + 2], 12)?;
     let mut block = Vec::new(rt.alloc());
     let verdict = Some(Verdict::Parity);
-    record_into(&mut block, 258, SEAL, 3, verdict, &word, &RECORD[FRONT + 2..])?;
+    record_into(
+        &mut block,
+        258,
+        SEAL,
+        3,
+        verdict,
+        &word,
+        &RECORD[FRONT + 2..],
+    )?;
     assert!(rt; block.as_slice() == RECORD);
     Ok(())
 }

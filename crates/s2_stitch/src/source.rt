@@ -124,9 +124,7 @@ fn next_frame<'a, Q: CountedRead, C: CountedRead>(
     ensures counts { CountsSource (fault_in result) (Q.count records.old) (Q.count records.new) (C.count copy.old) (C.count copy.new) }
 {
     match next_usable(alloc, matrix, records, mode.n(), at.max(*place)) {
-        Ok(Some(usable)) => {
-            read_usable(alloc, matrix, seed, mode, reader, copy, place, usable)
-        }
+        Ok(Some(usable)) => { read_usable(alloc, matrix, seed, mode, reader, copy, place, usable) }
         Ok(None) => Ok(None),
         Err(fault) => Err(SourceFault::Records(fault)),
     }

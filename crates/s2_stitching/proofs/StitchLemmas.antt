@@ -1,42 +1,25 @@
 -- A reception by records that are true, from its beginning.
-use Rattle.std.proofs.Common.{◌≡◌, ℕ, Bool, List, Option, None, Result, Err, refl, sym, ap, subst, ◌∙◌, inl, inr}
+use Rattle.std.proofs.Common.{◌≡◌, ◌⊎◌, ℕ, Bool, List, Option, None, Result, Ok, Err, refl, sym, ap, subst, ◌∙◌, inl, inr}
 use Rattle.s2_mode.specs.Streams.{Streams}
 use Rattle.s2_mode.specs.declared.symbols.Symbol.{Symbol}
 use Rattle.s2_link.specs.Link.{Link}
 use Rattle.s2_tuning.specs.Tuning.{Tuning}
 use Rattle.s2_receive.specs.Receiving.{Decision, Rules, State, begun}
-use Rattle.s2_mode.specs.declared.stream_fault.StreamFault.{StreamFault}
-use Rattle.s2_receive.specs.Sinks.{RunAnswersWith, Taking}
+use Rattle.s2_receive.specs.Sinks.{Taking}
 use Rattle.s2_receive.specs.declared.report.Received.{Received}
 use Rattle.s2_io.specs.declared.fault.Fault.{Fault}
 use Rattle.s2_commands.specs.Ends.{BeginsWith, Ends, ends_of}
 use Rattle.s2_stitch.specs.Recalling.{Recalling, recalls}
 use Rattle.s2_stitch.specs.Sources.{AreTrueLeft, RecordSource, source_by}
-use Rattle.s2_stitch.specs.Stitching.{AreTrue, HasMet, StitchesAs}
+use Rattle.s2_stitch.specs.Stitching.{AreTrue, HasMet}
 use Rattle.s2_stitch.specs.declared.fault.SourceFault.{SourceFault}
-use Rattle.s2_stitch.specs.declared.fault.StitchFault.{StitchFault}
-use Rattle.s2_stitch.specs.declared.fault.StitchFault.TheVariants as faults
-use Rattle.s2_stitching.specs.Stitches.{AreTrueBy, StitchesOn, StitchesToEnd, Unread, fault_of, rules_with, terms_on, unread_by}
+use Rattle.s2_stitching.specs.Stitches.{AreTrueBy, StitchesBy, StitchesOn, StitchesToEnd, Unread, fault_of, rules_with, terms_on, unread_by}
 
 -- a run that stopped at a record, from its beginning
 pub stopped_from : {K : Type 0} (takes fails : Taking K) (rules : Rules) (start state : State) (old new : Ends K) (fault : SourceFault) → start ≡ begun
     → HasMet takes rules start state old.sinks new.sinks old.streams new.streams → StitchesToEnd takes fails rules old new (Err (fault_of fault))
 stopped_from takes fails rules start state old new fault started h =
     inr (fault, refl, (state, subst (λ s. HasMet takes rules s state old.sinks new.sinks old.streams new.streams) started h))
-
--- a run that a fault of a stream ended, from its beginning
-pub failed_by : {K : Type 0} (takes fails : Taking K) (rules : Rules) (start state : State) (sinks sinks_new : K) (before behind : Streams) (fault : StitchFault) (inner other : StreamFault) → fault ≡ faults.Stream inner → inner ≡ other → start ≡ begun
-    → StitchesAs takes fails rules start state sinks sinks_new before behind (Err fault) → RunAnswersWith takes fails rules begun state sinks sinks_new before behind (Err other)
-failed_by takes fails rules start state sinks sinks_new before behind fault inner other is same started h =
-    let one = subst (λ f. StitchesAs takes fails rules start state sinks sinks_new before behind (Err f)) (is ∙ ap faults.Stream same) h in
-    subst (λ s. RunAnswersWith takes fails rules s state sinks sinks_new before behind (Err other)) started one
-
--- and one that a fault of the source ended
-pub stopped_by : {K : Type 0} (takes fails : Taking K) (rules : Rules) (start state : State) (old new : Ends K) (fault : StitchFault) (inner : SourceFault) (reported : Fault) → fault ≡ faults.Source inner → reported ≡ fault_of inner → start ≡ begun
-    → StitchesAs takes fails rules start state old.sinks new.sinks old.streams new.streams (Err fault) → StitchesToEnd takes fails rules old new (Err reported)
-stopped_by takes fails rules start state old new fault inner reported is told started h =
-    let one = subst (λ f. StitchesAs takes fails rules start state old.sinks new.sinks old.streams new.streams (Err f)) is h in
-    subst (λ f. StitchesToEnd takes fails rules old new (Err f)) (sym told) (stopped_from takes fails rules start state old new inner started one)
 
 -- what is received between these streams
 pub stitched_from : {K : Type 0} (takes fails : Taking K) (rules : Rules) (sinks : K) (first before : Streams) (new : Ends K) (ended : Result Received Fault) → first ≡ before
@@ -53,22 +36,22 @@ true_from decide records record_reads copy copy_reads r source link tuning seed 
 }
 
 -- what it does after it began its output, if that follows
-pub begins_so : {K T : Type 0} (P Q : (old new : Ends K) → Result T Fault → Type 0) (is_begun : Bool) (old new : Ends K) (ended : Result T Fault)
-    → ((old new : Ends K) → P old new ended → Q old new ended) → BeginsWith P is_begun old new ended → BeginsWith Q is_begun old new ended
-begins_so P Q is_begun old new ended so (is, inl does) = (is, inl (so old new does))
-begins_so P Q is_begun old new ended so (is, inr cannot) = (is, inr cannot)
+pub begins_so : {K T : Type 0} (P Q : (old new : Ends K) → Result T Fault → Type 0) (begun : Bool) (old new : Ends K) (ended : Result T Fault)
+    → ((old new : Ends K) → P old new ended → Q old new ended) → BeginsWith P begun old new ended → BeginsWith Q begun old new ended
+begins_so P Q truncated old new ended so (is, inl does) = (is, inl (so old new does))
+begins_so P Q truncated old new ended so (is, inr cannot) = (is, inr cannot)
 
 -- a receiver of a link with such a source receives on the link
 pub stitches_on : {D K Q C : Type 0} (takes fails : Taking K) (decide : D → List Symbol → Decision) (records : Q → Option (List ℕ)) (record_reads : Q → ℕ) (copy : C → Option (List ℕ)) (copy_reads : C → ℕ) (r : Recalling D) (source : RecordSource) (rules : Rules) (link : Link) (tuning : Tuning) (seed : ℕ) (q : Q) (c : C)
     → r.held ≡ None → source ≡ source_by records record_reads copy copy_reads (terms_on seed link tuning) q c 0 None → rules ≡ rules_with (decide r.decider) link tuning
-    → (is_begun : Bool) (old new : Ends K) (ended : Result Received Fault)
-    → BeginsWith (λ before behind result. AreTrue decide r source → StitchesToEnd takes fails rules before behind result) is_begun old new ended
-    → StitchesOn takes fails (decide r.decider) tuning (unread_by records copy seed q c) link is_begun old new ended
-stitches_on takes fails decide records record_reads copy copy_reads r source rules link tuning seed q c none is same is_begun old new ended h =
-    inl (begins_so (λ before behind result. AreTrue decide r source → StitchesToEnd takes fails rules before behind result) (λ before behind result. AreTrueBy (decide r.decider) link tuning (unread_by records copy seed q c) → StitchesToEnd takes fails (rules_with (decide r.decider) link tuning) before behind result) is_begun old new ended (λ before behind does are.
+    → (begun : Bool) (old new : Ends K) (ended : Result Received Fault)
+    → BeginsWith (λ before behind result. AreTrue decide r source → StitchesToEnd takes fails rules before behind result) begun old new ended
+    → StitchesOn takes fails (decide r.decider) tuning (unread_by records copy seed q c) link begun old new ended
+stitches_on takes fails decide records record_reads copy copy_reads r source rules link tuning seed q c none is same begun old new ended h =
+    inl (begins_so (λ before behind result. AreTrue decide r source → StitchesToEnd takes fails rules before behind result) (λ before behind result. AreTrueBy (decide r.decider) link tuning (unread_by records copy seed q c) → StitchesToEnd takes fails (rules_with (decide r.decider) link tuning) before behind result) begun old new ended (λ before behind does are.
     subst (λ rs. StitchesToEnd takes fails rs before behind ended) same (does (true_from decide records record_reads copy copy_reads r source link tuning seed q c none is are))) h)
 
 -- the same by the decisions of an equal rule
-pub stitches_so : {K : Type 0} (takes fails : Taking K) (one other : List Symbol → Decision) (tuning : Tuning) (unread : Unread) (link : Link) (is_begun : Bool) (old new : Ends K) (ended : Result Received Fault) → one ≡ other
-    → StitchesOn takes fails one tuning unread link is_begun old new ended → StitchesOn takes fails other tuning unread link is_begun old new ended
-stitches_so takes fails one other tuning unread link is_begun old new ended same h = subst (λ decide. StitchesOn takes fails decide tuning unread link is_begun old new ended) same h
+pub stitches_so : {K : Type 0} (takes fails : Taking K) (one other : List Symbol → Decision) (tuning : Tuning) (unread : Unread) (link : Link) (begun : Bool) (old new : Ends K) (ended : Result Received Fault) → one ≡ other
+    → StitchesOn takes fails one tuning unread link begun old new ended → StitchesOn takes fails other tuning unread link begun old new ended
+stitches_so takes fails one other tuning unread link begun old new ended same h = subst (λ decide. StitchesOn takes fails decide tuning unread link begun old new ended) same h

@@ -1,5 +1,5 @@
 -- The record of a receiver's decision is true, and has the seal of its frame.
-use Rattle.std.proofs.Common.{◌≡◌, ℕ, ℤ, Bool, true, false, ◌==◌, ◌&&◌, if◌then◌else◌, List, take, Option, Some, None, refl, ap, subst, ◌∙◌}
+use Rattle.std.proofs.Common.{◌≡◌, ℕ, ℤ, Bool, true, false, ◌==◌, ◌&&◌, if◌then◌else◌, List, [], take, Option, Some, None, Ok, refl, ap, subst, ◌∙◌}
 use Rattle.std.specs.Prelude.{⊤}
 use Rattle.s2_mode.specs.Limits.{header_symbols}
 use Rattle.s2_mode.specs.Mode.{Mode}
@@ -22,7 +22,7 @@ use Rattle.s2_message.specs.Header.{energy_of}
 use Rattle.s2_bch.specs.Decoding.{nearest}
 use Rattle.s2_receive.specs.Receiving.{Decision}
 use Rattle.s2_modem.specs.Reports.{frame_decision, frame_soft}
-use Rattle.s2_settle.specs.Settled.{ended, moved_view, moves_in, reaches, settled, view_in}
+use Rattle.s2_settle.specs.Settled.{ended, if_strict, moved_view, moves_in, reaches, settled, view_in}
 unfoldable use Rattle.s2_settle.specs.Settled.{is_strict}
 use Rattle.s2_split.specs.Making.{Shared, made_view, shared_views}
 use Rattle.s2_split.specs.Scattered.{repaired}
@@ -30,7 +30,7 @@ use Rattle.s2_tuning.specs.Tuning.{Tuning}
 use Rattle.s2_records.specs.Records.{certificate_bytes}
 use Rattle.s2_records.specs.Recording.{IsReadBack, record_of, rounds_of, said_of}
 use Rattle.s2_stitch.specs.Frames.{IsSealed, IsTrueRecord, certificate_of, decision_by, file_in, frame_at}
-use Rattle.s2_stitch.specs.Records.{seal_of}
+use Rattle.s2_stitch.specs.Records.{Record, seal_of}
 use Rattle.s2_stitch.proofs.FrameLemmas.{no_file}
 use Rattle.s2_stitching.specs.Laws.{TrueRecordLaw}
 use Rattle.s2_stitching.specs.Stitches.{decides_on, terms_on}

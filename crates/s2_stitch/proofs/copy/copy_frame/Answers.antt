@@ -25,5 +25,5 @@ returns-in-None-clause-copies g c =
     let copies = subst (CopiesTo c.args.at c.args.place.now c.copy_to.new.place (remaining c.args.copy.now) (remaining c.copy_to.new.copy)) whole c.in_ok-copy_to.ensures.copies in
     subst (λ place. CopiesFrame c.args.size c.args.at c.args.place.now place (remaining c.args.copy.now) (remaining c.read_symbols.new.copy) None) (sym copies.1)
     (copies_cut c.args.size c.args.at c.args.place.now (remaining c.args.copy.now) (remaining c.copy_to.new.copy) (remaining c.read_symbols.new.copy)
-        (subst (λ place. CopiesTo c.args.at c.args.place.now place (remaining c.args.copy.now) (remaining c.copy_to.new.copy) true) copies.1 copies)
-        (rw c.in-None.is at c.in_ok-symbols.ensures.reads))
+    (subst (λ place. CopiesTo c.args.at c.args.place.now place (remaining c.args.copy.now) (remaining c.copy_to.new.copy) true) copies.1 copies)
+    (rw c.in-None.is at c.in_ok-symbols.ensures.reads))
