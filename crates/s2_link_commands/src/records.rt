@@ -269,11 +269,13 @@ pub(crate) fn recorded_frames<W: Output>(records: &Records<Truncating<W>>) -> u6
     }
 }
 
-/// The position of the end record of a piece: no other frame of the piece begins there or before. The last piece has none, and
-/// neither has an empty one.
-pub(crate) fn end_of(piece: Option<Piece>) -> Option<u64> {
+/// The position of the end record of a piece with this number of recorded frames: `stitch` waits for no other record up to there. A piece
+/// has one if it has no frame, so that its records are not nothing. The last piece has none, and neither has an empty one.
+pub(crate) fn end_of(piece: Option<Piece>, frames: u64) -> Option<u64> {
     match piece {
-        Some(piece) if !piece.is_last && piece.from < piece.to => Some(piece.to - 1),
+        Some(piece) if frames == 0 && !piece.is_last && piece.from < piece.to => {
+            Some(piece.to - 1)
+        }
         _ => None,
     }
 }
