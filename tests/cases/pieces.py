@@ -1,5 +1,4 @@
-"""`demod --piece` and `stitch`: the expected records are computed from the sent symbols, by the definitions in `specs/` of s2_stitch and s2_records.
-The number at which a seal begins is of the SHA-256 of the rows, of the lines of --about on the receiver's options, and of one byte."""
+"""`demod --piece` and `stitch`: the expected records are computed from the sent symbols, as docs/formats.md describes them."""
 import hashlib
 import json
 import struct
@@ -16,7 +15,7 @@ ROWS_ONCE, SYMBOLS_ONCE = "rows: no regular file, which can be read twice", "sym
 
 
 def seed(made, options=None, certificates=False):
-    """The number that stands for the rows and the options."""
+    """The number that identifies the rows and the options."""
     lines = about.MODE | about.FOUND | about.DECODING | (options or {})
     text = "".join(f",\n  {json.dumps(key)}: {json.dumps(value)}" for key, value in lines.items())
     return int.from_bytes(hashlib.sha256(made + text.encode() + bytes([certificates])).digest()[:8], "big")
@@ -32,14 +31,14 @@ def record(begun, soft, at, verdict, word, certificate=b"", rounds=0):
 
 def piece(symbols, begun, first=0, stop=None, certificates=False, cut=0):
     """The records of frames of LINK without noise. The first begins at this position. `stop` is that after the last symbol of the piece, if it is not
-    the last one: it has an end record up to the last symbol that has a frame and a header after it. `cut` symbols come after the last frame."""
+    the last one. `cut` symbols come after the last frame."""
     files = certificates_of(symbols) if certificates else [b""] * (len(symbols) // (4 * FRAME))
     found = [record(begun, soft, first + at * FRAME, SOLE, records.packed(word), files[at]) for at, (soft, word) in enumerate(records.decided(symbols))]
     return b"".join([*found, end_record(begun, first, stop, len(symbols) // 4 + cut) if stop else b""])
 
 
 def end_record(begun, first, stop, came):
-    """The end record of a piece of which so many symbols came, if there is one."""
+    """The end record of a piece, up to the last of `came` symbols that has a frame and a header after it."""
     stop = min(stop, first + max(0, came - FRAME - HEADER))
     return record(begun, [], stop - 1, END, bytes(BITS // 8)) if stop > first else b""
 
@@ -69,7 +68,7 @@ def piece_cases(two, made):
     yield case("--piece 0..16380 --last", TWO + line(0, 16380, 1, 2), piece(two, begun))
     yield case("--piece 0..16380", TWO + line(0, 16380, 0, 2), piece(two, begun, 0, 16380))
     yield case("--piece=1000..17380", moved(1000) + line(1000, 17380, 0, 2), piece(two, begun, 1000, 17380))
-    # as many symbols after it as a frame and a header have, so that a frame which begins in it is whole
+    # a frame and a header after it are received too, so a frame that begins in it is whole
     end = "end frames 1 delivered 1 packets 1 bad 0\n"
     yield case("--piece 0..8190", TWO + line(0, 8190, 0, 2), piece(two, begun, 0, 8190))
     cut = "cut at 8190 symbols 8189\n"
@@ -145,7 +144,7 @@ def stitch_cases(two, made):
     for cut in (1, 24, 25, len(first) - 1):
         yield refused(first[:cut], NO_RECORD)
     yield refused(first[:24] + b"\5" + first[25:], NO_RECORD)
-    # what was met before is written
+    # the frames before it are written
     yield refused(first + second[:-1], NO_RECORD, TWO.splitlines(True)[0], PACKET)
     # a record whose certificate is of other rows is passed, and its frame is decided here; a text is no certificate
     soft, word = next(records.decided(two))
