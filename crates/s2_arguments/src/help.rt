@@ -225,7 +225,7 @@ const DEMOD_MORE: &str = report!(
     "
 With --piece FROM..TO, for `stitch`:
   Up to TO - FROM symbols are read, and a frame and 90 symbols after them; with --last all symbols. ROWS is read twice, so it must be a regular file.
-  The last file gets a binary record of each frame in place of packets, and one for the end of the piece if it is not the last. No other files are written: --certificates only adds the certificates to the records.
+  The last file gets a binary record of each frame in place of packets, or one of the piece if it has no frame. No other files are written: --certificates only adds the certificates to the records.
   Symbols in the report are counted from the beginning of the recording. The report has one more line at the end, and the exit status is 0 unless there is an error:
   piece FROM TO last 0|1 frames N    N records were written; 1 with --last
 ",
