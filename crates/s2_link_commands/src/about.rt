@@ -46,7 +46,7 @@ pub(crate) fn push_receiver(
     push_fields(text, frames.as_slice())
 }
 
-/// The options of a transmitter: the roll-off, the frames between dummy frames, and whether wrong sync bytes are passed over.
+/// The options of a transmitter: the roll-off, the frames between dummy frames, and whether damaged packets are left out.
 fn sender_fields(words: &RunArguments<'_>) -> [Field; 3] {
     [
         Field {

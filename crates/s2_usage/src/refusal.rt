@@ -10,7 +10,7 @@ use clap::error::ErrorKind;
 use s2_arguments::{CommandHelp, command_named, parser_of};
 use std::alloc::{AllocError, Global};
 
-/// What is said of arguments that nothing else describes.
+/// The text on arguments that nothing else describes.
 const NOT_UNDERSTOOD: &str = "the arguments are not understood";
 
 /// The command that the arguments name, if there is one.
@@ -46,7 +46,7 @@ fn push_word(text: &mut String, word: &str) -> Result<(), AllocError> {
     }
 }
 
-/// Appends an argument, and what is said of it.
+/// Appends an argument, and the text on it.
 fn push_said(text: &mut String, word: &str, said: &str) -> Result<(), AllocError> {
     push_word(text, word)?;
     text.push_str(said)
