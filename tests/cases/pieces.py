@@ -29,18 +29,17 @@ def record(begun, soft, at, verdict, word, certificate=b"", rounds=0):
     return struct.pack(">QQIIB", at, seal, rounds, len(certificate), verdict) + word + certificate
 
 
-def piece(symbols, begun, first=0, stop=None, certificates=False, cut=0):
+def piece(symbols, begun, first=0, stop=None, certificates=False):
     """The records of frames of LINK without noise. The first begins at this position. `stop` is that after the last symbol of the piece, if it is not
-    the last one. `cut` symbols come after the last frame."""
+    the last one: then it has an end record instead if it has no frame."""
     files = certificates_of(symbols) if certificates else [b""] * (len(symbols) // (4 * FRAME))
     found = [record(begun, soft, first + at * FRAME, SOLE, records.packed(word), files[at]) for at, (soft, word) in enumerate(records.decided(symbols))]
-    return b"".join([*found, end_record(begun, first, stop, len(symbols) // 4 + cut) if stop else b""])
+    return b"".join(found or ([end_record(begun, stop)] if stop else []))
 
 
-def end_record(begun, first, stop, came):
-    """The end record of a piece, up to the last of `came` symbols that has a frame and a header after it."""
-    stop = min(stop, first + max(0, came - FRAME - HEADER))
-    return record(begun, [], stop - 1, END, bytes(BITS // 8)) if stop > first else b""
+def end_record(begun, stop):
+    """The end record of a piece up to this position."""
+    return record(begun, [], stop - 1, END, bytes(BITS // 8))
 
 
 def certificates_of(symbols):
@@ -72,18 +71,18 @@ def piece_cases(two, made):
     end = "end frames 1 delivered 1 packets 1 bad 0\n"
     yield case("--piece 0..8190", TWO + line(0, 8190, 0, 2), piece(two, begun, 0, 8190))
     cut = "cut at 8190 symbols 8189\n"
-    yield case("--piece 0..8099", TWO.splitlines(True)[0] + cut + end + line(0, 8099, 0, 1), piece(one, begun, 0, 8099, cut=8189), errors=noted("1 packet incomplete"))
-    yield case("--piece 50..8149", moved(50, TWO.splitlines(True)[0] + cut) + end + line(50, 8149, 0, 1), piece(one, begun, 50, 8149, cut=8189), errors=noted("1 packet incomplete"))
+    yield case("--piece 0..8099", TWO.splitlines(True)[0] + cut + end + line(0, 8099, 0, 1), piece(one, begun, 0, 8099), errors=noted("1 packet incomplete"))
+    yield case("--piece 50..8149", moved(50, TWO.splitlines(True)[0] + cut) + end + line(50, 8149, 0, 1), piece(one, begun, 50, 8149), errors=noted("1 packet incomplete"))
     # the last piece has all symbols
     yield case("--piece 0..1 --last", TWO + line(0, 1, 1, 2), piece(two, begun))
     nothing = "end frames 0 delivered 0 packets 0 bad 0\n"
-    # there is no end record if no frame can be complete
-    for words, symbols in (("--piece 7..9", b""), ("--piece 7..7", b""), ("--piece 7..16380", bytes(4 * 89))):
-        yield case(words, nothing + line(*map(int, words.split()[1].split("..")), 0, 0), b"", symbols)
-        yield case(f"{words} --last", nothing + line(*map(int, words.split()[1].split("..")), 1, 0), b"", symbols)
+    # an end record says up to where there is no frame; an empty piece and the last one have none
+    for first, stop, symbols in ((7, 9, b""), (7, 7, b""), (7, 16380, bytes(4 * 89))):
+        yield case(f"--piece {first}..{stop}", nothing + line(first, stop, 0, 0), end_record(begun, stop) if stop > first else b"", symbols)
+        yield case(f"--piece {first}..{stop} --last", nothing + line(first, stop, 1, 0), b"", symbols)
     # notes count from the beginning of the piece
     skipped = noted("8281 symbols skipped in 1 place, the first at 0", "no frame of QPSK 1/4, short in 8281 symbols: try s2 scan")
-    yield case("--piece 7..9000", nothing + line(7, 9000, 0, 0), record(begun, [], 7, END, bytes(BITS // 8)), bytes(4 * 8281), errors=skipped)
+    yield case("--piece 7..9000", nothing + line(7, 9000, 0, 0), end_record(begun, 9000), bytes(4 * 8281), errors=skipped)
     # certificates are in the records, and no other file is written, not even opened
     named = " ".join(f"{option} old" for option in (*records.OPTIONS, "--about"))
     yield case(f"--piece 0..16380 --last {named}", TWO + line(0, 16380, 1, 2), piece(two, seed(made, certificates=True), certificates=True))
@@ -94,7 +93,7 @@ def piece_cases(two, made):
     yield case("--piece 0..16380 --exit-by delivery --quiet --ro 1", TWO + line(0, 16380, 0, 2), piece(two, begun, 0, 16380))
     # symbols without a frame; the exit is 0
     longer = two + bytes(400)
-    yield case("--piece 0..16480 --strict", TWO + line(0, 16480, 0, 2), piece(two, begun, 0, 16480, cut=100), longer, errors=noted("100 symbols skipped in 1 place, the first at 16380"))
+    yield case("--piece 0..16480 --strict", TWO + line(0, 16480, 0, 2), piece(two, begun, 0, 16480), longer, errors=noted("100 symbols skipped in 1 place, the first at 16380"))
     # the records on standard output, and the report on standard error
     yield Case(f"demod {LINK} --piece 0..16380 made in -", out=piece(two, begun, 0, 16380), errors=TWO + line(0, 16380, 0, 2), reads={"in": two})
     # rows are read twice
@@ -109,7 +108,7 @@ def piece_cases(two, made):
 def stitch_cases(two, made):
     """By true records, by none, and by some of them, the result is that of `demod`. Others are refused."""
     begun, whole = seed(made), {"out": 2 * PACKET}
-    first, second, end = piece(two[: 4 * FRAME], begun, 0), piece(two[4 * FRAME :], begun, FRAME), record(begun, [], 16379, END, bytes(BITS // 8))
+    first, second, end = piece(two[: 4 * FRAME], begun, 0), piece(two[4 * FRAME :], begun, FRAME), end_record(begun, 16380)
 
     def case(text, words="", **more):
         return Case(f"stitch {LINK} {words} made in pieces out", out=TWO, reads={"in": two, "pieces": text}, writes=whole, **more)

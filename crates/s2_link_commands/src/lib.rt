@@ -17,6 +17,5 @@ mod opening;
 mod piece;
 mod records;
 mod seed;
-mod tally;
 
 pub use link_request::{LinkRequest, with_link};

@@ -10,12 +10,11 @@ ghost use Rattle.s2_link_commands.specs.Failed.{records_failed};
 use crate::about::{AboutFile, finish_about, open_about};
 use crate::beside::{Beside, BesideNames, open_beside};
 use crate::opening::{Reading, Watching, link_files, open_two};
-use crate::piece::{end_piece, searched, symbols_of};
+use crate::piece::{end_piece, symbols_of};
 use crate::records::{
-    RecordNames, Records, end_records, finish_command, open_records, recorded_frames,
+    RecordNames, Records, end_of, end_records, finish_command, open_records, recorded_frames,
 };
 use crate::seed::seed_for;
-use crate::tally::Tally;
 use s2_about::FileSums;
 use s2_commands::{DemodOptions, LinkFiles, RunOptions, demod_command, mod_command, run_command};
 use s2_io::{Console, Disk, Exit, Meter, Output, Pace, Show, Terminal, Truncating};
@@ -365,11 +364,12 @@ fn open_all<'a, 'm, 'h, P: Opens<'a>, M: Meter>(
     Ok((files, beside, (records, about)))
 }
 
-/// The end of a command: its files of records are finished, and that on its report is written.
+/// The end of a command: its files of records are finished, the one of a piece with its end record, if that has this position. Then the
+/// file on its report is written.
 fn finish_all<'a, W: Output + Drop>(
     alloc: Global,
     request: LinkRequest<'_, '_>,
-    piece: Option<Piece>,
+    end: Option<u64>,
     mode: &Mode,
     exit: Exit,
     begun: bool,
@@ -381,13 +381,54 @@ fn finish_all<'a, W: Output + Drop>(
     ensures { OnErr result (exit ≢ Exit.Fault) }
 {
     let (mut records, about) = recorded;
-    if end_records(piece, mode, exit, &mut records).is_err() {
+    if end_records(end, mode, exit, &mut records).is_err() {
         return Err(Unserved::Write);
     }
     match finish_command(exit, begun, records) {
         Ok(_) => finish_about(alloc, request, exit, begun, about, sums),
         Err(_) => Err(Unserved::Write),
     }
+}
+
+/// What a command leaves: its exit, what it left out of its input, whether its output was begun, and the files of records.
+type Left<W> = (Exit, LeftOut, bool, Recorded<W>);
+
+/// Opens the files of a request on a link, and runs its command on them. `meter` takes the bytes of its input and its output.
+fn run_link<'a, P: Opens<'a>, M: Meter, O: CountedWrite, E: CountedWrite>(
+    opener: &mut P,
+    alloc: Global,
+    request: LinkRequest<'_, 'a>,
+    setup: LinkSetup,
+    words: &FileWords<'a>,
+    meter: &M,
+    unseen: &M,
+    sums: Option<&FileSums>,
+    console: &mut Console<O, E>,
+    notes: &mut E,
+) -> Result<Left<P::Output>, Unserved<'a>>
+    requires opener { P.opened opener.old ≤ 1 }
+    requires console { CanNote console.old }
+    requires notes { CanCount (E.count notes.old) }
+    ensures unserved { OnErr result (console.new ≡ console.old) }
+    ensures quiet { IfOk result (λ left. left.0 ≢ Exit.Fault → CanCount console.new.errors_failed) }
+    ensures whole { IfOk result (λ left. left.0 ≢ Exit.Fault → CanCount console.new.output_failed) }
+    ensures few { IfOk result (λ left. records_failed P.Output.count left.3.0 ≤ 1) }
+    ensures about { IfOk result (λ left. wanted_count (λ t. P.Output.count t.to) left.3.1 ≡ 0) }
+{
+    let (mut files, beside, mut recorded) = open_all(
+        opener, alloc, meter, unseen, setup.mode, words, sums,
+    )?;
+    let exit = run_on_files(
+        setup,
+        request,
+        &mut files,
+        beside,
+        &mut recorded.0,
+        console,
+        notes,
+        alloc,
+    );
+    Ok((exit, files.from.left_out(), files.to.is_begun(), recorded))
 }
 
 /// Opens the files of a request on a link, and runs its command on them. `notes` takes the notes before a report. `sums` has
@@ -412,29 +453,17 @@ pub fn with_link<'a, P: Opens<'a>, R: Disk + Clock + AllocGlobal, O: CountedWrit
     let pace = pace_of(request, &setup.mode);
     let show = show_of(terminal, pace, words.progress, words.notes_gaps);
     let unseen = Show::new(terminal, pace, false);
-    let (read, unread) = (Tally::new(&show), Tally::new(&unseen));
-    let (mut files, beside, mut recorded) = open_all(
-        opener, alloc, &read, &unread, setup.mode, &words, sums,
+    let (exit, left_out, begun, recorded) = run_link(
+        opener, alloc, request, setup, &words, &show, &unseen, sums, console, notes,
     )?;
-    let exit = run_on_files(
-        setup,
-        request,
-        &mut files,
-        beside,
-        &mut recorded.0,
-        console,
-        notes,
-        alloc,
-    );
     show.finish();
-    let left_out = files.from.left_out();
     let exit = conclude_packets(terminal, words.noted_packets, left_out, exit);
-    let begun = files.to.is_begun();
     let frames = recorded_frames(&recorded.0);
+    let end = end_of(words.piece, frames);
     match finish_all(
         alloc,
         request,
-        searched(words.piece, &setup.mode, read.symbols()),
+        end,
         &setup.mode,
         exit,
         begun,

@@ -12,11 +12,6 @@ use s2_words::limits::MAX_POSITION;
 
 const _: () = prove!(MAX_POSITION <= MAX_SYMBOLS);
 
-/// The symbols that a receiver needs from the first one of a frame on: the frame, and the header after it.
-fn needed(mode: &Mode) -> u64 {
-    (mode.symbols() + HEADER_SYMBOLS) as u64
-}
-
 /// The number of symbols to receive of a piece: its own, a frame and 90 symbols after them, so that each frame that begins in it is
 /// decided as in the whole recording. `None` if all are to be received.
 pub(crate) fn symbols_of(piece: Option<Piece>, mode: &Mode) -> Option<u64>
@@ -24,23 +19,11 @@ pub(crate) fn symbols_of(piece: Option<Piece>, mode: &Mode) -> Option<u64>
 {
     match piece {
         Some(piece) if !piece.is_last => {
+            let after = (mode.symbols() + HEADER_SYMBOLS) as u64;
             let own = piece.to.saturating_sub(piece.from);
-            Some(own.saturating_add(needed(mode)).min(MAX_POSITION))
+            Some(own.saturating_add(after).min(MAX_POSITION))
         }
         _ => None,
-    }
-}
-
-/// The part of a piece in which each frame was decided, if this number of symbols came. It is the piece, if enough came. A frame that
-/// begins in its last symbols may be cut otherwise.
-pub(crate) fn searched(piece: Option<Piece>, mode: &Mode, came: u64) -> Option<Piece> {
-    match piece {
-        Some(piece) => {
-            let own = came.saturating_sub(needed(mode));
-            let to = piece.from.saturating_add(own).min(piece.to);
-            Some(Piece { to, ..piece })
-        }
-        None => None,
     }
 }
 

@@ -1,7 +1,7 @@
 //! The files of records: opened, each with the sink that writes to it, and finished.
 ghost use Rattle.std.specs.Prelude.{◌≡◌, ◌≢◌, ◌+◌, ◌<◌, ◌≤◌, IfOk, OnErr, OnOk};
 ghost use Rattle.s2_receive.specs.Sinks.{wanted_count};
-ghost use Rattle.s2_link_commands.specs.Failed.{received_failed, records_failed, sent_failed};
+ghost use Rattle.s2_link_commands.specs.Failed.{received_failed, recorder_failed, records_failed, sent_failed};
 
 use s2_io::{Exit, Output, Truncating};
 use s2_mode::{Mode, WriteFault};
@@ -269,10 +269,35 @@ pub(crate) fn recorded_frames<W: Output>(records: &Records<Truncating<W>>) -> u6
     }
 }
 
-/// Writes the end record of a piece of a mode, if a command without a fault received it and it is not the last one: no other
-/// frame of the piece begins in it. An empty piece has none.
+/// The position of the end record of a piece with this number of recorded frames: `stitch` waits for no other record up to there. A piece
+/// has one if it has no frame, so that its records are not nothing. The last piece has none, and neither has an empty one.
+pub(crate) fn end_of(piece: Option<Piece>, frames: u64) -> Option<u64> {
+    match piece {
+        Some(piece) if frames == 0 && !piece.is_last && piece.from < piece.to => {
+            Some(piece.to - 1)
+        }
+        _ => None,
+    }
+}
+
+/// Writes the end record of a piece of a mode, if there is a recorder.
+fn end_recorder<W: Output>(
+    last: u64,
+    mode: &Mode,
+    recorder: &mut Option<Recorder<Truncating<W>>>,
+) -> Result<(), WriteFault>
+    requires { recorder_failed W.count recorder.old ≤ 1 }
+    ensures { OnOk result (recorder_failed W.count recorder.new ≡ recorder_failed W.count recorder.old) }
+{
+    match recorder {
+        Some(recorder) => recorder.finish(last, mode.n()),
+        None => Ok(()),
+    }
+}
+
+/// Writes the end record of a piece of a mode, which has this position, if a command without a fault received the piece.
 pub(crate) fn end_records<W: Output>(
-    piece: Option<Piece>,
+    last: Option<u64>,
     mode: &Mode,
     exit: Exit,
     records: &mut Records<Truncating<W>>,
@@ -281,13 +306,10 @@ pub(crate) fn end_records<W: Output>(
     ensures few { OnOk result (records_failed W.count records.new ≤ 1) }
     ensures first { OnErr result (exit ≢ Exit.Fault) }
 {
-    let (Some(piece), Some(recorder)) = (piece, &mut records.0.0) else {
-        return Ok(());
-    };
-    if exit == Exit::Fault || piece.is_last || piece.to <= piece.from {
-        return Ok(());
+    match last {
+        Some(last) if exit != Exit::Fault => end_recorder(last, mode, &mut records.0.0),
+        _ => Ok(()),
     }
-    recorder.finish(piece.to - 1, mode.n())
 }
 
 /// Truncates a file if nothing was written to it.
