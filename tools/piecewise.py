@@ -329,7 +329,7 @@ def decoded(chosen, rows, wake, pipe, copy):
 def live(text):
     """The exit status of tools/live."""
     chosen = line_of("live", text, 1, LIVE)
-    (rows,), (wake, waker), pipe = chosen.files, os.pipe2(os.O_NONBLOCK | os.O_CLOEXEC), queue.SimpleQueue()
+    (rows,), (wake, waker), pipe = chosen.files, os.pipe2(os.O_NONBLOCK | os.O_CLOEXEC), queue.Queue(2)
     copy = open(os.memfd_create("copy", 0), "w+b", 0)
     outputs = outputs_of(chosen, [rows], [rows, "-", "-"])
     signal.set_wakeup_fd(waker)
