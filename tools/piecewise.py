@@ -20,7 +20,7 @@ import time
 from concurrent.futures import ThreadPoolExecutor
 
 TOP = os.path.dirname(os.path.dirname(os.path.realpath(__file__)))
-STANDARD = ("-", "/dev/stdout")
+STANDARD, REMOVING = ("-", "/dev/stdout"), 'cat; for it; do mv "$it" "$it.old" && rm -rf "$it.old"; done 2>/dev/null'
 # Bytes of a symbol; symbols of the longest PLFRAME, and those that a piece reads after its end at most.
 SYMBOL, FRAME, OVER = 4, 33282, 33282 + 90
 # Pieces for each process, and frames of a piece at least and at most. With --hosts and --slurm: frames at least, pieces at most.
@@ -134,7 +134,7 @@ def received(what, words, symbols, at, others=()):
 
 
 def pour(files, pipe, copy=None):
-    """Writes files, each from a place on, to a pipe of `s2 stitch`. If that ends before, its exit status says why. A copy keeps the last ones."""
+    """Writes files, each from a place on, to a pipe of `s2 stitch`. If that ends before, the rest is awaited. A copy keeps the last ones."""
     passed = -PASSED
     with contextlib.suppress(BrokenPipeError):
         for file, at in files:
@@ -142,6 +142,7 @@ def pour(files, pipe, copy=None):
                 at, passed = at + sent, passed + sent
             copy and LIBC.fallocate(copy.fileno(), FALLOC_FL_PUNCH_HOLE, ctypes.c_long(0), ctypes.c_long(passed))
         pipe.close()
+    any(False for _ in files)
 
 
 def ahead(items, size=0):
@@ -156,10 +157,9 @@ def ahead(items, size=0):
 def stitched(words, outputs, records, *left):
     """The exit status of `s2 stitch` with these records. Its files get their names if nothing failed. After any end, a shell removes the others."""
     parts = {it: it.part() for it in outputs if it.part() != it}
-    cleaner = subprocess.Popen(["sh", "-c", "cat; rm -rf \"$@\"", "sh", *parts.values(), *left], stdin=subprocess.PIPE, start_new_session=True)
+    cleaner = subprocess.Popen(["sh", "-c", REMOVING, "sh", *parts.values(), *left], stdin=subprocess.PIPE, start_new_session=True)
     # it inherits pipes that the user's shell made
-    words = [parts.get(it, it) if isinstance(it, Output) else it for it in words]
-    stitch = subprocess.Popen(words, stdin=subprocess.PIPE, close_fds=False, preexec_fn=tied)
+    stitch = subprocess.Popen([parts.get(it, it) if isinstance(it, Output) else it for it in words], stdin=subprocess.PIPE, close_fds=False, preexec_fn=tied)
     feeding = ThreadPoolExecutor(1).submit(pour, records, stitch.stdin)
     feeding.add_done_callback(lambda it: it.exception() and stitch.kill())
     try:
@@ -329,7 +329,7 @@ def decoded(chosen, rows, wake, pipe, copy):
 def live(text):
     """The exit status of tools/live."""
     chosen = line_of("live", text, 1, LIVE)
-    (rows,), (wake, waker), pipe = chosen.files, os.pipe2(os.O_NONBLOCK | os.O_CLOEXEC), queue.SimpleQueue()
+    (rows,), (wake, waker), pipe = chosen.files, os.pipe2(os.O_NONBLOCK | os.O_CLOEXEC), queue.Queue(2)
     copy = open(os.memfd_create("copy", 0), "w+b", 0)
     outputs = outputs_of(chosen, [rows], [rows, "-", "-"])
     signal.set_wakeup_fd(waker)

@@ -8,6 +8,7 @@ DUMMY, ACROSS = f"mod {LINK} --dummy 1 made packets out", f"demod {LINK} made am
 NOISE, RUN = "noise --seed 1 --level 256 two out", f"run {LINK} --seed 1 --level 0 made packets out"
 RUNS, EACH = f"run {LINK} --seeds 1..2 --level 0 made packets out", f"judge {TOY} --each --cert out toy soft"
 PIECE, STITCH = f"demod {LINK} --piece 0..16380 made two out", f"stitch {LINK} made two recorded out"
+NO_FRAME = "end frames 0 delivered 0 packets 0 bad 0\n"
 NOTHING, FRAMES = [(0, 0)], [(188, 0), (376, 26), (376, 55)]
 
 
@@ -49,11 +50,13 @@ FAILING = [
     (DEMOD, "two", READ, [(0, 0), (188, 26), (376, 55)]),
     (DEMOD, "out", WRITE, [(0, 0), (188, 26)]),
     (DEMOD, "printed", WRITE, FRAMES),
-    # a record is one write, before the line of its frame; the end record is written after the report, before its last line
+    # a record is one write, before the line of its frame; that of a piece without frames is written before the last line
     (PIECE, "made", READ, NOTHING),
     (PIECE, "two", READ, [(0, 0), (2050, 26), (4100, 55)]),
-    (PIECE, "out", WRITE, [(0, 0), (2050, 26), (4100, len(TWO))]),
-    (PIECE, "printed", WRITE, [(2050, 0), (4100, 26), (4100, 55), (6150, len(TWO))]),
+    (PIECE, "out", WRITE, [(0, 0), (2050, 26)]),
+    (PIECE, "printed", WRITE, [(2050, 0), (4100, 26), (4100, 55), (4100, len(TWO))]),
+    (f"demod {LINK} --piece 7..9 made stored out", "out", WRITE, [(0, len(NO_FRAME))]),
+    (f"demod {LINK} --piece 7..9 made stored out", "printed", WRITE, [(0, 0), (2050, len(NO_FRAME))]),
     (STITCH, "made", READ, NOTHING),
     # the records of both frames are in the buffer by the first read
     (STITCH, "recorded", f"records: {READ}", [(0, 0), (376, 55)]),

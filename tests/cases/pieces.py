@@ -1,5 +1,4 @@
-"""`demod --piece` and `stitch`: the expected records are computed from the sent symbols, by the definitions in `specs/` of s2_stitch and s2_records.
-The number at which a seal begins is of the SHA-256 of the rows, of the lines of --about on the receiver's options, and of one byte."""
+"""`demod --piece` and `stitch`: the expected records are computed from the sent symbols, as docs/formats.md describes them."""
 import hashlib
 import json
 import struct
@@ -68,7 +67,7 @@ def piece_cases(two, made):
     yield case("--piece 0..16380 --last", TWO + line(0, 16380, 1, 2), piece(two, begun))
     yield case("--piece 0..16380", TWO + line(0, 16380, 0, 2), piece(two, begun, 0, 16380))
     yield case("--piece=1000..17380", moved(1000) + line(1000, 17380, 0, 2), piece(two, begun, 1000, 17380))
-    # a frame and a header more, so that a frame which begins in it is whole
+    # a frame and a header after it are received too, so a frame that begins in it is whole
     end = "end frames 1 delivered 1 packets 1 bad 0\n"
     yield case("--piece 0..8190", TWO + line(0, 8190, 0, 2), piece(two, begun, 0, 8190))
     cut = "cut at 8190 symbols 8189\n"
@@ -77,7 +76,7 @@ def piece_cases(two, made):
     # the last piece has all symbols
     yield case("--piece 0..1 --last", TWO + line(0, 1, 1, 2), piece(two, begun))
     nothing = "end frames 0 delivered 0 packets 0 bad 0\n"
-    # an end record is in place of frames; an empty piece and the last one have none
+    # the end record of a piece without frames; an empty piece and the last one have none
     for first, stop, symbols in ((7, 9, b""), (7, 7, b""), (7, 16380, bytes(4 * 89))):
         yield case(f"--piece {first}..{stop}", nothing + line(first, stop, 0, 0), end_record(begun, stop) if stop > first else b"", symbols)
         yield case(f"--piece {first}..{stop} --last", nothing + line(first, stop, 1, 0), b"", symbols)
@@ -144,7 +143,7 @@ def stitch_cases(two, made):
     for cut in (1, 24, 25, len(first) - 1):
         yield refused(first[:cut], NO_RECORD)
     yield refused(first[:24] + b"\5" + first[25:], NO_RECORD)
-    # everything met before is written
+    # the frames before it are written
     yield refused(first + second[:-1], NO_RECORD, TWO.splitlines(True)[0], PACKET)
     # a record whose certificate is of other rows is passed, and its frame is decided here; a text is no certificate
     soft, word = next(records.decided(two))
