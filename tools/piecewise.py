@@ -145,9 +145,9 @@ def pour(files, pipe, copy=None):
     any(False for _ in files)
 
 
-def ahead(items, size=0):
-    """The items of a generator that runs in another thread, ahead by `size` items at most."""
-    found, end = queue.Queue(size), object()
+def ahead(items, found):
+    """The items of a generator that runs in another thread. Those that it is ahead are in this queue."""
+    end = object()
     running = ThreadPoolExecutor(1).submit(lambda: any(map(found.put, items)))
     running.add_done_callback(lambda _: found.put(end))
     yield from iter(found.get, end)
@@ -306,9 +306,9 @@ def groups(chosen, wake):
             os.write(2, f"live: note: no symbols after {stop}\n".encode())
 
 
-def decoded(chosen, rows, wake, pipe, copy):
-    """The records of the groups, after their symbols. While `s2 stitch` finds no frame it reads one record: the others of such a stretch are left out."""
-    pool, had_frames = ThreadPoolExecutor(jobs := chosen.jobs or len(os.sched_getaffinity(0))), True
+def decoded(chosen, rows, wake, pipe, copy, waiting):
+    """The records of the groups, after their symbols. `s2 stitch` reads none before it finds a frame: those of no frame are left out if others wait."""
+    pool = ThreadPoolExecutor(jobs := chosen.jobs or len(os.sched_getaffinity(0)))
 
     def decode(start, stop, symbols, shared):
         records = open(os.memfd_create("records"), "w+b", 0)
@@ -316,13 +316,12 @@ def decoded(chosen, rows, wake, pipe, copy):
         report = received(f"symbols {start} to {stop}", words, symbols, 0, [records.fileno()])
         return report.split()[-1] != b"0", records, (symbols, shared)
 
-    for group in ahead((pool.submit(decode, *it) for it in groups(chosen, wake)), jobs):
+    for group in ahead((pool.submit(decode, *it) for it in groups(chosen, wake)), queue.Queue(jobs)):
         has_frames, records, symbols = group.result()
         copy.write(os.pread(symbols[0].fileno(), 1 << 30, symbols[1]))
         pipe.put(symbols)
-        if has_frames or had_frames:
+        if has_frames or waiting.empty():
             yield records, 0
-        had_frames = has_frames
     pipe.put(None)
 
 
@@ -341,7 +340,7 @@ def live(text):
     os.set_inheritable(end, True)
     ThreadPoolExecutor(1).submit(pour, iter(pipe.get, None), open(into, "wb"), copy)
     words = [chosen.s2, "stitch", *chosen.words, "--again", f"/dev/fd/{copy.fileno()}", rows, f"/dev/fd/{end}", "-", "-"]
-    code = stitched(words, outputs, ahead(decoded(chosen, rows, wake, pipe, copy)))
+    code = stitched(words, outputs, ahead(decoded(chosen, rows, wake, pipe, copy, waiting := queue.Queue()), waiting))
     return 128 + os.read(wake, 1)[0] if code != 1 and select.select([wake], [], [], 0)[0] else code
 
 
