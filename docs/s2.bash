@@ -3,16 +3,16 @@ _s2() {
   local now=${COMP_WORDS[COMP_CWORD]} before=${COMP_WORDS[COMP_CWORD-1]} words=""
   COMPREPLY=()
   if ((COMP_CWORD == 1)); then
-    COMPREPLY=($(compgen -W "demod scan mod run noise modes rows table judge check audit compare join help --help --version" -- "$now"))
+    COMPREPLY=($(compgen -W "demod scan mod run noise modes rows table judge check audit compare join stitch help --help --version" -- "$now"))
     return
   fi
   case "$before" in
     --divisor) COMPREPLY=($(compgen -W "4096 8192 16384 32768 65536" -- "$now")); return ;;
     --exit-by) COMPREPLY=($(compgen -W "certainty delivery" -- "$now")); return ;;
-    --modcod|--number|--ro|--rounds|--passes|--factor|--lock|--every|--first|--dummy|--seed|--seeds|--level|--esn0|--rate|--group|--groups|--q|--weight) return ;;
+    --modcod|--number|--ro|--rounds|--passes|--factor|--lock|--every|--piece|--first|--dummy|--seed|--seeds|--level|--esn0|--rate|--group|--groups|--q|--weight) return ;;
   esac
   case "${COMP_WORDS[1]}" in
-    demod) words="--modcod --short --pilots --number --ro --rounds --passes --uncertified --divisor --factor --lock --turns --resync --equalize --tuned --figures --every --exit-by --strict --quiet --progress --certificates --values --codewords --bbframes --about --help" ;;
+    demod) words="--modcod --short --pilots --number --ro --rounds --passes --uncertified --divisor --factor --lock --turns --resync --equalize --tuned --figures --every --exit-by --strict --quiet --progress --certificates --values --codewords --bbframes --about --piece --last --help" ;;
     scan) words="--first --quiet --progress --help" ;;
     mod) words="--modcod --short --pilots --number --ro --dummy --resync --quiet --progress --codewords --bbframes --labels --symbols-plain --help" ;;
     run) words="--modcod --short --pilots --number --ro --dummy --resync --rounds --passes --uncertified --divisor --factor --lock --turns --equalize --tuned --seed --seeds --level --esn0 --figures --every --exit-by --strict --quiet --progress --certificates --values --codewords --bbframes --about --help" ;;
@@ -25,7 +25,8 @@ _s2() {
     audit) words="--modcod --short --pilots --number --ro --divisor --lock --turns --resync --equalize --tuned --figures --codewords --packets --about --help" ;;
     compare) words="--group --groups --q --modcod --short --bbframes --bits --quiet --help" ;;
     join) words="--modcod --short --help" ;;
-    help) words="demod scan mod run noise modes rows table judge check audit compare join" ;;
+    stitch) words="--modcod --short --pilots --number --ro --rounds --passes --uncertified --divisor --factor --lock --turns --resync --equalize --tuned --figures --every --exit-by --strict --quiet --progress --certificates --values --codewords --bbframes --about --again --help" ;;
+    help) words="demod scan mod run noise modes rows table judge check audit compare join stitch" ;;
   esac
   if [[ $now == -* || ${COMP_WORDS[1]} == help ]]; then
     COMPREPLY=($(compgen -W "$words" -- "$now"))
