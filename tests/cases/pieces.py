@@ -23,8 +23,9 @@ def seed(made, options=None, certificates=False):
 
 def record(begun, soft, at, verdict, word, certificate=b"", rounds=0):
     """The record of a decision, or an end record."""
-    seal = begun
-    for number in (*(value % 65536 for value in soft), at, rounds, verdict, *word, *certificate):
+    seal, bits = begun, [value % 65536 for value in soft]
+    fours = (sum(value << 16 * k for k, value in enumerate(bits[first : first + 4])) for first in range(0, len(bits), 4))
+    for number in (*fours, at, rounds, verdict, *word, *certificate):
         seal = (seal * FACTOR + number) % 2**64
     return struct.pack(">QQIIB", at, seal, rounds, len(certificate), verdict) + word + certificate
 

@@ -5,7 +5,7 @@ ghost use Rattle.s2_bits.specs.Bits.{xor, bit_at, bit_of_bytes, byte_of, number,
 ghost use Rattle.s2_bits.specs.Lending.{LendsTruths};
 
 use crate::bools;
-use crate::spelling::byte_at;
+use crate::spelling::{bits_of, byte_at};
 use std::alloc::{AllocError, Global};
 use std::marker::Model;
 
@@ -38,8 +38,8 @@ impl Bits {
         requires { len ≤ 8 * length bytes.now }
         ensures { IfOk result (λ b. (length b ≡ len) × ((k : ℕ) → k < len → bit_at b k ≡ bit_of_bytes bytes.now k)) }
     {
-        let mut truths = Vec::with_capacity(alloc, len)?;
-        for i in 0..len {
+        let mut truths = bits_of(alloc, &bytes[..len / 8], len)?;
+        for i in 8 * (len / 8)..len {
             truths.push((bytes[i / 8] >> (7 - i % 8)) % 2 == 1)?;
         }
         Ok(Bits { truths })

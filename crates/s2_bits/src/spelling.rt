@@ -1,6 +1,8 @@
 //! Bytes and their bits, the highest first.
-ghost use Rattle.std.specs.Prelude.{◌≡◌, ℕ, ◌+◌, ◌*◌, ◌<◌, ◌≤◌, length, take};
+ghost use Rattle.std.specs.Prelude.{◌≡◌, ℕ, ◌+◌, ◌*◌, ◌<◌, ◌≤◌, IfOk, length, take};
 ghost use Rattle.s2_bits.specs.Bits.{bit_at, number, byte_at, bytes_from, bits_of_byte, bits_of_bytes};
+
+use std::alloc::{AllocError, Global};
 
 /// The bits of each number below 16, the highest first. A static, since a constant would be built anew
 /// at each byte.
@@ -30,6 +32,17 @@ fn byte_bits(byte: u8) -> [bool; 8]
     let [a, b, c, d] = NIBBLE_BITS[usize::from(byte / 16)];
     let [e, f, g, h] = NIBBLE_BITS[usize::from(byte % 16)];
     [a, b, c, d, e, f, g, h]
+}
+
+/// The bits of bytes, each byte's highest bit first, with room for so many bits.
+pub(crate) fn bits_of(alloc: Global, bytes: &[u8], room: usize) -> Result<Vec<bool>, AllocError>
+    ensures { IfOk result (λ v. v.items ≡ bits_of_bytes bytes.now) }
+{
+    let mut bits = Vec::with_capacity(alloc, room)?;
+    for byte in bytes {
+        bits.extend_from_slice(&byte_bits(*byte))?;
+    }
+    Ok(bits)
 }
 
 /// Writes the bits of bytes, each byte's highest bit first.

@@ -14,7 +14,7 @@ use std::io::{BufReader, BufWriter};
 use std::marker::Model;
 
 /// The most files of a command.
-pub const MAX_FILES: usize = 8;
+pub const MAX_FILES: usize = 12;
 
 /// An input with a buffer, or without one if there was no memory for it or none is wanted. It counts its failed calls, and keeps
 /// the error of the last one.
@@ -65,7 +65,7 @@ impl<'r, R: Disk> Opener<'r, R> {
 
     /// Notes how a file is used, unless that clashes with those before it.
     fn take<'a>(&mut self, name: &'a str, new: Use) -> Result<(), Fault<'a>>
-        requires room { length self.old < 8 }
+        requires room { length self.old < 12 }
         ensures count { OnOk result (length self.new ≡ length self.old + 1) }
     {
         if clashes_any(self.uses.as_slice(), new) {
@@ -77,7 +77,7 @@ impl<'r, R: Disk> Opener<'r, R> {
 
     /// Notes the use of a standard stream, which has no length.
     fn take_standard<'a>(&mut self, role: Role, name: &'a str) -> Result<(), Fault<'a>>
-        requires room { length self.old < 8 }
+        requires room { length self.old < 12 }
         ensures count { OnOk result (length self.new ≡ length self.old + 1) }
     {
         self.length = None;
@@ -94,7 +94,7 @@ impl<'r, R: Disk> Opener<'r, R> {
 
     /// Notes the use and the length of a file that was opened by its name.
     fn take_file<'a>(&mut self, role: Role, name: &'a str, file: &R::File) -> Result<(), Fault<'a>>
-        requires room { length self.old < 8 }
+        requires room { length self.old < 12 }
         ensures count { OnOk result (length self.new ≡ length self.old + 1) }
     {
         let Ok(stat) = stat(file) else {
@@ -113,7 +113,7 @@ impl<'r, R: Disk> Opener<'r, R> {
 
     /// Opens an input.
     fn input<'a>(&mut self, name: &'a str) -> Result<Opened<R::File, R::Input>, Fault<'a>>
-        requires room { length self.old < 8 }
+        requires room { length self.old < 12 }
         ensures count { OnOk result (length self.new ≡ length self.old + 1) }
     {
         if is_standard(Role::Input, name) {
@@ -129,7 +129,7 @@ impl<'r, R: Disk> Opener<'r, R> {
 
     /// Opens an output, which is not truncated.
     fn output<'a>(&mut self, name: &'a str) -> Result<Opened<R::File, R::Output>, Fault<'a>>
-        requires room { length self.old < 8 }
+        requires room { length self.old < 12 }
         ensures count { OnOk result (length self.new ≡ length self.old + 1) }
     {
         if is_standard(Role::Output, name) {
@@ -145,7 +145,7 @@ impl<'r, R: Disk> Opener<'r, R> {
 
     /// Opens an input without a buffer.
     pub fn read<'a>(&mut self, name: &'a str) -> Result<Reader<R::File, R::Input>, Fault<'a>>
-        requires room { length self.old < 8 }
+        requires room { length self.old < 12 }
         ensures fresh { IfOk result (λ file. file.failed ≡ 0) }
         ensures count { OnOk result (length self.new ≡ length self.old + 1) }
     {
@@ -154,7 +154,7 @@ impl<'r, R: Disk> Opener<'r, R> {
 
     /// Opens an output without a buffer. It is not truncated.
     pub fn write<'a>(&mut self, name: &'a str) -> Result<Target<R::File, R::Output>, Fault<'a>>
-        requires room { length self.old < 8 }
+        requires room { length self.old < 12 }
         ensures fresh { IfOk result (λ file. file.failed ≡ 0) }
         ensures count { OnOk result (length self.new ≡ length self.old + 1) }
     {
@@ -184,7 +184,7 @@ impl<'r, R: Disk + AllocGlobal> Opener<'r, R> {
         &mut self,
         name: &'a str,
     ) -> Result<Reader<R::File, R::Input>, Fault<'a>>
-        requires room { length self.old < 8 }
+        requires room { length self.old < 12 }
         ensures fresh { IfOk result (λ file. file.failed ≡ 0) }
         ensures count { OnOk result (length self.new ≡ length self.old + 1) }
     {
@@ -197,7 +197,7 @@ impl<'r, R: Disk + AllocGlobal> Opener<'r, R> {
         &mut self,
         name: &'a str,
     ) -> Result<Target<R::File, R::Output>, Fault<'a>>
-        requires room { length self.old < 8 }
+        requires room { length self.old < 12 }
         ensures fresh { IfOk result (λ file. file.failed ≡ 0) }
         ensures count { OnOk result (length self.new ≡ length self.old + 1) }
     {

@@ -1,9 +1,8 @@
 //! Opens files by their names. A call on one of them that fails is noted.
-ghost use Rattle.std.specs.Prelude.{◌≡◌, ◌+◌, ◌<◌, OnOk, length};
+ghost use Rattle.std.specs.Prelude.{◌≡◌, length};
 
 use crate::noting::{Named, Noting};
 use crate::opens::{Opens, Unserved};
-use crate::uses::{Uses, use_of};
 use s2_io::{Disk, Fault, Opener, Reader, Role, StandardStreams, Target, Terminal};
 use std::rt::Files;
 
@@ -13,19 +12,17 @@ type Unnamed<R> = Reader<<R as Files>::File, <R as StandardStreams>::Input>;
 /// An output before it has its name.
 type UnnamedOutput<R> = Target<<R as Files>::File, <R as StandardStreams>::Output>;
 
-/// Opens the files of a command, each with its own opener. A call on one of them that fails is noted on a terminal.
+/// Opens the files of a command. A call on one of them that fails is noted on a terminal.
 pub struct FileOpener<'t, 'r, R> {
+    opener: Opener<'r, R>,
     terminal: &'t Terminal<'r, R>,
-    uses: Uses,
-    length: Option<u64>,
 }
 
 impl<'t, 'r, R> Drop for FileOpener<'t, 'r, R> {
     fn drop(self) {
         let FileOpener {
+            opener: _,
             terminal: _,
-            uses: _,
-            length: _,
         } = self;
     }
 }
@@ -33,12 +30,11 @@ impl<'t, 'r, R> Drop for FileOpener<'t, 'r, R> {
 impl<'t, 'r, R: Disk> FileOpener<'t, 'r, R> {
     /// No file is open.
     pub fn new(terminal: &'t Terminal<'r, R>) -> FileOpener<'t, 'r, R>
-        ensures { length result.uses ≡ 0 }
+        ensures { length result.opener ≡ 0 }
     {
         FileOpener {
+            opener: Opener::new(terminal.host()),
             terminal,
-            uses: Uses::new(),
-            length: None,
         }
     }
 
@@ -48,27 +44,13 @@ impl<'t, 'r, R: Disk> FileOpener<'t, 'r, R> {
     {
         Noting::new(file, Named::new(self.terminal, role, name))
     }
-
-    /// Notes the use of a file that was opened, and the number of its bytes, if it is a regular file.
-    fn take<'a>(
-        &mut self,
-        role: Role,
-        name: &'a str,
-        bytes: Option<u64>,
-    ) -> Result<(), Unserved<'a>>
-        requires room { length self.old.uses < 12 }
-        ensures count { OnOk result (length self.new.uses ≡ length self.old.uses + 1) }
-    {
-        self.length = bytes;
-        let new = use_of(self.terminal.host(), role, name);
-        self.uses.take(name, new)
-    }
 }
 
-/// Why a file was not opened. The opener of one file reports no other fault than these two.
+/// Why a file was not opened. An opener reports no other fault than these three.
 fn unopened<'a>(fault: Fault<'a>) -> Unserved<'a> {
     match fault {
         Fault::Open(name) => Unserved::Open(name),
+        Fault::UsedTwice(name) => Unserved::UsedTwice(name),
         _ => Unserved::NoMemory,
     }
 }
@@ -80,53 +62,37 @@ impl<'a, 't, 'r, R: Disk + AllocGlobal> Opens<'a> for FileOpener<'t, 'r, R> {
 
     type Output = Noting<UnnamedOutput<R>, Named<'t, 'r, 'a, R>>;
 
-    ghost opened = { λ o. length o.uses };
+    ghost opened = { λ o. length o.opener };
 
     fn read(&mut self, name: &'a str) -> Result<Self::Input, Unserved<'a>> {
-        let mut opener = Opener::new(self.terminal.host());
-        match opener.read(name) {
-            Ok(file) => {
-                self.take(Role::Input, name, opener.last_length())?;
-                Ok(self.noted(file, Role::Input, name))
-            }
+        match self.opener.read(name) {
+            Ok(file) => Ok(self.noted(file, Role::Input, name)),
             Err(fault) => Err(unopened(fault)),
         }
     }
 
     fn read_buffered(&mut self, name: &'a str) -> Result<Self::Input, Unserved<'a>> {
-        let mut opener = Opener::new(self.terminal.host());
-        match opener.read_buffered(name) {
-            Ok(file) => {
-                self.take(Role::Input, name, opener.last_length())?;
-                Ok(self.noted(file, Role::Input, name))
-            }
+        match self.opener.read_buffered(name) {
+            Ok(file) => Ok(self.noted(file, Role::Input, name)),
             Err(fault) => Err(unopened(fault)),
         }
     }
 
     fn write(&mut self, name: &'a str) -> Result<Self::Output, Unserved<'a>> {
-        let mut opener = Opener::new(self.terminal.host());
-        match opener.write(name) {
-            Ok(file) => {
-                self.take(Role::Output, name, opener.last_length())?;
-                Ok(self.noted(file, Role::Output, name))
-            }
+        match self.opener.write(name) {
+            Ok(file) => Ok(self.noted(file, Role::Output, name)),
             Err(fault) => Err(unopened(fault)),
         }
     }
 
     fn write_buffered(&mut self, name: &'a str) -> Result<Self::Output, Unserved<'a>> {
-        let mut opener = Opener::new(self.terminal.host());
-        match opener.write_buffered(name) {
-            Ok(file) => {
-                self.take(Role::Output, name, opener.last_length())?;
-                Ok(self.noted(file, Role::Output, name))
-            }
+        match self.opener.write_buffered(name) {
+            Ok(file) => Ok(self.noted(file, Role::Output, name)),
             Err(fault) => Err(unopened(fault)),
         }
     }
 
     fn last_length(&self) -> Option<u64> {
-        self.length
+        self.opener.last_length()
     }
 }

@@ -22,7 +22,6 @@ mod opening;
 mod opens;
 mod screen;
 mod thinned;
-mod uses;
 
 pub use file_opener::FileOpener;
 pub use moved::Moved;

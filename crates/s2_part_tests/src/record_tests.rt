@@ -7,10 +7,10 @@ use std::test::Fail;
 
 /// Position 258, a seal, 3 rounds, one byte of certificate, `parity`, the 12 bits a5c, and the byte 7f.
 const RECORD: &[u8] =
-    b"\0\0\0\0\0\0\x01\x02\x5d\xf8\x07\x41\x29\x9e\xca\x2f\0\0\0\x03\0\0\0\x01\x02\xa5\xc0\x7f";
+    b"\0\0\0\0\0\0\x01\x02\xae\x69\xf6\x68\xe3\xe4\xa9\x7c\0\0\0\x03\0\0\0\x01\x02\xa5\xc0\x7f";
 
 /// The seal of this record for the seed 77 and some soft values.
-const SEAL: u64 = 0x5df8_0741_299e_ca2f;
+const SEAL: u64 = 0xae69_f668_e3e4_a97c;
 
 /// The bytes before the decided bits.
 const FRONT: usize = 25;

@@ -1,8 +1,8 @@
 -- The record of a frame's decision, its seal, and its bytes (own). Read from top to bottom; numbers are big endian.
-use Rattle.std.specs.Prelude.{◌≡◌, ℕ, ℤ, ◌+◌, ◌*◌, ◌%◌, ◌^◌, ◌<◌, ◌≤◌, ◌==◌, ◌||◌, nat_lt, Bool, if◌then◌else◌, List, [], ◌∷◌, ◌++◌, length, take, drop, map, fold, All, Option, Some, None}
+use Rattle.std.specs.Prelude.{◌≡◌, ℕ, ℤ, ◌+◌, ◌*◌, ◌/◌, ◌%◌, ◌^◌, ◌<◌, ◌≤◌, ◌==◌, ◌||◌, nat_lt, Bool, if◌then◌else◌, List, [], ◌∷◌, ◌++◌, length, take, drop, map, pos, slice_index_or, fold, All, Option, Some, None}
 use Rattle.std.specs.List.{flat_map}
 use Rattle.std.specs.Int.{cast_unsigned, w16, w32, w64}
-use Rattle.s2_certfile.specs.Field.{Field, both, bit_list, bytes_of_bits, number}
+use Rattle.s2_certfile.specs.Field.{Field, both, bit_list, bytes_of_bits, number, places}
 use Rattle.s2_check.specs.declared.verdict.Verdict.{Verdict}
 use Rattle.s2_check.specs.declared.verdict.Verdict.TheVariants.{Sole, MostLikely, Parity, Broken}
 
@@ -54,10 +54,20 @@ record_bytes r = front.bytes (r.at, (r.seal, (r.rounds, length r.certificate))) 
 abbrev pub sum_step : ℕ → ℕ → ℕ
 sum_step sum x = (sum * 6364136223846793005 + x) % 2 ^ 64
 
--- The seal of a record: the sum of its frame's soft values, in sixteen bits each, and of all that it says. The sum begins at a
--- number that identifies the rows and the options
+-- four soft values from a place on, in sixteen bits each, as one number; zero past the end
+abbrev pub four_at : List ℤ → ℕ → ℕ
+four_at soft at =
+    let value = λ (k : ℕ). cast_unsigned w16 (slice_index_or soft (at + k) (pos 0)) in
+    value 0 + 65536 * value 1 + 4294967296 * value 2 + 281474976710656 * value 3
+
+-- soft values, four to a number
+abbrev pub fours_of : List ℤ → List ℕ
+fours_of soft = map (λ i. four_at soft (4 * i)) (places ((length soft + 3) / 4))
+
+-- The seal of a record: the sum of its frame's soft values and of all that it says. The sum begins at a number that identifies the
+-- rows and the options
 abbrev pub seal_of : (seed : ℕ) → (soft : List ℤ) → Record → ℕ
-seal_of seed soft r = fold sum_step (fold sum_step (fold sum_step seed (map (cast_unsigned w16) soft)) (r.at ∷ r.rounds ∷ verdict_byte r.verdict ∷ [])) (bytes_of_bits r.bits ++ r.certificate)
+seal_of seed soft r = fold sum_step (fold sum_step (fold sum_step seed (fours_of soft)) (r.at ∷ r.rounds ∷ verdict_byte r.verdict ∷ [])) (bytes_of_bits r.bits ++ r.certificate)
 
 -- ---- and back
 

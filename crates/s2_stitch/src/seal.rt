@@ -1,8 +1,8 @@
 //! The seal that binds a record to its frame.
-ghost use Rattle.std.specs.Prelude.{◌≡◌, fold, map};
+ghost use Rattle.std.specs.Prelude.{◌≡◌, ◌+◌, ◌^◌, ◌<◌, fold, pos, slice_index_or};
 ghost use Rattle.std.specs.Int.{cast_unsigned, w16};
 ghost use Rattle.s2_certfile.specs.Field.{bytes_of_bits};
-ghost use Rattle.s2_stitch.specs.Records.{seal_of, sum_step};
+ghost use Rattle.s2_stitch.specs.Records.{four_at, fours_of, seal_of, sum_step};
 
 use crate::verdicts::verdict_byte;
 use s2_bits::Bits;
@@ -18,12 +18,34 @@ fn step(sum: u64, number: u64) -> u64
     sum.wrapping_mul(FACTOR).wrapping_add(number)
 }
 
-/// A sum with these soft values.
-fn with_values(mut sum: u64, soft: &[i16]) -> u64
-    ensures { result ≡ fold sum_step sum (map (cast_unsigned w16) soft.now) }
+/// A soft value in sixteen bits, and zero past the end.
+fn value_at(soft: &[i16], at: usize) -> u64
+    ensures is { result ≡ cast_unsigned w16 (slice_index_or soft.now at (pos 0)) }
+    ensures small { result < 65536 }
 {
-    'values: for value in soft {
-        sum = step(sum, u64::from(value.cast_unsigned()));
+    if at < soft.len() {
+        u64::from(soft[at].cast_unsigned())
+    } else {
+        0
+    }
+}
+
+/// Four soft values as one number.
+fn four_at(soft: &[i16], at: usize) -> u64
+    requires { at + 4 < 2 ^ 64 }
+    ensures { result ≡ four_at soft.now at }
+{
+    let low = value_at(soft, at) + 65_536 * value_at(soft, at + 1);
+    let high = value_at(soft, at + 2) + 65_536 * value_at(soft, at + 3);
+    low + 4_294_967_296 * high
+}
+
+/// A sum with these soft values, four at a time.
+fn with_values(mut sum: u64, soft: &[i16]) -> u64
+    ensures { result ≡ fold sum_step sum (fours_of soft.now) }
+{
+    'fours: for k in 0..soft.len().div_ceil(4) {
+        sum = step(sum, four_at(soft, 4 * k));
     }
     sum
 }

@@ -3,13 +3,8 @@ use Rattle.std.proofs.lemmas.List.{take_more}
 use Rattle.std.proofs.lemmas.List.Concat.{flat_map-append}
 use Rattle.s2_bits.specs.Bits.{bits_of_byte, bits_of_bytes}
 use Rattle.s2_bits.proofs.Eights.{eight_more}
+use Rattle.s2_bits.proofs.Spelled.{one_byte_more}
 use Rattle.s2_bits.proofs.spelling.bits_into.Goals as goal
-
-one_byte_more : (bytes : List ℕ) (i : ℕ) → i < length bytes → bits_of_bytes (take (i + 1) bytes) ≡ bits_of_bytes (take i bytes) ++ bits_of_byte (get_or bytes i 0)
-one_byte_more bytes i lt =
-    ap bits_of_bytes (take_more bytes i 0 lt)
-    ∙ flat_map-append bits_of_byte (take i bytes) (get_or bytes i 0 ∷ [])
-    ∙ ap (λ l. bits_of_bytes (take i bytes) ++ l) (append-nil (bits_of_byte (get_or bytes i 0)))
 
 pub loop-i-preserved : goal.loop-i-preserved
 unfolding bits_of_byte
