@@ -21,12 +21,19 @@ def seed(made, options=None, certificates=False):
     return int.from_bytes(hashlib.sha256(made + text.encode() + bytes([certificates])).digest()[:8], "big")
 
 
+def summed(begun, numbers):
+    """The sum of numbers from this one on."""
+    for number in numbers:
+        begun = (begun * FACTOR + number) % 2**64
+    return begun
+
+
 def record(begun, soft, at, verdict, word, certificate=b"", rounds=0):
     """The record of a decision, or an end record."""
-    seal, bits = begun, [value % 65536 for value in soft]
-    fours = (sum(value << 16 * k for k, value in enumerate(bits[first : first + 4])) for first in range(0, len(bits), 4))
-    for number in (*fours, at, rounds, verdict, *word, *certificate):
-        seal = (seal * FACTOR + number) % 2**64
+    filled = [value % 65536 for value in soft] + [0] * (-len(soft) % 8)
+    fours = [sum(value << 16 * k for k, value in enumerate(filled[first : first + 4])) for first in range(0, len(filled), 4)]
+    eights = [int.from_bytes(those[first : first + 8], "little") for those in (word, certificate) for first in range(0, len(those), 8)]
+    seal = summed(begun, [summed(0, fours[::2]), summed(0, fours[1::2]), at, rounds, verdict, *eights])
     return struct.pack(">QQIIB", at, seal, rounds, len(certificate), verdict) + word + certificate
 
 

@@ -7,10 +7,10 @@ use std::test::Fail;
 
 /// Position 258, a seal, 3 rounds, one byte of certificate, `parity`, the 12 bits a5c, and the byte 7f.
 const RECORD: &[u8] =
-    b"\0\0\0\0\0\0\x01\x02\xae\x69\xf6\x68\xe3\xe4\xa9\x7c\0\0\0\x03\0\0\0\x01\x02\xa5\xc0\x7f";
+    b"\0\0\0\0\0\0\x01\x02\x7c\xf6\xe4\x05\xbb\xe9\x13\x4c\0\0\0\x03\0\0\0\x01\x02\xa5\xc0\x7f";
 
 /// The seal of this record for the seed 77 and some soft values.
-const SEAL: u64 = 0xae69_f668_e3e4_a97c;
+const SEAL: u64 = 0x7cf6_e405_bbe9_134c;
 
 /// The bytes before the decided bits.
 const FRONT: usize = 25;
@@ -21,8 +21,10 @@ fn seals_the_vector(rt: HostRuntime) -> Result<(), Fail> {
     let soft: [i16; 4] = [-8, 127, 0, -32768];
     let verdict = Some(Verdict::Parity);
     assert!(rt; seal_of(77, &soft, 258, 3, verdict, &word, &RECORD[FRONT + 2..]) == SEAL);
+    let long: [i16; 9] = [-8, 127, 0, -32768, 5, 6, -7, 8, 9];
+    assert!(rt; seal_of(77, &long, 258, 3, verdict, &word, &[0x7f; 9]) == 0x9b13_7239_c90b_bcc1);
     let empty = Bits::from_bytes(rt.alloc(), &[0, 0], 12)?;
-    assert!(rt; seal_of(77, &[], 257, 0, None, &empty, &[]) == 0x9fdc_17aa_04c2_7dce);
+    assert!(rt; seal_of(77, &[], 257, 0, None, &empty, &[]) == 0xcb1f_8013_835b_f10e);
     Ok(())
 }
 

@@ -4,3 +4,5 @@ pub mod FrameLemmas
 pub mod RecallLemmas
 pub mod StitchLemmas
 pub mod UncertifiedLemmas
+pub mod SameLemmas
+pub mod SealLemmas

@@ -1,7 +1,7 @@
 -- The record of a frame's decision, its seal, and its bytes (own). Read from top to bottom; numbers are big endian.
 use Rattle.std.specs.Prelude.{◌≡◌, ℕ, ℤ, ◌+◌, ◌*◌, ◌/◌, ◌%◌, ◌^◌, ◌<◌, ◌≤◌, ◌==◌, ◌||◌, nat_lt, Bool, if◌then◌else◌, List, [], ◌∷◌, ◌++◌, length, take, drop, map, pos, slice_index_or, fold, All, Option, Some, None}
 use Rattle.std.specs.List.{flat_map}
-use Rattle.std.specs.Int.{cast_unsigned, w16, w32, w64}
+use Rattle.std.specs.Int.{cast_unsigned, from_le_bytes, w16, w32, w64}
 use Rattle.s2_certfile.specs.Field.{Field, both, bit_list, bytes_of_bits, number, places}
 use Rattle.s2_check.specs.declared.verdict.Verdict.{Verdict}
 use Rattle.s2_check.specs.declared.verdict.Verdict.TheVariants.{Sole, MostLikely, Parity, Broken}
@@ -60,14 +60,26 @@ four_at soft at =
     let value = λ (k : ℕ). cast_unsigned w16 (slice_index_or soft (at + k) (pos 0)) in
     value 0 + 65536 * value 1 + 4294967296 * value 2 + 281474976710656 * value 3
 
--- soft values, four to a number
-abbrev pub fours_of : List ℤ → List ℕ
-fours_of soft = map (λ i. four_at soft (4 * i)) (places ((length soft + 3) / 4))
+-- the sum of soft values, four to a number: of every second number, from the first or from the second on
+abbrev pub soft_sum : List ℤ → (first : ℕ) → ℕ
+soft_sum soft first = fold sum_step 0 (map (λ i. four_at soft (8 * i + 4 * first)) (places ((length soft + 7) / 8)))
 
--- The seal of a record: the sum of its frame's soft values and of all that it says. The sum begins at a number that identifies the
--- rows and the options
+-- eight bytes from a place on as one number, the first one lowest; zero past the end
+abbrev pub eight_at : List ℕ → ℕ → ℕ
+eight_at bytes at =
+    let byte = λ (k : ℕ). slice_index_or bytes (at + k) 0 in
+    from_le_bytes w64 (byte 0 ∷ byte 1 ∷ byte 2 ∷ byte 3 ∷ byte 4 ∷ byte 5 ∷ byte 6 ∷ byte 7 ∷ [])
+
+-- bytes, eight to a number
+abbrev pub eights_of : List ℕ → List ℕ
+eights_of bytes = map (λ i. eight_at bytes (8 * i)) (places ((length bytes + 7) / 8))
+
+-- The seal of a record: the sum of its frame's soft values and of all that it says. It begins at a number that identifies the rows and
+-- the options
 abbrev pub seal_of : (seed : ℕ) → (soft : List ℤ) → Record → ℕ
-seal_of seed soft r = fold sum_step (fold sum_step (fold sum_step seed (fours_of soft)) (r.at ∷ r.rounds ∷ verdict_byte r.verdict ∷ [])) (bytes_of_bits r.bits ++ r.certificate)
+seal_of seed soft r =
+    let front = soft_sum soft 0 ∷ soft_sum soft 1 ∷ r.at ∷ r.rounds ∷ verdict_byte r.verdict ∷ [] in
+    fold sum_step (fold sum_step (fold sum_step seed front) (eights_of (bytes_of_bits r.bits))) (eights_of r.certificate)
 
 -- ---- and back
 

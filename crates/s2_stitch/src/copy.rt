@@ -5,6 +5,7 @@ ghost use Rattle.s2_receive.specs.Limits.{max_symbols};
 ghost use Rattle.s2_stitch.specs.Copies.{CopiesFrame, CopiesTo, CountsCopy, ReadsSymbols, SkipsSymbols};
 
 use crate::fault::SourceFault;
+use crate::room::Room;
 use s2_mode::{CountedRead, Symbol, read_full, read_symbol, symbols_into};
 use std::alloc::Global;
 
@@ -25,6 +26,7 @@ fn skip<C: CountedRead>(copy: &mut C, symbols: u64) -> Result<bool, SourceFault>
 /// Reads this number of symbols. `None` if the copy ends before.
 fn read_symbols<C: CountedRead>(
     alloc: Global,
+    room: &mut Room,
     copy: &mut C,
     size: usize,
 ) -> Result<Option<Vec<Symbol>>, SourceFault>
@@ -34,15 +36,18 @@ fn read_symbols<C: CountedRead>(
     ensures long { IfOk result (λ o. IfSome o (λ v. length v.items ≡ size)) }
     ensures counts { CountsCopy (C.count copy.old) (C.count copy.new) result }
 {
-    let mut bytes = vec![in alloc; 0u8; 4 * size].map_err(|_| SourceFault::NoMemory)?;
-    let mut symbols = vec![in alloc; Symbol { i: 0, q: 0 }; size].map_err(
-        |_| SourceFault::NoMemory,
-    )?;
+    let mut bytes = room
+        .take_bytes(alloc, 4 * size)
+        .map_err(|_| SourceFault::NoMemory)?;
+    let mut symbols = room
+        .take_symbols(alloc, size)
+        .map_err(|_| SourceFault::NoMemory)?;
     let count = read_full(copy, &mut bytes).map_err(|_| SourceFault::Recording)?;
     if count < 4 * size {
         return Ok(None);
     }
     symbols_into(&bytes, &mut symbols);
+    room.bytes = Some(bytes);
     Ok(Some(symbols))
 }
 
@@ -68,6 +73,7 @@ pub(crate) fn copy_to<C: CountedRead>(
 /// `None` if the copy ends before the frame is whole.
 pub(crate) fn copy_frame<C: CountedRead>(
     alloc: Global,
+    room: &mut Room,
     copy: &mut C,
     place: &mut u64,
     at: u64,
@@ -84,7 +90,7 @@ pub(crate) fn copy_frame<C: CountedRead>(
     if !copy_to(copy, place, at)? {
         return Ok(None);
     }
-    match read_symbols(alloc, copy, size)? {
+    match read_symbols(alloc, room, copy, size)? {
         Some(symbols) => {
             *place = at + size as u64;
             Ok(Some(symbols))

@@ -5,6 +5,7 @@ ghost use Rattle.s2_receive.specs.Decider.{HasPlace, delivered_of};
 ghost use Rattle.s2_stitch.specs.Frames.{certificate_of};
 ghost use Rattle.s2_stitch.specs.Recalling.{are_same};
 
+use crate::same::are_same;
 use s2_bits::Bits;
 use s2_check::{CertView, Certificate};
 use s2_matrix::Matrix;
@@ -66,7 +67,7 @@ impl<'a> RecordedFrame<'a> {
     pub fn has_symbols(&self, symbols: &[Symbol]) -> bool
         ensures { result ≡ are_same self.now.symbols symbols.now }
     {
-        self.symbols.as_slice() == symbols
+        are_same(&self.symbols, symbols)
     }
 
     /// The results of the decision on it.

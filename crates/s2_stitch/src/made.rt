@@ -10,6 +10,7 @@ ghost use Rattle.s2_stitch.specs.Records.{seal_of};
 use crate::frame::RecordedFrame;
 use crate::next::Usable;
 use crate::record::Record;
+use crate::room::Room;
 use crate::seal::seal_of;
 use s2_check::Verdict;
 use s2_matrix::Matrix;
@@ -37,6 +38,7 @@ pub(crate) fn has_seal(seed: u64, soft: &[i16], own: &Record) -> bool
 /// reader of frames. `None` if the record has another seal.
 pub(crate) fn made_frame<'a>(
     alloc: Global,
+    room: &mut Room,
     matrix: &'a Matrix,
     seed: u64,
     reader: &mut FrameReader,
@@ -56,7 +58,7 @@ pub(crate) fn made_frame<'a>(
         record,
         certificate,
     } = usable;
-    let mut soft = vec![in alloc; 0i16; record.word.len()]?;
+    let mut soft = room.take_soft(alloc, record.word.len())?;
     reader.find_soft(&symbols, &mut soft);
     if !has_seal(seed, &soft, &record) {
         return Ok(None);

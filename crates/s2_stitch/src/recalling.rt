@@ -145,6 +145,7 @@ impl<'a, D: Decide, Q: CountedRead, C: CountedRead> Supplied<RecordSource<'a, Q,
             return;
         }
         self.is_recalled = false;
+        source.take_back(self.held.take());
         self.held = source.next(alloc, at);
     }
 }

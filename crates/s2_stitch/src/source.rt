@@ -15,6 +15,7 @@ use crate::frame::RecordedFrame;
 use crate::made::{has_seal, made_frame};
 use crate::next::{Usable, next_usable};
 use crate::record::Record;
+use crate::room::Room;
 use s2_check::Verdict;
 use s2_matrix::Matrix;
 use s2_message::{FrameOptions, FrameReader};
@@ -27,6 +28,7 @@ use std::marker::Model;
 /// whole.
 fn frame_of<'a, C: CountedRead>(
     alloc: Global,
+    room: &mut Room,
     matrix: &'a Matrix,
     seed: u64,
     mode: Mode,
@@ -45,9 +47,9 @@ fn frame_of<'a, C: CountedRead>(
     ensures counts { CountsCopy (C.count copy.old) (C.count copy.new) result }
 {
     let at = usable.record.at;
-    match copy_frame(alloc, copy, place, at, mode.symbols())? {
+    match copy_frame(alloc, room, copy, place, at, mode.symbols())? {
         Some(symbols) => {
-            match made_frame(alloc, matrix, seed, reader, verdict, usable, symbols) {
+            match made_frame(alloc, room, matrix, seed, reader, verdict, usable, symbols) {
                 Ok(Some(frame)) => Ok(Some(frame)),
                 Ok(None) => Err(SourceFault::OtherRecording),
                 Err(_) => Err(SourceFault::NoMemory),
@@ -81,6 +83,7 @@ fn end_of<'a, C: CountedRead>(
 /// Reads the frame of a record from the copy, or passes an end record.
 fn read_usable<'a, C: CountedRead>(
     alloc: Global,
+    room: &mut Room,
     matrix: &'a Matrix,
     seed: u64,
     mode: Mode,
@@ -98,7 +101,7 @@ fn read_usable<'a, C: CountedRead>(
 {
     match usable.record.verdict {
         Some(verdict) => frame_of(
-            alloc, matrix, seed, mode, reader, copy, place, verdict, usable,
+            alloc, room, matrix, seed, mode, reader, copy, place, verdict, usable,
         ),
         None => end_of(seed, copy, place, &usable.record),
     }
@@ -107,6 +110,7 @@ fn read_usable<'a, C: CountedRead>(
 /// Reads the frame of the next record at this position or after it, and after the copy's position.
 fn next_frame<'a, Q: CountedRead, C: CountedRead>(
     alloc: Global,
+    room: &mut Room,
     matrix: &'a Matrix,
     seed: u64,
     mode: Mode,
@@ -124,7 +128,9 @@ fn next_frame<'a, Q: CountedRead, C: CountedRead>(
     ensures counts { CountsSource (fault_in result) (Q.count records.old) (Q.count records.new) (C.count copy.old) (C.count copy.new) }
 {
     match next_usable(alloc, matrix, records, mode.n(), at.max(*place)) {
-        Ok(Some(usable)) => { read_usable(alloc, matrix, seed, mode, reader, copy, place, usable) }
+        Ok(Some(usable)) => {
+            read_usable(alloc, room, matrix, seed, mode, reader, copy, place, usable)
+        }
         Ok(None) => Ok(None),
         Err(fault) => Err(SourceFault::Records(fault)),
     }
@@ -143,6 +149,7 @@ pub struct RecordSource<'a, Q: CountedRead, C: CountedRead> {
     copy: C,
     place: u64,
     fault: Option<SourceFault>,
+    room: Room,
 }
 
 impl<'a, Q: CountedRead + Drop, C: CountedRead + Drop> Drop for RecordSource<'a, Q, C> {
@@ -156,6 +163,7 @@ impl<'a, Q: CountedRead + Drop, C: CountedRead + Drop> Drop for RecordSource<'a,
             copy: _,
             place: _,
             fault: _,
+            room: _,
         } = self;
     }
 }
@@ -202,6 +210,7 @@ impl<'a, Q: CountedRead, C: CountedRead> RecordSource<'a, Q, C> {
             copy,
             place: 0,
             fault: None,
+            room: Room::new(),
         })
     }
 
@@ -210,6 +219,15 @@ impl<'a, Q: CountedRead, C: CountedRead> RecordSource<'a, Q, C> {
         ensures { result ≡ self.now.fault }
     {
         self.fault
+    }
+
+    /// Takes back a frame that is not used any more. The next one gets its memory.
+    pub fn take_back(&mut self, frame: Option<RecordedFrame<'a>>)
+        ensures { self.new ≡ self.old }
+    {
+        if let Some(frame) = frame {
+            self.room.keep(frame);
+        }
     }
 
     /// The frame of the next record at this position or after it, in symbols. It passes records before this position and before
@@ -226,6 +244,7 @@ impl<'a, Q: CountedRead, C: CountedRead> RecordSource<'a, Q, C> {
         }
         match next_frame(
             alloc,
+            &mut self.room,
             self.matrix,
             self.seed,
             self.mode,

@@ -1,25 +1,30 @@
-use Rattle.std.proofs.Common.{◌*◌, ◌+◌, ◌/◌, ◌<◌, ◌≤◌, fold, sym, ap, ◌∙◌, length, arith}
-use Rattle.std.proofs.lemmas.List.{take_all}
-use Rattle.std.proofs.lemmas.List.Sums.{fold_more}
+use Rattle.std.proofs.Common.{◌*◌, ◌+◌, ◌/◌, ◌^◌, ◌<◌, ◌≤◌, length, arith, rules}
 use Rattle.s2_bits.specs.Bits.{byte_at}
 use Rattle.s2_certfile.specs.Field.{bytes_of_bits}
-use Rattle.s2_certfile.proofs.EntryLemmas.{length-listed, listed_at}
-use Rattle.s2_stitch.specs.Records.{sum_step}
+use Rattle.s2_certfile.proofs.EntryLemmas.{length-listed}
+use Rattle.s2_stitch.specs.Records.{eight_at}
+use Rattle.s2_stitch.proofs.SealLemmas.{sum_all, sum_more}
 use Rattle.s2_stitch.proofs.seal.with_bits.Goals as goal
 
-pub bytes-preserved : goal.bytes-preserved
-bytes-preserved c =
+pub bits_eight-requires : goal.bits_eight-requires
+bits_eight-requires c =
+    let few : c.len.result < 2 ^ 64 = search rules in
+    omega (arith, c.eights-test.true, c.div_ceil-k-end.ensures, c.div_ceil.ensures, few)
+
+pub eights-preserved : goal.eights-preserved
+eights-preserved c =
     let bits = c.args.word.now in
-    let k = c.bytes.k in
-    let n = (length bits + 7) / 8 in
-    let low : k < n = omega (arith, c.bytes-test.true, c.len.ensures, c.div_ceil-k-end.ensures) in
-    let byte_is = c.from.ensures ∙ c.byte.ensures ∙ sym (listed_at (λ i. byte_at bits (8 * i)) n k low) in
-    c.step-sum.ensures ∙ (λ i. sum_step (c.bytes.invariant i) (byte_is i))
-    ∙ sym (fold_more sum_step c.args.sum (bytes_of_bits bits) k 0 (omega (arith, low, length-listed (λ i. byte_at bits (8 * i)) n)))
+    let bytes = bytes_of_bits bits in
+    let n = (length bytes + 7) / 8 in
+    let long = length-listed (λ i. byte_at bits (8 * i)) ((length bits + 7) / 8) in
+    let low : c.eights.k < n = omega (arith, c.eights-test.true, c.div_ceil-k-end.ensures, c.div_ceil.ensures, c.len.ensures, long) in
+    sum_more (λ i. eight_at bytes (8 * i)) n c.eights.k c.args.sum c.eights.sum c.bits_eight.result c.step-sum.result low c.eights.invariant c.bits_eight.ensures c.step-sum.ensures
 
 pub returns : goal.returns
 returns c =
     let bits = c.args.word.now in
-    let n = (length bits + 7) / 8 in
-    let all : n ≤ c.bytes.k = omega (arith, c.bytes-test.false, c.len.ensures, c.div_ceil-k-end.ensures) in
-    c.bytes.invariant ∙ ap (fold sum_step c.args.sum) (take_all c.bytes.k (bytes_of_bits bits) (omega (arith, all, length-listed (λ i. byte_at bits (8 * i)) n)))
+    let bytes = bytes_of_bits bits in
+    let n = (length bytes + 7) / 8 in
+    let long = length-listed (λ i. byte_at bits (8 * i)) ((length bits + 7) / 8) in
+    let all : n ≤ c.eights.k = omega (arith, c.eights-test.false, c.div_ceil-k-end.ensures, c.div_ceil.ensures, c.len.ensures, long) in
+    sum_all (λ i. eight_at bytes (8 * i)) n c.eights.k c.args.sum c.eights.sum all c.eights.invariant

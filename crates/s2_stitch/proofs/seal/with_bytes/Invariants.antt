@@ -1,7 +1,7 @@
 use Rattle.std.proofs.Common.{◌≡◌, fold, take}
-use Rattle.s2_stitch.specs.Records.{sum_step}
+use Rattle.s2_stitch.specs.Records.{eights_of, sum_step}
 use Rattle.s2_stitch.proofs.seal.with_bytes.Given as goal
 
 -- the sum of the bytes so far
-abbrev pub invariant-bytes : goal.invariant-bytes
-invariant-bytes l = l.sum ≡ fold sum_step l.fn.sum (take l.byte-index l.bytes)
+abbrev pub invariant-eights : goal.invariant-eights
+invariant-eights l = l.sum ≡ fold sum_step l.fn.sum (take l.k (eights_of l.bytes))
