@@ -20,7 +20,7 @@ use Rattle.s2_receive.specs.declared.report.Phase.TheVariants as phases
 use Rattle.s2_receive.specs.declared.report.Received.{Received}
 use Rattle.s2_receive.proofs.RunLemmas.{Came, finishes, goes, processed_none}
 use Rattle.s2_stitch.specs.Recalling.{Recalling, is_ahead, recalls}
-use Rattle.s2_stitch.specs.Sources.{AreTrueLeft, CountsSource, Gives, GivesBy, IsOpen, RecordSource}
+use Rattle.s2_stitch.specs.Sources.{AreTrueLeft, CountsSource, Gives, GivesBy, RecordSource}
 use Rattle.s2_stitch.specs.Stitching.{AreTrue, HasMet, HoldsNext, OnlyFaultsOf, Supplies, own_rule, own_rules, recall_rule}
 use Rattle.s2_stitch.specs.declared.fault.SourceFault.{SourceFault}
 use Rattle.s2_stitch.specs.declared.fault.StitchFault.TheVariants as stitch_faults

@@ -1,4 +1,4 @@
-use Rattle.std.proofs.Common.{◌≡◌, ◌∙◌, Some, None, ap, subst}
+use Rattle.std.proofs.Common.{◌∙◌, Some, None, ap, subst}
 use Rattle.s2_mode.specs.Mode.{symbols_in}
 use Rattle.s2_stitch.specs.Copies.{CopiesFrame}
 use Rattle.s2_stitch.specs.Frames.{terms_by}

@@ -1,4 +1,4 @@
-use Rattle.std.proofs.Common.{◌≡◌, None, refl, rules}
+use Rattle.std.proofs.Common.{refl, rules}
 use Rattle.s2_stitch.specs.Sources.{IsOpen}
 use Rattle.s2_stitch.proofs.SourceLemmas.{gives_fault, gives_frame}
 use Rattle.s2_stitch.proofs.source.RecordSource.next.Goals as goal
