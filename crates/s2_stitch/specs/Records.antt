@@ -74,12 +74,15 @@ eight_at bytes at =
 abbrev pub eights_of : List ℕ → List ℕ
 eights_of bytes = map (λ i. eight_at bytes (8 * i)) (places ((length bytes + 7) / 8))
 
--- The seal of a record: the sum of its frame's soft values and of all that it says. It begins at a number that identifies the rows and
--- the options
+-- the sum of the soft values of a frame and of all that its record says, which begins at this number
+unfoldable pub sum_of : (seed : ℕ) → (soft : List ℤ) → (at rounds verdict : ℕ) → (bits : List Bool) → (certificate : List ℕ) → ℕ
+sum_of seed soft at rounds verdict bits certificate =
+    let front = soft_sum soft 0 ∷ soft_sum soft 1 ∷ at ∷ rounds ∷ verdict ∷ [] in
+    fold sum_step (fold sum_step (fold sum_step seed front) (eights_of (bytes_of_bits bits))) (eights_of certificate)
+
+-- The seal of a record. The sum begins at a number that identifies the rows and the options
 abbrev pub seal_of : (seed : ℕ) → (soft : List ℤ) → Record → ℕ
-seal_of seed soft r =
-    let front = soft_sum soft 0 ∷ soft_sum soft 1 ∷ r.at ∷ r.rounds ∷ verdict_byte r.verdict ∷ [] in
-    fold sum_step (fold sum_step (fold sum_step seed front) (eights_of (bytes_of_bits r.bits))) (eights_of r.certificate)
+seal_of seed soft r = sum_of seed soft r.at r.rounds (verdict_byte r.verdict) r.bits r.certificate
 
 -- ---- and back
 
