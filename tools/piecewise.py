@@ -23,8 +23,8 @@ TOP = os.path.dirname(os.path.dirname(os.path.realpath(__file__)))
 STANDARD, REMOVING = ("-", "/dev/stdout"), 'cat; for it; do mv "$it" "$it.old" && rm -rf "$it.old"; done 2>/dev/null'
 # Bytes of a symbol; symbols of the longest PLFRAME, and those that a piece reads after its end at most.
 SYMBOL, FRAME, OVER = 4, 33282, 33282 + 90
-# Pieces for each process, and frames of a piece at least and at most. With --hosts and --slurm: frames at least, pieces at most.
-FOR_EACH, LEAST, MOST, LEAST_AWAY, MOST_AWAY = 8, 32, 1024, 512, 1000
+# Pieces for each process, and of what is left. Frames of a piece at least and at most. With --hosts and --slurm: frames at least, pieces at most.
+FOR_EACH, FOR_EACH_LEFT, LEAST, MOST, LEAST_AWAY, MOST_AWAY = 8, 2, 32, 1024, 512, 1000
 # Frames of a group; seconds without input that end it, and that are noted; bytes that a copy keeps: more than a pipe, buffers and three frames.
 GROUP, PAUSE, LONG, PASSED = 63, 0.1, 1.0, 1 << 20
 # The end of the name of an output that is not complete, which nobody can guess; the names of the files in a work folder.
@@ -182,14 +182,15 @@ class Work:
     def __init__(self, chosen, folder):
         self.chosen, self.folder, (self.rows, self.symbols, _) = chosen, folder, map(os.path.realpath, chosen.files)
         self.is_away, self.jobs, self.status = chosen.hosts or chosen.slurm, chosen.jobs or len(os.sched_getaffinity(0)), os.stat(self.symbols)
-        self.total, frames = self.status.st_size // SYMBOL, self.status.st_size // SYMBOL // FRAME
-        least = max(LEAST_AWAY, -(-frames // MOST_AWAY)) if self.is_away else max(LEAST, min(MOST, frames // (FOR_EACH * self.jobs)))
-        self.size = FRAME * (chosen.frames or least)
-        self.numbers = range(-(-self.total // self.size))
+        self.total, self.cuts = self.status.st_size // SYMBOL, [0]
+        self.frames = chosen.frames or self.is_away and max(LEAST_AWAY, -(-(self.total // FRAME) // MOST_AWAY))
+        while (left := self.total - self.cuts[-1]) > 0:
+            some = min(self.total // FOR_EACH, left // FOR_EACH_LEFT) // self.jobs // FRAME
+            self.cuts.append(self.cuts[-1] + min(left, FRAME * (self.frames or max(LEAST, min(MOST, some)))))
 
     def plan(self):
         """A script that decodes a piece by its number. It has a line on the rows and the recording."""
-        own = ["--s2", self.chosen.s2, "--work", self.folder, "--frames", str(self.size // FRAME), "--task"]
+        own = ["--s2", self.chosen.s2, "--work", self.folder, f"--frames={self.frames}" if self.frames else f"--jobs={self.jobs}", "--task"]
         task = ["python3", os.path.join(TOP, "tools/pieces"), *self.chosen.call[2:], self.rows, self.symbols, os.devnull, *own]
         which = f"{hashlib.sha256(pathlib.Path(self.rows).read_bytes()).hexdigest()} {self.status.st_size} {self.status.st_mtime_ns}"
         return os.fsencode(f"#!/bin/sh\n# {which}\nexec {shlex.join(task)} ${{1-$SLURM_ARRAY_TASK_ID}}\n")
@@ -199,7 +200,7 @@ class Work:
 
     def decode(self, number):
         """Decodes a piece. The file with its records has its name when it is complete."""
-        start, stop, part = number * self.size, min(self.total, (number + 1) * self.size), f"{self.path(number)}.{os.getpid()}"
+        start, stop, part = *self.cuts[number : number + 2], f"{self.path(number)}.{os.getpid()}"
         words = [*self.chosen.call, "--piece", f"{start}..{stop}", *["--last"] * (stop == self.total), self.rows, "-", part]
         with open(self.symbols, "rb") as symbols:
             received(f"piece {number}, symbols {start} to {stop}", words, symbols, SYMBOL * start)
@@ -210,7 +211,7 @@ class Work:
     def missing(self):
         # over a network a list is more recent than a single name
         there = {*os.listdir(self.folder)}
-        return [it for it in self.numbers if os.path.basename(self.path(it)) not in there]
+        return [it for it in range(len(self.cuts) - 1) if os.path.basename(self.path(it)) not in there]
 
     def schedule(self):
         """Decodes the missing pieces, or has GNU parallel or an array job of Slurm decode them."""
@@ -229,7 +230,7 @@ class Work:
     def records(self):
         """The files with the records in order. One that is read is removed, unless the folder is kept."""
         scheduling = ThreadPoolExecutor(1).submit(self.schedule)
-        for number in self.numbers:
+        for number in range(len(self.cuts) - 1):
             while not os.path.exists(self.path(number)):
                 scheduling.done() and scheduling.result()
                 time.sleep(0.01)
