@@ -5,7 +5,7 @@ use crate::frame::RecordedFrame;
 use s2_mode::Symbol;
 use std::alloc::{AllocError, Global};
 
-/// Lists that are not used any more: the bytes of a frame, its symbols, and its soft values. What is in them says nothing.
+/// Lists that are not used any more: the bytes of a frame, its symbols, and its soft values. Their contents say nothing.
 #[derive(Drop)]
 pub(crate) struct Room {
     pub(crate) bytes: Option<Vec<u8>>,
