@@ -23,7 +23,7 @@ TOP = os.path.dirname(os.path.dirname(os.path.realpath(__file__)))
 STANDARD, REMOVING = ("-", "/dev/stdout"), 'cat; for it; do mv "$it" "$it.old" && rm -rf "$it.old"; done 2>/dev/null'
 # Bytes of a symbol; symbols of the longest PLFRAME, and those that a piece reads after its end at most.
 SYMBOL, FRAME, OVER = 4, 33282, 33282 + 90
-# Pieces for each process; of the rest, if these are fewer symbols. Frames of a piece at least and at most. With --hosts and --slurm: frames at least, pieces at most.
+# Pieces for each process, and of the rest near the end. Frames of a piece at least and at most; with --hosts and --slurm frames at least, pieces at most.
 FOR_EACH, FOR_EACH_LEFT, LEAST, MOST, LEAST_AWAY, MOST_AWAY = 8, 2, 32, 1024, 512, 1000
 # Frames of a group; seconds without input that end it, and that are noted; bytes that a copy keeps: more than a pipe, buffers and three frames.
 GROUP, PAUSE, LONG, PASSED = 63, 0.1, 1.0, 1 << 20
