@@ -1,5 +1,5 @@
 //! `--about`: the file that says how a report was made. This is plain code.
-ghost use Rattle.std.specs.Prelude.{◌≡◌, ◌≢◌, ◌<◌, IfOk, OnErr};
+ghost use Rattle.std.specs.Prelude.{◌≡◌, ◌≢◌, OnErr};
 ghost use Rattle.s2_receive.specs.Sinks.{wanted_count};
 
 use crate::link_request::LinkRequest;
@@ -9,27 +9,12 @@ use s2_about::{
 };
 use s2_io::{Exit, Output, Truncating};
 use s2_mode::{WriteFault, write_full};
-use s2_opening::{Opens, Unserved};
+use s2_opening::Unserved;
 use s2_tuning::Tuning;
-use s2_words::{DemodArguments, LinkArguments, RunArguments, Seeds, StrengthArguments};
+use s2_words::{
+    DemodArguments, LinkArguments, NoteArguments, RunArguments, Seeds, StrengthArguments,
+};
 use std::alloc::{AllocError, Global};
-
-/// The file, if its name is given.
-pub(crate) type AboutFile<W> = Option<Truncating<W>>;
-
-/// Opens the file, if its name is given, after all others.
-pub(crate) fn open_about<'a, P: Opens<'a>>(
-    opener: &mut P,
-    name: Option<&'a str>,
-) -> Result<AboutFile<P::Output>, Unserved<'a>>
-    requires { P.opened opener.old < 12 }
-    ensures { IfOk result (λ made. wanted_count (λ file. P.Output.count file.to) made ≡ 0) }
-{
-    match name {
-        Some(name) => Ok(Some(Truncating::new(opener.write(name)?))),
-        None => Ok(None),
-    }
-}
 
 /// Appends the mode, and all options of a receiver.
 pub(crate) fn push_receiver(
@@ -46,40 +31,12 @@ pub(crate) fn push_receiver(
     push_fields(text, frames.as_slice())
 }
 
-/// The options of a transmitter: the roll-off, the frames between dummy frames, and whether damaged packets are left out.
-fn sender_fields(words: &RunArguments<'_>) -> [Field; 3] {
-    [
-        Field {
-            key: "ro",
-            value: Value::Number(u64::from(words.link.roll_off)),
-        },
-        Field {
-            key: "dummy",
-            value: Value::Number(u64::from(words.dummy)),
-        },
-        Field {
-            key: "resync-packets",
-            value: Value::Flag(words.resync),
-        },
-    ]
-}
-
-/// The seeds, from the first to the last.
-fn seed_fields(seed: u64, seeds: Option<Seeds>) -> [Field; 2] {
-    let last = match seeds {
+/// The last seed: `seed` is the first one.
+fn last_seed(seed: u64, seeds: Option<Seeds>) -> u64 {
+    match seeds {
         Some(seeds) => seeds.last,
         None => seed,
-    };
-    [
-        Field {
-            key: "seed",
-            value: Value::Number(seed),
-        },
-        Field {
-            key: "last-seed",
-            value: Value::Number(last),
-        },
-    ]
+    }
 }
 
 fn strength_field(strength: StrengthArguments) -> Field {
@@ -93,6 +50,34 @@ fn strength_field(strength: StrengthArguments) -> Field {
             value: Value::Hundredths(number),
         },
     }
+}
+
+/// The options of `run` that `demod` does not have: those of a transmitter, which are the roll-off, the frames between dummy frames,
+/// and whether damaged packets are left out. Then the first and the last seed, and the noise.
+fn run_fields(words: &RunArguments<'_>) -> [Field; 6] {
+    [
+        Field {
+            key: "ro",
+            value: Value::Number(u64::from(words.link.roll_off)),
+        },
+        Field {
+            key: "dummy",
+            value: Value::Number(u64::from(words.dummy)),
+        },
+        Field {
+            key: "resync-packets",
+            value: Value::Flag(words.resync),
+        },
+        Field {
+            key: "seed",
+            value: Value::Number(words.channel.seed),
+        },
+        Field {
+            key: "last-seed",
+            value: Value::Number(last_seed(words.channel.seed, words.seeds)),
+        },
+        strength_field(words.channel.strength),
+    ]
 }
 
 /// Appends the two lines of each file. These are their names: rows, input, output and report.
@@ -109,53 +94,72 @@ fn push_sums(
     push_sum(alloc, text, report, sums.report.take())
 }
 
-/// The record of `demod`, and of `stitch`, which does the same.
-fn demod_record(
+/// Appends the options of a receiver, and those on its report.
+fn push_reception(
+    text: &mut String,
+    link: LinkArguments,
+    tuning: &Tuning,
+    every: u32,
+    notes: NoteArguments,
+) -> Result<(), AllocError> {
+    push_receiver(text, link, tuning)?;
+    push_fields(text, report_fields(every, notes).as_slice())
+}
+
+/// Appends what the record of `demod` has after its begin, and of `stitch`, which does the same.
+fn push_demod(
     alloc: Global,
+    text: &mut String,
     words: &DemodArguments<'_>,
     tuning: &Tuning,
     sums: &FileSums,
-) -> Result<String, AllocError> {
-    let mut text = begin_record(alloc, "demod")?;
-    push_receiver(&mut text, words.link, tuning)?;
-    push_fields(
-        &mut text,
-        report_fields(words.every, words.notes).as_slice(),
-    )?;
-    push_sums(
-        alloc,
-        &mut text,
-        ["rows", "symbols", "packets", "report"],
-        sums,
-    )?;
-    end_record(&mut text)?;
-    Ok(text)
+) -> Result<(), AllocError> {
+    push_reception(text, words.link, tuning, words.every, words.notes)?;
+    let names = ["rows", "symbols", "packets", "report"];
+    push_sums(alloc, text, names, sums)?;
+    end_record(text)
 }
 
-fn run_record(
+/// Appends what the record of `run` has after its begin.
+fn push_run(
     alloc: Global,
+    text: &mut String,
     words: &RunArguments<'_>,
     tuning: &Tuning,
     sums: &FileSums,
-) -> Result<String, AllocError> {
-    let mut text = begin_record(alloc, "run")?;
-    push_receiver(&mut text, words.link, tuning)?;
-    push_fields(
-        &mut text,
-        report_fields(words.every, words.notes).as_slice(),
-    )?;
-    push_fields(&mut text, sender_fields(words).as_slice())?;
-    push_fields(
-        &mut text,
-        seed_fields(words.channel.seed, words.seeds).as_slice(),
-    )?;
-    push_fields(
-        &mut text,
-        [strength_field(words.channel.strength)].as_slice(),
-    )?;
-    push_sums(alloc, &mut text, ["rows", "packets", "out", "report"], sums)?;
-    end_record(&mut text)?;
-    Ok(text)
+) -> Result<(), AllocError> {
+    push_reception(text, words.link, tuning, words.every, words.notes)?;
+    push_fields(text, run_fields(words).as_slice())?;
+    push_sums(alloc, text, ["rows", "packets", "out", "report"], sums)?;
+    end_record(text)
+}
+
+/// Appends what the record of a request has after its begin. A transmitter has no record.
+fn push_rest(
+    alloc: Global,
+    text: &mut String,
+    request: LinkRequest<'_, '_>,
+    sums: &FileSums,
+) -> Result<(), AllocError> {
+    match request {
+        LinkRequest::Mod(_) => Ok(()),
+        LinkRequest::Demod(words, options) => {
+            push_demod(alloc, text, words, &options.tuning, sums)
+        }
+        LinkRequest::Stitch(words, options) => {
+            push_demod(alloc, text, &words.demod, &options.tuning, sums)
+        }
+        LinkRequest::Run(words, options) => push_run(alloc, text, words, &options.tuning, sums),
+    }
+}
+
+/// The begin of the record of a request.
+fn begin_of(alloc: Global, request: LinkRequest<'_, '_>) -> Result<String, AllocError> {
+    match request {
+        LinkRequest::Mod(_) => Ok(String::new(alloc)),
+        LinkRequest::Demod(_, _) | LinkRequest::Stitch(_, _) => begin_record(alloc, "demod"),
+        LinkRequest::Run(_, _) => begin_record(alloc, "run"),
+    }
 }
 
 /// The text of the file. A transmitter has none.
@@ -164,14 +168,9 @@ fn record_of(
     request: LinkRequest<'_, '_>,
     sums: &FileSums,
 ) -> Result<String, AllocError> {
-    match request {
-        LinkRequest::Mod(_) => Ok(String::new(alloc)),
-        LinkRequest::Demod(words, options) => { demod_record(alloc, words, &options.tuning, sums) }
-        LinkRequest::Stitch(words, options) => {
-            demod_record(alloc, &words.demod, &options.tuning, sums)
-        }
-        LinkRequest::Run(words, options) => run_record(alloc, words, &options.tuning, sums),
-    }
+    let mut text = begin_of(alloc, request)?;
+    push_rest(alloc, &mut text, request, sums)?;
+    Ok(text)
 }
 
 /// Writes the file.
@@ -199,19 +198,20 @@ pub(crate) fn finish_about<'a, W: Output + Drop>(
     request: LinkRequest<'_, '_>,
     exit: Exit,
     begun: bool,
-    about: AboutFile<W>,
+    about: Option<Truncating<W>>,
     sums: Option<&FileSums>,
-) -> Result<Exit, Unserved<'a>>
+) -> Result<(), Unserved<'a>>
     requires { wanted_count (λ t. W.count t.to) about ≡ 0 }
     ensures { OnErr result (exit ≢ Exit.Fault) }
 {
     let (Some(mut file), Some(sums)) = (about, sums) else {
-        return Ok(exit);
+        return Ok(());
     };
     if exit != Exit::Fault {
-        write_about(alloc, request, &mut file, sums)?;
-    } else if begun {
+        return write_about(alloc, request, &mut file, sums);
+    }
+    if begun {
         let _ = file.finish();
     }
-    Ok(exit)
+    Ok(())
 }

@@ -14,7 +14,25 @@ pub(crate) struct BesideNames<'a> {
 }
 
 /// The records, the symbols, and the seed of the records' seals, if the command reads them.
-pub(crate) type Beside<I> = Option<(I, I, u64)>;
+pub(crate) struct Beside<I> {
+    pub files: Option<(I, I, u64)>,
+}
+
+impl<I: Drop> Drop for Beside<I> {
+    fn drop(self) {
+        let Beside { files: _ } = self;
+    }
+}
+
+impl<I> Beside<I> {
+    /// The records, the symbols, and the seed.
+    pub(crate) fn into_files(self) -> Option<(I, I, u64)>
+        ensures { result ≡ self.files }
+    {
+        let Beside { files } = self;
+        files
+    }
+}
 
 /// The name of the file that has the symbols once more. The recording itself serves if it has a length: then it is a regular file.
 fn again_name<'a>(
@@ -37,13 +55,15 @@ pub(crate) fn open_beside<'a, P: Opens<'a>>(
 ) -> Result<Beside<P::Input>, Unserved<'a>>
     requires { P.opened opener.old ≤ 3 }
     ensures count { OnOk result (P.opened opener.new ≤ 5) }
-    ensures fresh { IfOk result (λ made. ForSome made (λ b. (P.Input.count b.0 ≡ 0) × (P.Input.count b.1 ≡ 0))) }
+    ensures fresh { IfOk result (λ made. ForSome made.files (λ b. (P.Input.count b.0 ≡ 0) × (P.Input.count b.1 ≡ 0))) }
 {
     let Some(names) = names else {
-        return Ok(None);
+        return Ok(Beside { files: None });
     };
     let again = again_name(names, recording, opener.last_length())?;
     let records = opener.read_buffered(names.records)?;
     let copy = opener.read_buffered(again)?;
-    Ok(Some((records, copy, names.seed)))
+    Ok(Beside {
+        files: Some((records, copy, names.seed)),
+    })
 }

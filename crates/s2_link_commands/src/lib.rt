@@ -12,10 +12,11 @@
 
 mod about;
 mod beside;
+mod file_words;
 mod link_request;
 mod opening;
 mod piece;
-mod records;
+mod recorded;
 mod seed;
 
 pub use link_request::{LinkRequest, with_link};

@@ -4,6 +4,8 @@ ghost use Rattle.std.specs.Option.{ForSome};
 ghost use Rattle.either.specs.Either.{either};
 ghost use Rattle.s2_io.specs.Files.{CanStart};
 
+use crate::beside::{Beside, open_beside};
+use crate::file_words::FileWords;
 use s2_about::{FileSums, Hashed};
 use s2_commands::LinkFiles;
 use s2_io::{Destination, Meter, Output, Watched};
@@ -25,13 +27,21 @@ pub(crate) type Watching<'m, 'h, I, W, M> = LinkFiles<
     Watched<'m, Hashed<'h, W>, M>,
 >;
 
-/// How the input of a command on a link is read.
-#[derive(Clone, Copy)]
-pub(crate) struct Reading {
-    /// Whether it has a buffer.
-    pub buffered: bool,
-    /// Whether only its packets are read, without damaged ones.
-    pub resync: bool,
+/// The opened ends of a command on a link: its row file and its input, the files that `stitch` reads besides, and its output.
+pub(crate) struct Ends<I, O> {
+    pub inputs: (I, I),
+    pub beside: Beside<I>,
+    pub to: O,
+}
+
+impl<I: Drop, O: Drop> Drop for Ends<I, O> {
+    fn drop(self) {
+        let Ends {
+            inputs: _,
+            beside: _,
+            to: _,
+        } = self;
+    }
 }
 
 /// Opens the input of a command on a link.
@@ -68,7 +78,7 @@ fn source_of<R: CountedRead + Drop>(
 
 /// Opens the row file and the input of a command on a link, in this order. The meter expects the input's bytes, up to this
 /// number of symbols.
-pub(crate) fn open_two<'a, P: Opens<'a>, M: Meter>(
+fn open_two<'a, P: Opens<'a>, M: Meter>(
     opener: &mut P,
     meter: &M,
     rows: &'a str,
@@ -86,9 +96,30 @@ pub(crate) fn open_two<'a, P: Opens<'a>, M: Meter>(
     Ok((rows, from))
 }
 
+/// Opens the files of a command on a link that are read, and its output. The meter expects the input's bytes, up to this number of
+/// symbols.
+pub(crate) fn open_ends<'a, P: Opens<'a>, M: Meter>(
+    opener: &mut P,
+    meter: &M,
+    words: &FileWords<'a>,
+    limit: Option<u64>,
+) -> Result<Ends<P::Input, P::Output>, Unserved<'a>>
+    requires first { P.opened opener.old ≤ 1 }
+    ensures room { OnOk result (P.opened opener.new ≤ 6) }
+    ensures inputs { IfOk result (λ ends. (P.Input.count ends.inputs.0 ≡ 0) × (P.Input.count ends.inputs.1 ≡ 0)) }
+    ensures beside { IfOk result (λ ends. ForSome ends.beside.files (λ b. (P.Input.count b.0 ≡ 0) × (P.Input.count b.1 ≡ 0))) }
+    ensures output { IfOk result (λ ends. P.Output.count ends.to ≡ 0) }
+{
+    let [rows, from, to] = words.names;
+    let inputs = open_two(opener, meter, rows, from, words.buffered, limit)?;
+    let beside = open_beside(opener, words.beside, from)?;
+    let to = opener.write(to)?;
+    Ok(Ends { inputs, beside, to })
+}
+
 /// The files of a command on a link, of its opened row file and input, and of its output. `unseen` takes the bytes of the row
 /// file. The input is limited to this number of symbols. If there are sums, the bytes of each file are hashed.
-pub(crate) fn link_files<'a, 'm, 'h, I: CountedRead + Drop, W: Output + Drop, M: Meter>(
+fn link_files<'a, 'm, 'h, I: CountedRead + Drop, W: Output + Drop, M: Meter>(
     alloc: Global,
     meter: &'m M,
     unseen: &'m M,
@@ -104,17 +135,41 @@ pub(crate) fn link_files<'a, 'm, 'h, I: CountedRead + Drop, W: Output + Drop, M:
     ensures start { IfOk result CanStart }
 {
     let (rows, from) = inputs;
-    let rows = Hashed::new(rows, FileSums::rows_of(sums));
     let from = Hashed::new(from, FileSums::from_of(sums));
-    let to = Hashed::new(to, FileSums::to_of(sums));
     let from = Beginning::new(Watched::new(from, meter), limit);
     let Ok(from) = source_of(alloc, from, resync) else {
         return Err(Unserved::NoMemory);
     };
+    let rows = Hashed::new(rows, FileSums::rows_of(sums));
     let rows = Beginning::new(Watched::new(rows, unseen), None);
+    let to = Hashed::new(to, FileSums::to_of(sums));
     Ok(LinkFiles {
         rows: PacketSource::plain(rows),
         from,
         to: Destination::new(Watched::new(to, meter)),
     })
+}
+
+impl<I: CountedRead + Drop, O: Output + Drop> Ends<I, O> {
+    /// The files of the command, and those that `stitch` reads besides.
+    pub(crate) fn into_files<'a, 'm, 'h, M: Meter>(
+        self,
+        alloc: Global,
+        meter: &'m M,
+        unseen: &'m M,
+        resync: bool,
+        limit: Option<u64>,
+        sums: Option<&'h FileSums>,
+    ) -> Result<(Watching<'m, 'h, I, O, M>, Beside<I>), Unserved<'a>>
+        requires inputs { (I.count self.inputs.0 ≡ 0) × (I.count self.inputs.1 ≡ 0) }
+        requires beside { ForSome self.beside.files (λ b. (I.count b.0 ≡ 0) × (I.count b.1 ≡ 0)) }
+        requires output { O.count self.to ≡ 0 }
+        requires limit { ForSome limit (λ n. n < 2 ^ 62) }
+        ensures start { IfOk result (λ made. CanStart made.0) }
+        ensures beside { IfOk result (λ made. ForSome made.1.files (λ b. (I.count b.0 ≡ 0) × (I.count b.1 ≡ 0))) }
+    {
+        let Ends { inputs, beside, to } = self;
+        let files = link_files(alloc, meter, unseen, inputs, to, resync, limit, sums)?;
+        Ok((files, beside))
+    }
 }

@@ -27,6 +27,17 @@ pub(crate) fn symbols_of(piece: Option<Piece>, mode: &Mode) -> Option<u64>
     }
 }
 
+/// The position of the end record of a piece with this number of recorded frames: `stitch` waits for no other record up to there. A piece
+/// has one if it has no frame, so that its records are not nothing. The last piece has none, and neither has an empty one.
+pub(crate) fn end_of(piece: Option<Piece>, frames: u64) -> Option<u64> {
+    match piece {
+        Some(piece) if frames == 0 && !piece.is_last && piece.from < piece.to => {
+            Some(piece.to - 1)
+        }
+        _ => None,
+    }
+}
+
 /// The last line of the report on a piece with this number of recorded frames.
 fn piece_line(piece: Piece, frames: u64) -> Line {
     let mut line = Line::new();

@@ -8,7 +8,7 @@ use s2_about::FileSum;
 use s2_mode::{CountedRead, ReadFault, read_full};
 use s2_opening::{Opens, Unserved};
 use s2_tuning::Tuning;
-use s2_words::{DemodArguments, LinkArguments};
+use s2_words::DemodArguments;
 use std::alloc::{AllocError, Global};
 
 /// Reads a file to its end. Its bytes pass.
@@ -45,11 +45,18 @@ fn pass_rows<'a, P: Opens<'a>>(
     }
 }
 
-/// The options of a receiver, as lines.
-fn options_text(alloc: Global, link: LinkArguments, tuning: &Tuning) -> Result<String, AllocError> {
+/// The lines of a receiver's options pass, and a byte that says whether the records have certificates.
+fn pass_options(
+    alloc: Global,
+    words: &DemodArguments<'_>,
+    tuning: &Tuning,
+    sum: &mut FileSum,
+) -> Result<(), AllocError> {
     let mut text = String::new(alloc);
-    push_receiver(&mut text, link, tuning)?;
-    Ok(text)
+    push_receiver(&mut text, words.link, tuning)?;
+    sum.pass(text.as_str().as_bytes());
+    sum.pass(&[u8::from(words.records.certificates.is_some())]);
+    Ok(())
 }
 
 /// The first eight bytes of the sum of these bytes.
@@ -71,12 +78,10 @@ fn seed_of<'a, P: Opens<'a>>(
 {
     let mut sum = FileSum::new();
     pass_rows(opener, words.rows, &mut sum)?;
-    let Ok(text) = options_text(alloc, words.link, tuning) else {
-        return Err(Unserved::NoMemory);
-    };
-    sum.pass(text.as_str().as_bytes());
-    sum.pass(&[u8::from(words.records.certificates.is_some())]);
-    Ok(first_eight(sum))
+    match pass_options(alloc, words, tuning, &mut sum) {
+        Ok(()) => Ok(first_eight(sum)),
+        Err(_) => Err(Unserved::NoMemory),
+    }
 }
 
 /// The seed for a request that receives a piece, or by the records of pieces. For others it is 0, and no file is read.
