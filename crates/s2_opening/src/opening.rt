@@ -80,6 +80,99 @@ fn read_named<'a, 'h, P: Opens<'a>>(
     }
 }
 
+/// Opens two files that are read without a buffer, in this order.
+fn read_two<'a, P: Opens<'a>>(
+    opener: &mut P,
+    first: &'a str,
+    second: &'a str,
+) -> Result<(P::Input, P::Input), Unserved<'a>>
+    requires room { P.opened opener.old ≤ 10 }
+    ensures count { OnOk result (P.opened opener.new ≤ P.opened opener.old + 2) }
+    ensures fresh { IfOk result (λ files. (P.Input.count files.0 ≡ 0) × (P.Input.count files.1 ≡ 0)) }
+{
+    let first = opener.read(first)?;
+    let second = opener.read(second)?;
+    Ok((first, second))
+}
+
+/// Opens two files that are read with a buffer each, in this order.
+fn read_two_buffered<'a, P: Opens<'a>>(
+    opener: &mut P,
+    first: &'a str,
+    second: &'a str,
+) -> Result<(P::Input, P::Input), Unserved<'a>>
+    requires room { P.opened opener.old ≤ 10 }
+    ensures count { OnOk result (P.opened opener.new ≤ P.opened opener.old + 2) }
+    ensures fresh { IfOk result (λ files. (P.Input.count files.0 ≡ 0) × (P.Input.count files.1 ≡ 0)) }
+{
+    let first = opener.read_buffered(first)?;
+    let second = opener.read_buffered(second)?;
+    Ok((first, second))
+}
+
+/// The files of `audit` that may be given: its codewords, its packets and its record.
+struct GivenFiles<'h, I> {
+    codewords: Option<Hashed<'h, I>>,
+    packets: Option<Hashed<'h, I>>,
+    about: Option<Hashed<'h, I>>,
+}
+
+impl<I: Drop> Drop for GivenFiles<'_, I> {
+    fn drop(self) {
+        let GivenFiles {
+            codewords: _,
+            packets: _,
+            about: _,
+        } = self;
+    }
+}
+
+/// Opens the files of `audit` that are given. If there are sums, the packets are hashed.
+fn open_given<'a, 'h, P: Opens<'a>>(
+    opener: &mut P,
+    words: &AuditArguments<'a>,
+    sums: Option<&'h FileSums>,
+) -> Result<GivenFiles<'h, P::Input>, Unserved<'a>>
+    requires room { P.opened opener.old ≤ 9 }
+    ensures codewords { IfOk result (λ files. IfSome files.codewords (λ file. P.Input.count file.inner ≡ 0)) }
+    ensures packets { IfOk result (λ files. IfSome files.packets (λ file. P.Input.count file.inner ≡ 0)) }
+{
+    let codewords = read_named(opener, words.codewords, None)?;
+    let packets = read_named(opener, words.packets, FileSums::to_of(sums))?;
+    let about = read_named(opener, words.about, None)?;
+    Ok(GivenFiles {
+        codewords,
+        packets,
+        about,
+    })
+}
+
+impl<'h, I> GivenFiles<'h, I> {
+    /// The files of `audit`, of these, of its rows and symbols, and of its report and certificates.
+    fn with(self, read: (I, I), reported: (I, I), sums: Option<&'h FileSums>) -> AuditFiles<'h, I>
+        ensures rows { (result.rows.inner ≡ read.0) × (result.symbols.inner ≡ read.1) }
+        ensures report { (result.report.inner ≡ reported.0) × (result.certificates.inner ≡ reported.1) }
+        ensures given { (result.codewords ≡ self.entry.codewords) × (result.packets ≡ self.entry.packets) }
+    {
+        let GivenFiles {
+            codewords,
+            packets,
+            about,
+        } = self;
+        let (rows, symbols) = read;
+        let (report, certificates) = reported;
+        AuditFiles {
+            rows: Hashed::new(rows, FileSums::rows_of(sums)),
+            symbols: Hashed::new(symbols, FileSums::from_of(sums)),
+            report: Hashed::new(report, FileSums::report_of(sums)),
+            certificates: Hashed::new(certificates, None),
+            codewords,
+            packets,
+            about,
+        }
+    }
+}
+
 /// Opens the files of `audit`. All but rows and symbols have a buffer. If there are sums, rows, symbols, report and packets are
 /// hashed.
 pub fn open_audit<'a, 'h, P: Opens<'a>>(
@@ -93,22 +186,10 @@ pub fn open_audit<'a, 'h, P: Opens<'a>>(
     ensures codewords { IfOk result (λ files. IfSome files.codewords (λ file. P.Input.count file.inner ≡ 0)) }
     ensures packets { IfOk result (λ files. IfSome files.packets (λ file. P.Input.count file.inner ≡ 0)) }
 {
-    let rows = opener.read(words.rows)?;
-    let symbols = opener.read(words.symbols)?;
-    let report = opener.read_buffered(words.report)?;
-    let certificates = opener.read_buffered(words.certificates)?;
-    let codewords = read_named(opener, words.codewords, None)?;
-    let packets = read_named(opener, words.packets, FileSums::to_of(sums))?;
-    let about = read_named(opener, words.about, None)?;
-    Ok(AuditFiles {
-        rows: Hashed::new(rows, FileSums::rows_of(sums)),
-        symbols: Hashed::new(symbols, FileSums::from_of(sums)),
-        report: Hashed::new(report, FileSums::report_of(sums)),
-        certificates: Hashed::new(certificates, None),
-        codewords,
-        packets,
-        about,
-    })
+    let read = read_two(opener, words.rows, words.symbols)?;
+    let reported = read_two_buffered(opener, words.report, words.certificates)?;
+    let given = open_given(opener, words, sums)?;
+    Ok(given.with(read, reported, sums))
 }
 
 /// Opens the files of `noise`, both with a buffer.
