@@ -1,8 +1,15 @@
 //! Whether frames have the same symbols.
 ghost use Rattle.std.specs.Prelude.{◌≡◌};
-ghost use Rattle.s2_stitch.specs.Recalling.{are_same};
+ghost use Rattle.s2_stitch.specs.Recalling.{are_same, is_same};
 
 use s2_mode::Symbol;
+
+/// Whether two symbols are equal. Both parts are compared, without a branch.
+fn is_same(a: Symbol, b: Symbol) -> bool
+    ensures { result ≡ is_same a b }
+{
+    (a.i == b.i) & (a.q == b.q)
+}
 
 /// Whether these are the same symbols. It compares all of them: with lanes, that takes less time than a test after each.
 pub(crate) fn are_same(own: &[Symbol], symbols: &[Symbol]) -> bool
@@ -13,7 +20,7 @@ pub(crate) fn are_same(own: &[Symbol], symbols: &[Symbol]) -> bool
     }
     let mut same = true;
     'symbols: for k in 0..own.len() {
-        same &= own[k] == symbols[k];
+        same &= is_same(own[k], symbols[k]);
     }
     same
 }

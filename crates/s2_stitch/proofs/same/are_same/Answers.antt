@@ -13,7 +13,7 @@ symbols-preserved c =
     let none : Symbol = record { i = pos 0; q = pos 0 } in
     let here : k < length xs = omega (arith, c.symbols-test.true) in
     let there : k < length ys = omega (arith, here, c.if-own-symbols.false) in
-    let step : c.eq-same.result ≡ is_same (get_or xs k none) (get_or ys k none) = search rules in
+    let step : c.is_same-same.result ≡ is_same (get_or xs k none) (get_or ys k none) = search rules in
     (λ i. c.symbols.invariant i && step i)
     ∙ sym (one_more is_same (take k xs) (take k ys) (get_or xs k none) (get_or ys k none) (omega (arith, length-take-le k xs (omega (arith, here)), length-take-le k ys (omega (arith, there)))))
     ∙ sym (λ i. are_same (take_more xs k none here i) (take_more ys k none there i))
