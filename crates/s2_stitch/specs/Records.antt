@@ -80,7 +80,7 @@ sum_of seed soft at rounds verdict bits certificate =
     let front = soft_sum soft 0 ∷ soft_sum soft 1 ∷ at ∷ rounds ∷ verdict ∷ [] in
     fold sum_step (fold sum_step (fold sum_step seed front) (eights_of (bytes_of_bits bits))) (eights_of certificate)
 
--- The seal of a record. The sum begins at a number that identifies the rows and the options
+-- The seal of a record: the sum of the frame's soft values and of all that the record says, from a number that identifies the rows and the options
 abbrev pub seal_of : (seed : ℕ) → (soft : List ℤ) → Record → ℕ
 seal_of seed soft r = sum_of seed soft r.at r.rounds (verdict_byte r.verdict) r.bits r.certificate
 
