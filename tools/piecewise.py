@@ -300,16 +300,15 @@ def groups(chosen, wake):
             yield start, stop, file, shared
             at = SYMBOL * (max(start, stop - OVER) - start)
             rest, file = os.pread(file.fileno(), size - at, at), open(os.memfd_create("group"), "w+b", 0)
-            start, size = start + at // SYMBOL, file.write(rest)
-            shared = size
+            start, size = start + at // SYMBOL, (shared := file.write(rest))
         elif not found and noted < stop:
             noted = stop
             os.write(2, f"live: note: no symbols after {stop}\n".encode())
 
 
 def decoded(chosen, rows, wake, pipe, copy, waiting):
-    """The records of the groups, after their symbols. `s2 stitch` reads none before it finds a frame: those of no frame are left out if others wait."""
-    pool = ThreadPoolExecutor(jobs := chosen.jobs or len(os.sched_getaffinity(0)))
+    """The records of the groups, after their symbols. `s2 stitch` reads none before it finds a frame: of those of no frame that wait, the last one stays."""
+    pool, last = ThreadPoolExecutor(jobs := chosen.jobs or len(os.sched_getaffinity(0))), None
 
     def decode(start, stop, symbols, shared):
         records = open(os.memfd_create("records"), "w+b", 0)
@@ -321,8 +320,9 @@ def decoded(chosen, rows, wake, pipe, copy, waiting):
         has_frames, records, symbols = group.result()
         copy.write(os.pread(symbols[0].fileno(), 1 << 30, symbols[1]))
         pipe.put(symbols)
-        if has_frames or waiting.empty():
-            yield records, 0
+        with waiting.mutex, contextlib.suppress(ValueError):
+            has_frames or waiting.queue.remove(last)
+        yield (records, 0) if has_frames else (last := (records, 0))
     pipe.put(None)
 
 
