@@ -1,194 +1,230 @@
 -- What a check moves, by the entries that show its members and by the members themselves.
-use Rattle.std.proofs.Common.{◌≡◌, ◌≢◌, ℕ, zero, suc, ◌/◌, ◌<◌, ◌≤◌, ◌==◌, min, not, Bool, true, false, cond, List, [], ◌∷◌, length, All, ℤ, pos, ◌+ℤ◌, ◌-ℤ◌, ◌≤ℤ◌, unsigned_abs, refl, ap, sym, subst, ◌∙◌, inl, inr, arith, eq-eqb, ne_eqb}
-use Rattle.std.specs.List.{position_or_len}
+use Rattle.std.proofs.Common.{◌≡◌, ◌≢◌, ℕ, zero, suc, ◌+◌, ◌-◌, ◌/◌, ◌<◌, ◌≤◌, ◌==◌, ◌&&◌, ◌||◌, not, min, max, Bool, true, false, cond, List, [], ◌∷◌, length, get_or, sum_by, All, eqb, refl, ap, sym, subst, ◌∙◌, inl, inr, arith, eq-eqb}
+use Rattle.std.specs.List.{AllPairs, list_any, position_or_len}
 use Rattle.std.proofs.lemmas.Bool.{cases_Bool, cases_eq, cases_lt}
-use Rattle.std.proofs.lemmas.List.Elements.{All-filter, filter_passes}
-use Rattle.std.proofs.lemmas.Int.{ints}
-use Rattle.s2_matrix.proofs.Members.{place_in_filter}
+use Rattle.std.proofs.lemmas.List.Elements.{All-nil, All-cons}
+use Rattle.std.proofs.lemmas.List.Kept.{AllPairs-cons}
+use Rattle.std.proofs.lemmas.List.Folds.{list_any_at}
+use Rattle.std.proofs.lemmas.List.Sums.{sum_by-cons}
 use Rattle.s2_minsum.specs.Plain.{others}
 use Rattle.s2_minsum.proofs.Columns.{found}
-use Rattle.s2_settle.specs.Rests.{gap}
-use Rattle.s2_settle.specs.Nodes.{min1_of, min2_of, least_at}
-use Rattle.s2_settle.specs.Plain.{first_margin, least_of, half_gap, amount_to}
-use Rattle.s2_settle.proofs.Least.{first_le, first_at, second_le, second_at}
+use Rattle.s2_minsum.proofs.Orders.{Within, sum_within}
+use Rattle.s2_settle.specs.declared.course.Step.{Step}
+use Rattle.s2_settle.specs.Rests.{moved16, further16}
+use Rattle.s2_settle.specs.Nodes.{min1_of, min2_of, min3_of, least_at, free_of}
+use Rattle.s2_settle.specs.Plain.{least_of, least_input, freed_by, further}
+use Rattle.s2_settle.proofs.Least.{first_le, first_at, second_le}
 use Rattle.s2_settle.proofs.LeastMember.{least_each, least_holds}
-use Rattle.s2_settle.proofs.RestWords.{no_less_is, gap_is, gap_alone}
+use Rattle.s2_settle.proofs.RestWords.{freed_is, further_is, further_none}
+use Rattle.s2_settle.proofs.ThreeLeast.{at_most, by_at_most, count, each, same_by, three_at, three_by}
 
 abbrev pub Has : List ℕ → ℕ → Type 0
 Has xs y = position_or_len (λ m. m == y) xs < length xs
 
-half_none : (margin : ℕ) (a b : ℤ) → b ≤ℤ a → half_gap margin a b ≡ 0
-half_none margin a b le =
-    ap (λ t. cond t (min (unsigned_abs (b -ℤ a -ℤ pos margin) / 2) 1048576) 0) (no_less_is (a +ℤ pos margin) b (omega (arith, ints)))
-
 -- each of the first n numbers is that of a member, or none; each member has one
-pub record Lanes (f : ℕ → ℕ) (n : ℕ) (g : ℕ → ℤ) (ms : List ℕ) (bit : ℕ → ℕ) (absent : ℕ → Bool) (entry : ℕ → ℕ) : Type 0 where
-  pub lacks : (e : ℕ) → e < n → absent e ≡ true → f e ≡ 4294967295
-  pub gives : (e : ℕ) → e < n → absent e ≡ false → pos (f e) ≡ pos 2147483648 +ℤ g (bit e)
+pub record Lanes (f : ℕ → ℕ) (n : ℕ) (g : ℕ → ℕ) (ms : List ℕ) (bit : ℕ → ℕ) (absent : ℕ → Bool) (entry : ℕ → ℕ) : Type 0 where
+  pub lacks : (e : ℕ) → e < n → absent e ≡ true → f e ≡ 65535
+  pub gives : (e : ℕ) → e < n → absent e ≡ false → f e ≡ g (bit e)
   pub member : (e : ℕ) → e < n → absent e ≡ false → Has ms (bit e)
   pub entry_low : (y : ℕ) → Has ms y → entry y < n
   pub entry_there : (y : ℕ) → Has ms y → absent (entry y) ≡ false
   pub entry_bit : (y : ℕ) → Has ms y → bit (entry y) ≡ y
   pub apart : (e e' : ℕ) → e < n → e' < n → bit e ≡ bit e' → e ≡ e'
   pub some : 1 ≤ length ms
-  pub small : (y : ℕ) → Has ms y → unsigned_abs (g y) ≤ 1073741824
+  pub small : (y : ℕ) → g y ≤ 65535
   pub members : All (Has ms) ms
+  pub rising : AllPairs (λ a b. a < b) ms
 
-module _ (f : ℕ → ℕ) (n : ℕ) (g : ℕ → ℤ) (ms : List ℕ) (bit : ℕ → ℕ) (absent : ℕ → Bool) (entry : ℕ → ℕ) (l : Lanes f n g ms bit absent entry) where
+pub least_small : (g : ℕ → ℕ) → ((y : ℕ) → g y ≤ 65535) → (ms : List ℕ) → least_input g ms ≤ 65535
+least_small g small [] = omega arith
+least_small g small (m ∷ ms) = small (least_of g (m ∷ ms))
+
+-- what is free is at most half of the largest word
+pub freed_most : (margin : ℕ) (g : ℕ → ℕ) → ((y : ℕ) → g y ≤ 65535) → (ms : List ℕ) → freed_by margin g ms ≤ 32767
+freed_most margin g small ms =
+    let low = least_small g small (others ms (least_of g ms)) in
+    omega (arith, low)
+
+module _ (f : ℕ → ℕ) (n : ℕ) (g : ℕ → ℕ) (ms : List ℕ) (bit : ℕ → ℕ) (absent : ℕ → Bool) (entry : ℕ → ℕ) (l : Lanes f n g ms bit absent entry) where
   abbrev t : ℕ
   t = least_of g ms
 
   abbrev at : ℕ
   at = least_at f n
 
+  -- ---- the members that entries show
+
+  abbrev shown : ℕ → List ℕ
+  shown zero = []
+  shown (suc m) = cond (absent m) (shown m) (bit m ∷ shown m)
+
+  shown_all : (Q : ℕ → Type 0) (m : ℕ) → m ≤ n → ((e : ℕ) → e < m → absent e ≡ false → Q (bit e)) → All Q (shown m)
+  shown_all Q zero le holds = All-nil Q
+  shown_all Q (suc m) le holds =
+      let rest = shown_all Q m (omega arith) (λ e lt. holds e (omega arith)) in
+      elim (cases_Bool (absent m)) [
+        | inl out ↦ rw out rest
+        | inr there ↦ rw there (All-cons Q (bit m) (shown m) (holds m (omega arith) there) rest)
+      ]
+
+  shown_apart : (m : ℕ) → m ≤ n → AllPairs (λ a b. a ≢ b) (shown m)
+  shown_apart zero le = λ i j d less inside. absurd (omega (arith, inside))
+  shown_apart (suc m) le =
+      let rest = shown_apart m (omega arith) in
+      elim (cases_Bool (absent m)) [
+        | inl out ↦ rw out rest
+        | inr there ↦ rw there (AllPairs-cons (λ a b. a ≢ b) (bit m) (shown m) (shown_all (λ y. bit m ≢ y) m (omega arith) (λ e lt _ same. (let e' = l.apart m e (omega arith) (omega arith) same in omega (arith, e', lt)))) rest)
+      ]
+
+  shown_has : (e m : ℕ) → e < m → absent e ≡ false → list_any (λ x. x == bit e) (shown m) ≡ true
+  shown_has e zero lt there = absurd (omega (arith, lt))
+  shown_has e (suc m) lt there = elim (cases_eq e m) [
+    | inl same ↦ (
+        let there' : absent m ≡ false = ap absent (sym same) ∙ there in
+        let test : eqb (bit m) (bit e) ≡ true = eq-eqb (bit m) (bit e) (ap bit (sym same)) in
+        rw there' (rw test refl)
+        )
+    | inr other ↦ (
+        let rest = shown_has e m (omega arith) there in
+        elim (cases_Bool (absent m)) [
+          | inl out ↦ rw out rest
+          | inr here ↦ rw here (seen (bit m == bit e) (list_any (λ x. x == bit e) (shown m)) rest)
+        ]
+        )
+  ]
+    where
+      seen : (a b : Bool) → b ≡ true → (a || b) ≡ true
+      seen true b is = refl
+      seen false b is = is
+
+  -- as many of the entries' numbers are at most a number as of the members'
+  count_shown : (v m : ℕ) → v < 65535 → m ≤ n → count f v m ≡ sum_by (each g v) (shown m)
+  count_shown v zero low le = refl
+  count_shown v (suc m) low le =
+      let rest = count_shown v m low (omega arith) in
+      elim (cases_Bool (absent m)) [
+        | inl out ↦ (
+            let is = l.lacks m (omega arith) out in
+            let none : at_most v (f m) ≡ 0 = by_at_most v (f m) (λ le' _. absurd (omega (arith, is, le', low))) (λ _ none. none) in
+            rw out (omega (arith, rest, none))
+            )
+        | inr there ↦ (
+            let is = ap (at_most v) (l.gives m (omega arith) there) in
+            let whole = sum_by-cons (each g v) (bit m) (shown m) in
+            rw there (omega (arith, rest, is, whole))
+            )
+      ]
+
+  in_ms : (y : ℕ) → Has ms y → list_any (λ m. m == y) ms ≡ true
+  in_ms y has =
+      list_any_at (λ m. m == y) ms (position_or_len (λ m. m == y) ms) 0 has (eq-eqb (get_or ms (position_or_len (λ m. m == y) ms) 0) y (found ms y has))
+
+  ms_apart : AllPairs (λ a b. a ≢ b) ms
+  ms_apart i j d less inside same = (let lt = l.rising i j d less inside in omega (arith, lt, same))
+
+  count_members : (v : ℕ) → v < 65535 → count f v n ≡ sum_by (each g v) ms
+  count_members v low =
+      let ys = shown n in
+      let all = shown_all (λ y. list_any (λ m. m == y) ms ≡ true) n (omega arith) (λ e lt there. in_ms (bit e) (l.member e lt there)) in
+      let up : Within ys ms = λ k lt. all k 0 lt in
+      let down : Within ms ys = λ k lt. (
+      let y = get_or ms k 0 in
+      let has = l.members k 0 lt in
+      ap (λ x. list_any (λ m. m == x) ys) (sym (l.entry_bit y has)) ∙ shown_has (entry y) n (l.entry_low y has) (l.entry_there y has)
+      ) in
+      omega (arith, count_shown v n low (omega arith), sum_within (each g v) ys ms (shown_apart n (omega arith)) up, sum_within (each g v) ms ys ms_apart down)
+
+  -- ---- the three least
+
+  first_small : (m : ℕ) → min1_of f m ≤ 65535
+  first_small zero = omega arith
+  first_small (suc m) = (let less = first_small m in omega (arith, less))
+
+  second_small : (m : ℕ) → min2_of f m ≤ 65535
+  second_small zero = omega arith
+  second_small (suc m) = (let less = second_small m in omega (arith, less))
+
+  third_small : (m : ℕ) → min3_of f m ≤ 65535
+  third_small zero = omega arith
+  third_small (suc m) = (let less = third_small m in omega (arith, less))
+
+  rises : (m : ℕ) → (min1_of f m ≤ min2_of f m) × (min2_of f m ≤ min3_of f m)
+  rises zero = (omega arith, omega arith)
+  rises (suc m) = (let before = rises m in (omega (arith, before.0), omega (arith, before.0, before.1)))
+
+  first_is : min1_of f n ≡ least_input g ms
+  first_is = same_by (min1_of f n) (least_input g ms) (first_small n) (least_small g l.small ms) (λ v low. (three_at f v n low).one ∙ ap (min 1) (count_members v low) ∙ sym (three_by g v low ms ms_apart).one)
+
+  second_is : min2_of f n ≡ least_input g (others ms t)
+  second_is = same_by (min2_of f n) (least_input g (others ms t)) (second_small n) (least_small g l.small (others ms t)) (λ v low. (let are = count_members v low in let one = (three_at f v n low).two in let two = (three_by g v low ms ms_apart).two in omega (arith, one, two, are)))
+
+  third_is : min3_of f n ≡ least_input g (others (others ms t) (least_of g (others ms t)))
+  third_is =
+      let last = others (others ms t) (least_of g (others ms t)) in
+      same_by (min3_of f n) (least_input g last) (third_small n) (least_small g l.small last) (λ v low. (let are = count_members v low in let one = (three_at f v n low).three in let two = (three_by g v low ms ms_apart).three in omega (arith, one, two, are)))
+
+  pub free_is : (margin : ℕ) → margin ≤ 65535 → free_of margin f n ≡ freed_by margin g ms
+  free_is margin few =
+      let order = rises n in
+      freed_is margin (min1_of f n) (min2_of f n) (min3_of f n) few order.0 order.1 (third_small n)
+      ∙ (λ i. (second_is i - first_is i - (margin - (third_is i - second_is i)) / 2) / 2)
+
+  -- ---- the target
+
   t_in : Has ms t
   t_in = least_holds g (Has ms) ms l.some l.members
 
-  t_least : (y : ℕ) → Has ms y → g t ≤ℤ g y
-  t_least y has = subst (λ z. g t ≤ℤ g z) (found ms y has) (least_each g ms (position_or_len (λ m. m == y) ms) has)
-
-  of_member : (y : ℕ) → Has ms y → pos (f (entry y)) ≡ pos 2147483648 +ℤ g y
-  of_member y has = l.gives (entry y) (l.entry_low y has) (l.entry_there y has) ∙ ap (λ z. pos 2147483648 +ℤ g z) (l.entry_bit y has)
-
-  -- where a number is one of a member's
-  there : (e : ℕ) → e < n → f e < 4294967295 → absent e ≡ false
-  there e low less = elim (cases_Bool (absent e)) [
-    | inl out ↦ (let is = l.lacks e low out in absurd (omega arith))
-    | inr shown ↦ shown
-  ]
-
-  first_low : min1_of f n < 4294967295
-  first_low =
-      let le = first_le f n (entry t) (l.entry_low t t_in) in
-      let is = of_member t t_in in
-      let small = l.small t t_in in
-      omega (arith, ints, le, is, small)
-
-  at_low : at < n
-  at_low = (first_at f n first_low).0
-
-  at_first : f at ≡ min1_of f n
-  at_first = (first_at f n first_low).1
-
-  at_there : absent at ≡ false
-  at_there = there at at_low (omega (arith, at_first, first_low))
-
-  first_is : pos (min1_of f n) ≡ pos 2147483648 +ℤ g t
-  first_is =
-      let le = first_le f n (entry t) (l.entry_low t t_in) in
-      let is = of_member t t_in in
-      let gives = l.gives at at_low at_there in
-      let first = at_first in
-      let least = t_least (bit at) (l.member at at_low at_there) in
-      omega (arith, ints, le, is, gives, first, least)
-
-  -- another member
-  in_others : (y : ℕ) → Has ms y → y ≢ t → Has (others ms t) y
-  in_others y has other = place_in_filter (λ k. not (k == t)) y (ap not (ne_eqb y t other)) ms has
-
-  -- the second number is the least of the other members
-  second_is : (k : ℕ) (ks : List ℕ) → others ms t ≡ k ∷ ks → pos (min2_of f n) ≡ pos 2147483648 +ℤ g (least_of g (k ∷ ks))
-  second_is k ks is =
-      let y = least_of g (k ∷ ks) in
-      let all : All (Has ms) (k ∷ ks) = subst (All (Has ms)) is (All-filter (λ i. not (i == t)) (Has ms) ms l.members) in
-      let has : Has ms y = least_holds g (Has ms) (k ∷ ks) (omega arith) all in
-      let differs : All (λ i. not (i == t) ≡ true) (k ∷ ks) = subst (All (λ i. not (i == t) ≡ true)) is (λ p d lt. passes p d lt) in
-      let y_test : not (y == t) ≡ true = least_holds g (λ i. not (i == t) ≡ true) (k ∷ ks) (omega arith) differs in
-      let y_other : y ≢ t = λ same. (let e : not (y == t) ≡ false = ap not (eq-eqb y t same) in let e' : true ≡ false = sym y_test ∙ e in cc) in
-      let least = λ (z : ℕ) (z_in : Has ms z) (z_other : z ≢ t). below k ks is z (in_others z z_in z_other) in
-      let own = of_member y has in
-      let small = l.small y has in
-      let first = first_is in
-      let gt = t_least y has in
-      let le : min2_of f n ≤ f (entry y) = elim (cases_eq (entry y) at) [
-        | inr other ↦ second_le f n (entry y) (l.entry_low y has) other
-        | inl same ↦ (
-            -- then the target is another member, of the same number
-            let b : bit at ≡ y = ap bit (sym same) ∙ l.entry_bit y has in
-            let t_other : entry t ≢ at = λ e. y_other (sym b ∙ ap bit (sym e) ∙ l.entry_bit t t_in) in
-            let le' = second_le f n (entry t) (l.entry_low t t_in) t_other in
-            let is' = of_member t t_in in
-            let same' = ap f same in
-            omega (arith, ints, le', is', own, gt)
-            )
-      ] in
-      second_at f n (omega (arith, ints, le, own, small)) (λ e low other e_is.
-      let e_there = there e low (omega (arith, ints, le, own, small, e_is)) in
-      let gives = l.gives e low e_there in
-      let b_in = l.member e low e_there in
-      let above : g y ≤ℤ g (bit e) = elim (cases_eq (bit e) t) [
-        | inr b_other ↦ least (bit e) b_in b_other
-        | inl b_same ↦ (
-            let at_other : bit at ≢ t = λ s. other (l.apart e at low at_low (b_same ∙ sym s)) in
-            let one = least (bit at) (l.member at at_low at_there) at_other in
-            let two = l.gives at at_low at_there in
-            let three = at_first in
-            let four = ap g b_same in
-            omega (arith, ints, one, two, three, first, four)
-            )
-      ] in
-      omega (arith, ints, le, own, e_is, gives, above))
+  t_input : least_input g ms ≡ g t
+  t_input = go ms l.some
     where
-      passes : All (λ i. not (i == t) ≡ true) (others ms t)
-      passes p d lt = filter_passes (λ i. not (i == t)) ms p d lt
+      go : (xs : List ℕ) → 1 ≤ length xs → least_input g xs ≡ g (least_of g xs)
+      go [] some = absurd (omega (arith, some))
+      go (x ∷ xs) some = refl
 
-      below : (k : ℕ) (ks : List ℕ) → others ms t ≡ k ∷ ks → (z : ℕ) → Has (others ms t) z → g (least_of g (k ∷ ks)) ≤ℤ g z
-      below k ks is z has =
-          let has' : Has (k ∷ ks) z = subst (λ xs. Has xs z) is has in
-          subst (λ w. g (least_of g (k ∷ ks)) ≤ℤ g w) (found (k ∷ ks) z has') (least_each g (k ∷ ks) (position_or_len (λ m. m == z) (k ∷ ks)) has')
+  -- where anything is free, the least stands at an entry of the member whose input is least
+  pub target_is : (margin : ℕ) → 0 < freed_by margin g ms → (at < n) × (bit at ≡ t)
+  target_is margin some =
+      let one = first_is in
+      let two = second_is in
+      let top = second_small n in
+      let less : min1_of f n < min2_of f n = omega (arith, one, two, some) in
+      let first = first_at f n (omega (arith, less, top)) in (
+        first.0,
+        elim (cases_eq (entry t) at) [
+          | inl same ↦ ap bit (sym same) ∙ l.entry_bit t t_in
+          | inr other ↦ absurd (
+              let le = second_le f n (entry t) (l.entry_low t t_in) other in
+              let gives = l.gives (entry t) (l.entry_low t t_in) (l.entry_there t t_in) in
+              let is = ap g (l.entry_bit t t_in) in
+              let own = t_input in
+              omega (arith, le, gives, is, own, one, less))
+        ],
+      )
 
-  -- no other member: no second number
-  second_none : others ms t ≡ [] → min2_of f n ≡ 4294967295
-  second_none is = elim (cases_lt (min2_of f n) 4294967295) [
-    | inr high ↦ top (second_high f n) high
-    | inl less ↦ second_at f n less (λ e low other e_is.
-        let e_there = there e low (omega (arith, e_is, less)) in
-        let b_in = l.member e low e_there in
-        elim (cases_eq (bit e) t) [
-          | inr b_other ↦ absurd (none (bit e) (in_others (bit e) b_in b_other))
-          | inl b_same ↦ elim (cases_eq (bit at) t) [
-            | inl same ↦ absurd (other (l.apart e at low at_low (b_same ∙ sym same)))
-            | inr at_other ↦ absurd (none (bit at) (in_others (bit at) (l.member at at_low at_there) at_other))
-          ]
-        ])
-  ]
-    where
-      none : (z : ℕ) → Has (others ms t) z → ⊥
-      none z has = (let has' : Has [] z = subst (λ xs. Has xs z) is has in omega arith)
+-- the amount that goes further
+pub goes_further : (step : Step) (old_target old at free : ℕ) (target t : ℕ) → old ≤ 49150 → free ≤ 32767 → (0 < free → 0 < old → eqb at old_target ≡ eqb t target)
+    → moved16 step old_target old at free ≡ cond (step.further && (not (old == 0) && (t == target))) (further old free) free
+goes_further step old_target old at free target t few few' same = go step.further
+  where
+    far : further16 old free ≡ further old free
+    far = further_is old free few few'
 
-      top : min2_of f n ≤ 4294967295 → 4294967295 ≤ min2_of f n → min2_of f n ≡ 4294967295
-      top one two = omega arith
+    test : (a b : Bool) → (0 < free → a ≡ b) → cond a (further16 old free) free ≡ cond b (further old free) free
+    test a b is = elim (cases_eq free 0) [
+      | inr some ↦ (λ i. cond (is (omega arith) i) (far i) free)
+      | inl none ↦ (
+          let same' : further old free ≡ free = ap (further old) none ∙ further_none old ∙ sym none in
+          both a (further16 old free) (far ∙ same') ∙ sym (both b (further old free) same')
+          )
+    ]
+      where
+        both : (c : Bool) (x : ℕ) → x ≡ free → cond c x free ≡ free
+        both true x e = e
+        both false x e = refl
 
-      second_high : (f : ℕ → ℕ) (n : ℕ) → min2_of f n ≤ 4294967295
-      second_high f zero = omega arith
-      second_high f (suc n) = (let rest = second_high f n in omega arith)
-
-  pub amount_is : (margin : ℕ) → margin ≤ first_margin → gap margin (min1_of f n) (min2_of f n) ≡ amount_to margin g t (others ms t)
-  amount_is margin few = go (others ms t) refl
-    where
-      go : (xs : List ℕ) → others ms t ≡ xs → gap margin (min1_of f n) (min2_of f n) ≡ amount_to margin g t xs
-      go [] is = ap (gap margin (min1_of f n)) (second_none is) ∙ gap_alone margin (min1_of f n) (g t) first_is (l.small t t_in) few
-      go (k ∷ ks) is =
-          let all : All (Has ms) (k ∷ ks) = subst (All (Has ms)) is (All-filter (λ i. not (i == t)) (Has ms) ms l.members) in
-          let has : Has ms (least_of g (k ∷ ks)) = least_holds g (Has ms) (k ∷ ks) (omega arith) all in
-          gap_is margin (min1_of f n) (min2_of f n) (g t) (g (least_of g (k ∷ ks))) first_is (second_is k ks is) (l.small t t_in) (l.small (least_of g (k ∷ ks)) has) few (t_least (least_of g (k ∷ ks)) has)
-
-  pub target_low : at < n
-  target_low = at_low
-
-  -- where anything is moved, the target is the member whose number is least
-  pub target_is : (margin : ℕ) → margin ≤ first_margin → 0 < amount_to margin g t (others ms t) → bit at ≡ t
-  target_is margin few moved = elim (cases_eq (bit at) t) [
-    | inl same ↦ same
-    | inr other ↦ absurd (go (others ms t) refl (in_others (bit at) (l.member at at_low at_there) other) moved)
-  ]
-    where
-      go : (xs : List ℕ) → others ms t ≡ xs → Has xs (bit at) → 0 < amount_to margin g t xs → ⊥
-      go [] is has moved = omega arith
-      go (k ∷ ks) is has moved =
-          let le = subst (λ w. g (least_of g (k ∷ ks)) ≤ℤ g w) (found (k ∷ ks) (bit at) has) (least_each g (k ∷ ks) (position_or_len (λ m. m == bit at) (k ∷ ks)) has) in
-          let gives = l.gives at at_low at_there in
-          let first = first_is in
-          let at' = at_first in
-          let none = half_none margin (g t) (g (least_of g (k ∷ ks))) (omega (arith, ints, le, gives, first, at')) in
-          omega (arith, none, moved)
+    go : (b : Bool) → cond b (cond (old == 0) free (cond (at == old_target) (further16 old free) free)) free ≡ cond (b && (not (old == 0) && (t == target))) (further old free) free
+    go false = refl
+    go true = elim (cases_Bool (old == 0)) [
+      | inl none ↦ rw none refl
+      | inr some ↦ rw some (test (eqb at old_target) (eqb t target) (λ lt. same lt (elim (cases_eq old 0) [ inl is ↦ absurd (let e : true ≡ false = sym (eq-eqb old 0 is) ∙ some in cc) | inr more ↦ omega arith ])))
+    ]

@@ -1,5 +1,5 @@
 -- A sum over the checks of a bit that are in one layer, entry by entry.
-use Rattle.std.proofs.Common.{◌≡◌, ◌≢◌, ℕ, ◌+◌, ◌-◌, ◌*◌, ◌/◌, ◌%◌, ◌<◌, ◌≤◌, ◌==◌, ◌&&◌, nat_lt, Bool, true, false, cond, [], length, get_or, ℤ, pos, ◌+ℤ◌, eqb, unsigned_abs, refl, ap, sym, ◌∙◌, inl, inr, arith, eq-eqb, ne_eqb, lt-ltb, le-ltb}
+use Rattle.std.proofs.Common.{◌≡◌, ◌≢◌, ℕ, ◌+◌, ◌-◌, ◌*◌, ◌/◌, ◌%◌, ◌<◌, ◌≤◌, ◌==◌, ◌&&◌, nat_lt, Bool, true, false, cond, [], length, get_or, ℤ, pos, ◌+ℤ◌, eqb, refl, ap, sym, ◌∙◌, inl, inr, arith, eq-eqb, ne_eqb, lt-ltb, le-ltb}
 use Rattle.std.specs.List.{position_or_len}
 use Rattle.std.proofs.Math.Nat.{mul-le-mul_right}
 use Rattle.std.proofs.lemmas.Bool.{cases_Bool, cases_eq}
@@ -15,7 +15,7 @@ use Rattle.s2_minsum.specs.Rows.{is_lacking}
 use Rattle.s2_minsum.specs.Layout.{row_of_bit, lane_of_bit, last_check, forth, back, entry_of, entry_count, place_at, lacked_row}
 use Rattle.s2_minsum.proofs.Places
 use Rattle.s2_minsum.proofs.Columns.{member_below, member_has, lacks, present, place_in}
-use Rattle.s2_minsum.proofs.Posteriors.{posterior_same, posterior_change, total_small}
+use Rattle.s2_minsum.proofs.Posteriors.{posterior_same, posterior_change}
 use Rattle.s2_minsum.proofs.StepStates.{edge_parts, is_edge-true, of_lane, layer_of, lane_small, hit, stands}
 
 module _ (rows : Rows) (shaped : IsShape rows.shape) (r : ℕ) (layer : r < rows.shape.q) (d : ℕ → ℕ → ℤ) where
@@ -117,19 +117,6 @@ module _ (rows : Rows) (shaped : IsShape rows.shape) (r : ℕ) (layer : r < rows
   sum_none i =
       let none = total-same (λ k. part 0 k i) (λ _. pos 0) (checks_of (code_of rows) i) (λ k. none_below (is_edge (code_of rows) k i) (k % rows.shape.q == r) (place_at rows k i) (d k i)) ∙ total-zero (checks_of (code_of rows) i) in
       omega (arith, ints, none)
-
-  part_small : (most : ℕ) → ((k i : ℕ) → unsigned_abs (d k i) ≤ most) → (e k i : ℕ) → unsigned_abs (part e k i) ≤ most
-  part_small most small e k i = either (is_edge (code_of rows) k i) ((k % rows.shape.q == r) && nat_lt (place_at rows k i) e) (d k i) (small k i)
-    where
-      either : (b t : Bool) (x : ℤ) → unsigned_abs x ≤ most → unsigned_abs (cond b (cond t x (pos 0)) (pos 0)) ≤ most
-      either true true x h = h
-      either true false x h = omega arith
-      either false t x h = omega arith
-
-  pub sum_small : (most : ℕ) → ((k i : ℕ) → unsigned_abs (d k i) ≤ most) → (e i : ℕ) → unsigned_abs (sum_to e i) ≤ most * length (checks_of (code_of rows) i)
-  sum_small most small e i =
-      let sum = total_small (λ k. part e k i) most (checks_of (code_of rows) i) (λ k. part_small most small e k i) in
-      omega (arith, ints, sum)
 
   -- all entries add what all checks of the bit do
   pub sum_all : (i : ℕ) → i < code_bits rows.shape → ((k : ℕ) → k % rows.shape.q ≢ r → d k i ≡ pos 0) → sum_to (entry_count rows r) i ≡ total (λ k. d k i) (checks_of (code_of rows) i)

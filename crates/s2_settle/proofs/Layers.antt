@@ -10,12 +10,13 @@ use Rattle.s2_rows.specs.Rows.{Rows}
 use Rattle.s2_matrix.specs.Total.{upto}
 use Rattle.s2_matrix.proofs.Totals.{upto_more}
 use Rattle.s2_minsum.specs.declared.kernels.Circulant.{Circulant}
-use Rattle.s2_minsum.specs.Rows.{entry_at, is_lacking}
+use Rattle.s2_minsum.specs.Rows.{entry_at, is_lacking, changed}
 use Rattle.s2_minsum.specs.Layout.{lacked_row, entries_of}
 use Rattle.s2_bits.proofs.RowParts.{row_before, put_mid_below, put_mid_at, put_mid_above, length-put_mid}
-use Rattle.s2_bits.specs.Lanes32.{plus32}
-use Rattle.s2_settle.specs.Rests.{received, change, changed, gap}
-use Rattle.s2_settle.specs.Nodes.{min1_of, min2_of, least_at}
+use Rattle.s2_bits.specs.Lanes16.{plus16}
+use Rattle.s2_settle.specs.declared.course.Step.{Step}
+use Rattle.s2_settle.specs.Rests.{received, change}
+use Rattle.s2_settle.specs.Nodes.{least_at, amount_of}
 use Rattle.s2_settle.specs.Layer.{Held, held, AreLong, of_layer, with_layer, new_target, new_amount, change_in, layer}
 use Rattle.s2_minsum.proofs.Sames.{changed-same}
 
@@ -75,44 +76,44 @@ layer_put n r w q xs ys f some lt long width ylen are =
     ))
 
 -- what the rows' layer ensures
-pub record Ran (es : List Circulant) (rests ts as' rests' ts' as'' : List ℕ) (n last margin m : ℕ) : Type 0 where
+pub record Ran (es : List Circulant) (rests ts as' rests' ts' as'' : List ℕ) (step : Step) (n last m : ℕ) : Type 0 where
   pub rests_long : length rests' ≡ length rests
   pub targets_long : length ts' ≡ n
   pub amounts_long : length as'' ≡ n
   pub targets : (c : ℕ) → c < n → get_or ts' c 0 ≡ least_at (λ e. received n es last rests ts as' e c) m
-  pub amounts : (c : ℕ) → c < n → get_or as'' c 0 ≡ gap margin (min1_of (λ e. received n es last rests ts as' e c) m) (min2_of (λ e. received n es last rests ts as' e c) m)
+  pub amounts : (c : ℕ) → c < n → get_or as'' c 0 ≡ amount_of step (get_or ts c 0) (get_or as' c 0) (λ e. received n es last rests ts as' e c) m
   pub changes : (p : ℕ) → p < length rests → get_or rests' p 0 ≡ changed n es rests (λ e c. cond (is_lacking last (entry_at es e) c) 0 (change (get_or ts c 0) (get_or as' c 0) (get_or ts' c 0) (get_or as'' c 0) e)) m p
 
-pub layer_is : (rows : Rows) (rests targets amounts rests' ts' as'' : List ℕ) (margin r w : ℕ) → 1 ≤ rows.shape.group → AreLong rows (held rests targets amounts) → r < rows.shape.q → w ≡ rows.shape.group
-    → Ran (entries_of rows r) rests (of_layer rows.shape.group r targets) (of_layer rows.shape.group r amounts) rests' ts' as'' rows.shape.group (lacked_row rows.shape r) margin (length (entries_of rows r))
-    → held rests' (put_mid (r * rows.shape.group) w targets ts') (put_mid (r * rows.shape.group) w amounts as'') ≡ layer rows margin (held rests targets amounts) r
-layer_is rows rests targets amounts rests' ts' as'' margin r w some long lt width ran =
+pub layer_is : (rows : Rows) (rests targets amounts rests' ts' as'' : List ℕ) (step : Step) (r w : ℕ) → 1 ≤ rows.shape.group → AreLong rows (held rests targets amounts) → r < rows.shape.q → w ≡ rows.shape.group
+    → Ran (entries_of rows r) rests (of_layer rows.shape.group r targets) (of_layer rows.shape.group r amounts) rests' ts' as'' step rows.shape.group (lacked_row rows.shape r) (length (entries_of rows r))
+    → held rests' (put_mid (r * rows.shape.group) w targets ts') (put_mid (r * rows.shape.group) w amounts as'') ≡ layer rows step (held rests targets amounts) r
+layer_is rows rests targets amounts rests' ts' as'' step r w some long lt width ran =
     let n = rows.shape.group in
     let es = entries_of rows r in
     let h = held rests targets amounts in
     let old_t = λ (c : ℕ) (low : c < n). upto_at 0 (λ x. get_or targets (r * n + x) 0) n c low in
     let old_a = λ (c : ℕ) (low : c < n). upto_at 0 (λ x. get_or amounts (r * n + x) 0) n c low in
-    let p = by_places 0 (changed n es rests (change_in rows margin r h) (length es)) (length rests) rests' ran.rests_long
-    (λ k low. ran.changes k low ∙ changed-same plus32 n es rests _ (change_in rows margin r h) (length es) (length es) k some (omega arith) (λ e c lt' low'. ap (cond (is_lacking (lacked_row rows.shape r) (entry_at es e) c) 0) (λ i. change (old_t c low' i) (old_a c low' i) (ran.targets c low' i) (ran.amounts c low' i) e)))
+    let p = by_places 0 (changed n es rests (change_in rows step r h) (length es)) (length rests) rests' ran.rests_long
+    (λ k low. ran.changes k low ∙ changed-same plus16 n es rests _ (change_in rows step r h) (length es) (length es) k some (omega arith) (λ e c lt' low'. ap (cond (is_lacking (lacked_row rows.shape r) (entry_at es e) c) 0) (λ i. change (old_t c low' i) (old_a c low' i) (ran.targets c low' i) (ran.amounts c low' i) e)))
     in
     let t = layer_put n r w rows.shape.q targets ts' (new_target rows r h) some lt long.targets_long width ran.targets_long ran.targets in
-    let a = layer_put n r w rows.shape.q amounts as'' (new_amount rows margin r h) some lt long.amounts_long width ran.amounts_long ran.amounts in
+    let a = layer_put n r w rows.shape.q amounts as'' (new_amount rows step r h) some lt long.amounts_long width ran.amounts_long ran.amounts in
     λ i. held (p i) (t i) (a i)
 
-pub gives : (rows : Rows) (rests targets amounts rests' ts' as'' : List ℕ) (margin r n w last : ℕ) (es : List Circulant) (ts as' : List ℕ) → 1 ≤ rows.shape.group → AreLong rows (held rests targets amounts) → r < rows.shape.q
+pub gives : (rows : Rows) (rests targets amounts rests' ts' as'' : List ℕ) (step : Step) (r n w last : ℕ) (es : List Circulant) (ts as' : List ℕ) → 1 ≤ rows.shape.group → AreLong rows (held rests targets amounts) → r < rows.shape.q
     → rows.shape.group ≡ n → w ≡ n → lacked_row rows.shape r ≡ last → entries_of rows r ≡ es → of_layer n r targets ≡ ts → of_layer n r amounts ≡ as'
-    → Ran es rests ts as' rests' ts' as'' n last margin (length es)
-    → held rests' (put_mid (r * n) w targets ts') (put_mid (r * n) w amounts as'') ≡ layer rows margin (held rests targets amounts) r
-gives rows rests targets amounts rests' ts' as'' margin r n w last es ts as' some long lt n_is width last_is es_is ts_is as_is ran =
+    → Ran es rests ts as' rests' ts' as'' step n last (length es)
+    → held rests' (put_mid (r * n) w targets ts') (put_mid (r * n) w amounts as'') ≡ layer rows step (held rests targets amounts) r
+gives rows rests targets amounts rests' ts' as'' step r n w last es ts as' some long lt n_is width last_is es_is ts_is as_is ran =
     let g = rows.shape.group in
-    let r1 = subst (λ (x : List Circulant). Ran x rests ts as' rests' ts' as'' n last margin (length x)) (sym es_is) ran in
-    let r2 = subst (λ (x : ℕ). Ran (entries_of rows r) rests ts as' rests' ts' as'' n x margin (length (entries_of rows r))) (sym last_is) r1 in
-    let r3 = subst (λ (x : List ℕ). Ran (entries_of rows r) rests x as' rests' ts' as'' n (lacked_row rows.shape r) margin (length (entries_of rows r))) (sym ts_is) r2 in
-    let r4 = subst (λ (x : List ℕ). Ran (entries_of rows r) rests (of_layer n r targets) x rests' ts' as'' n (lacked_row rows.shape r) margin (length (entries_of rows r))) (sym as_is) r3 in
-    let r5 = subst (λ (x : ℕ). Ran (entries_of rows r) rests (of_layer x r targets) (of_layer x r amounts) rests' ts' as'' x (lacked_row rows.shape r) margin (length (entries_of rows r))) (sym n_is) r4 in
-    let is = layer_is rows rests targets amounts rests' ts' as'' margin r w some long lt (width ∙ sym n_is) r5 in
-    subst (λ (x : ℕ). held rests' (put_mid (r * x) w targets ts') (put_mid (r * x) w amounts as'') ≡ layer rows margin (held rests targets amounts) r) n_is is
+    let r1 = subst (λ (x : List Circulant). Ran x rests ts as' rests' ts' as'' step n last (length x)) (sym es_is) ran in
+    let r2 = subst (λ (x : ℕ). Ran (entries_of rows r) rests ts as' rests' ts' as'' step n x (length (entries_of rows r))) (sym last_is) r1 in
+    let r3 = subst (λ (x : List ℕ). Ran (entries_of rows r) rests x as' rests' ts' as'' step n (lacked_row rows.shape r) (length (entries_of rows r))) (sym ts_is) r2 in
+    let r4 = subst (λ (x : List ℕ). Ran (entries_of rows r) rests (of_layer n r targets) x rests' ts' as'' step n (lacked_row rows.shape r) (length (entries_of rows r))) (sym as_is) r3 in
+    let r5 = subst (λ (x : ℕ). Ran (entries_of rows r) rests (of_layer x r targets) (of_layer x r amounts) rests' ts' as'' step x (lacked_row rows.shape r) (length (entries_of rows r))) (sym n_is) r4 in
+    let is = layer_is rows rests targets amounts rests' ts' as'' step r w some long lt (width ∙ sym n_is) r5 in
+    subst (λ (x : ℕ). held rests' (put_mid (r * x) w targets ts') (put_mid (r * x) w amounts as'') ≡ layer rows step (held rests targets amounts) r) n_is is
 
-pub pass_more : (rows : Rows) (margin n : ℕ) (h : Held) → fold (layer rows margin) h (upto (n + 1)) ≡ layer rows margin (fold (layer rows margin) h (upto n)) n
-pass_more rows margin n h =
-    ap (fold (layer rows margin) h) (upto_more n) ∙ fold-append (layer rows margin) h (upto n) (n ∷ [])
+pub pass_more : (rows : Rows) (step : Step) (n : ℕ) (h : Held) → fold (layer rows step) h (upto (n + 1)) ≡ layer rows step (fold (layer rows step) h (upto n)) n
+pass_more rows step n h =
+    ap (fold (layer rows step) h) (upto_more n) ∙ fold-append (layer rows step) h (upto n) (n ∷ [])

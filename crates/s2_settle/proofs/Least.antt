@@ -17,7 +17,7 @@ first_le f (suc n) k lt = elim (cases_eq k n) [
   | inr other ↦ (let rest = first_le f n k (omega arith) in omega (arith, rest))
 ]
 
-pub first_at : (f : ℕ → ℕ) (n : ℕ) → min1_of f n < 4294967295 → (least_at f n < n) × (f (least_at f n) ≡ min1_of f n)
+pub first_at : (f : ℕ → ℕ) (n : ℕ) → min1_of f n < 65535 → (least_at f n < n) × (f (least_at f n) ≡ min1_of f n)
 first_at f zero some = absurd (omega arith)
 first_at f (suc n) some = elim (cases_lt (f n) (min1_of f n)) [
   | inl lt ↦ (
@@ -48,31 +48,6 @@ second_le f (suc n) k lt other = elim (cases_lt (f n) (min1_of f n)) [
       elim (cases_eq k n) [
         | inl same ↦ (let e = ap f same in omega (arith, e))
         | inr more ↦ (let rest = second_le f n k (omega arith) (λ same. other (same ∙ sym at)) in omega (arith, rest))
-      ]
-      )
-]
-
-pub second_at : {P : Type 0} (f : ℕ → ℕ) (n : ℕ) → min2_of f n < 4294967295 → ((k : ℕ) → k < n → (k ≡ least_at f n → ⊥) → f k ≡ min2_of f n → P) → P
-second_at f zero some to = absurd (omega arith)
-second_at f (suc n) some to = elim (cases_lt (f n) (min1_of f n)) [
-  | inl less ↦ (
-      let at = moves_on (least_at f n) (min1_of f n) (f n) n less in
-      elim (cases_lt (min1_of f n) (min2_of f n)) [
-        | inl below ↦ (
-            let before = first_at f n (omega arith) in
-            to (least_at f n) (omega (arith, before.0)) (λ same. omega (arith, same, at, before.0)) (omega (arith, before.1))
-            )
-        | inr above ↦ second_at f n (omega arith) (λ k lt other is. to k (omega arith) (λ same. omega (arith, same, at)) (omega (arith, is)))
-      ]
-      )
-  | inr le ↦ (
-      let at = stays (least_at f n) (min1_of f n) (f n) n le in
-      elim (cases_lt (f n) (min2_of f n)) [
-        | inl below ↦ (
-            let before = first_at f n (omega arith) in
-            to n (omega arith) (λ same. omega (arith, same, at, before.0)) (omega arith)
-            )
-        | inr above ↦ second_at f n (omega arith) (λ k lt other is. to k (omega arith) (λ same. other (same ∙ at)) (omega (arith, is)))
       ]
       )
 ]

@@ -1,9 +1,5 @@
 pub mod Pieces
 pub mod Sames
-pub mod Spots
-pub mod Shifts
-pub mod Windows
-pub mod Rings
 pub mod Layers
 pub mod Shown
 pub mod MadeMoves
@@ -12,13 +8,13 @@ pub mod StrictTests
 pub mod SettledViews
 pub mod Least
 pub mod LeastMember
+pub mod ThreeLeast
+pub mod Writings
 pub mod RestWords
 pub mod LaneMoves
 pub mod LayerSums
 pub mod ShownMoves
 pub mod PlainLayers
 pub mod PlainPasses
-pub mod PlainServing
-pub mod Queues
 pub mod PlainSettled
 pub mod RuleLaws

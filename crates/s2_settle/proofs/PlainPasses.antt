@@ -1,5 +1,5 @@
 -- The start and the passes of rows and lanes show those of checks and members; where passes end.
-use Rattle.std.proofs.Common.{◌≡◌, ◌≢◌, ℕ, zero, suc, ◌+◌, ◌*◌, ◌/◌, ◌%◌, ◌<◌, ◌≤◌, ◌==◌, nat_lt, Bool, true, false, cond, List, [], ◌∷◌, length, get_or, map, fold, replicate, sum_by, All, ℤ, pos, neg_ℤ, ◌+ℤ◌, ◌*ℤ◌, int_lt, unsigned_abs, Option, None, Some, refl, ap, sym, subst, ◌∙◌, inl, inr, arith, eq-eqb, lt-ltb, le-ltb}
+use Rattle.std.proofs.Common.{◌≡◌, ◌≢◌, ℕ, zero, suc, ◌+◌, ◌-◌, ◌*◌, ◌/◌, ◌%◌, ◌<◌, ◌≤◌, ◌==◌, nat_lt, Bool, true, false, cond, List, [], ◌∷◌, length, get_or, map, fold, replicate, sum_by, All, ℤ, pos, neg_ℤ, ◌+ℤ◌, ◌*ℤ◌, ◌<ℤ◌, ◌≤ℤ◌, int_lt, unsigned_abs, Option, None, Some, refl, ap, sym, subst, ◌∙◌, inl, inr, arith, eq-eqb, lt-ltb, le-ltb}
 use Rattle.std.specs.List.{AllPairs, list_any}
 use Rattle.std.proofs.lemmas.Bool.{cases_Bool, cases_lt}
 use Rattle.std.proofs.lemmas.List.{get_or-map, get_or-replicate, length-replicate, get_or_past}
@@ -8,7 +8,7 @@ use Rattle.std.proofs.lemmas.List.Folds.{list_any_at}
 use Rattle.std.proofs.lemmas.List.Elements.{All-head, All-tail}
 use Rattle.std.proofs.lemmas.List.Sums.{sum_by-cons, fold-append}
 use Rattle.std.proofs.lemmas.Nat.{mod-mul-add, div-mul-add, div-add-mod'}
-use Rattle.std.proofs.lemmas.Int.{ints}
+use Rattle.std.proofs.lemmas.Int.{ints, by_lt_z}
 use Rattle.s2_mode.specs.Shape.{code_bits}
 use Rattle.s2_rows.specs.Rows.{Rows}
 use Rattle.s2_matrix.specs.Total.{upto}
@@ -25,7 +25,8 @@ use Rattle.s2_minsum.specs.Layout.{row_of_bit, lane_of_bit, bit_of}
 use Rattle.s2_minsum.proofs.Places
 use Rattle.s2_minsum.proofs.Orders.{Within, sum_within}
 use Rattle.s2_settle.specs.Rests.{zero_rest, lacking}
-use Rattle.s2_settle.specs.Plain.{settling_scale, first_margin, State, raise, rest, is_hopeless, begun, after}
+use Rattle.s2_settle.specs.declared.course.Step.{Step}
+use Rattle.s2_settle.specs.Plain.{settling_scale, State, raise, rest, is_hopeless, after, step_at}
 use Rattle.s2_settle.specs.declared.course.Course.{Course}
 use Rattle.s2_settle.specs.Plain as plain
 use Rattle.s2_settle.specs.Layer.{Held, layer}
@@ -33,10 +34,16 @@ use Rattle.s2_settle.specs.Start.{started, start}
 use Rattle.s2_settle.specs.Passes.{pass}
 use Rattle.s2_settle.specs.Placing.{place_of_check}
 use Rattle.s2_minsum.specs.Decoding.{AreFit}
-use Rattle.s2_settle.specs.Shows.{Shows, ShowsEnd, IsShown, IsWithin}
+use Rattle.s2_settle.specs.Shows.{Shows, ShowsEnd, IsShown}
 use Rattle.s2_settle.proofs.Layers.{upto_at, length-upto_map, by_places, pass_more}
-use Rattle.s2_settle.proofs.PlainLayers.{layer_within, layer_shown}
-use Rattle.s2_settle.proofs.RestWords.{less_is, no_less_is, less_of, no_less_of}
+use Rattle.s2_settle.proofs.PlainLayers.{layer_both}
+use Rattle.s2_settle.proofs.RestWords.{word_at}
+
+less_of : (a b : ℤ) → int_lt a b ≡ true → a <ℤ b
+less_of a b h = by_lt_z a b (λ lt. lt) (λ le. absurd (grind (arith, ints)))
+
+no_less_of : (a b : ℤ) → int_lt a b ≡ false → b ≤ℤ a
+no_less_of a b h = by_lt_z a b (λ lt. absurd (grind (arith, ints))) (λ le. le)
 
 -- ---- the start
 
@@ -46,28 +53,21 @@ soft_small soft all i = elim (cases_lt i (length soft)) [
   | inr le ↦ (let none = get_or_past soft i (pos 0) le in omega (arith, ints, none))
 ]
 
-started_is : (soft : List ℤ) (word : List Bool) → All IsSoft soft → (i : ℕ) → pos (started soft word i) ≡ pos zero_rest +ℤ in_favour word i (pos settling_scale *ℤ value_at soft i)
+started_is : (soft : List ℤ) (word : List Bool) → All IsSoft soft → (i : ℕ) → started soft word i ≡ plain.word (in_favour word i (pos settling_scale *ℤ value_at soft i))
 started_is soft word all i =
     go (int_lt (value_at soft i) (pos 0)) (bit_at word i) refl refl
   where
     small : unsigned_abs (value_at soft i) ≤ max_soft
     small = soft_small soft all i
 
-    go : (s b : Bool) → int_lt (value_at soft i) (pos 0) ≡ s → bit_at word i ≡ b → pos (started soft word i) ≡ pos zero_rest +ℤ in_favour word i (pos settling_scale *ℤ value_at soft i)
-    go true true s b = (let lt = less_of (value_at soft i) (pos 0) s in rw (s, b) (omega (arith, ints, small, lt)))
-    go true false s b = (let lt = less_of (value_at soft i) (pos 0) s in rw (s, b) (omega (arith, ints, small, lt)))
-    go false true s b = (let le = no_less_of (value_at soft i) (pos 0) s in rw (s, b) (omega (arith, ints, small, le)))
-    go false false s b = (let le = no_less_of (value_at soft i) (pos 0) s in rw (s, b) (omega (arith, ints, small, le)))
+    stands : (z : ℤ) (m : ℕ) → z +ℤ pos 32768 ≡ pos m → m < 65536 → m ≡ plain.word z
+    stands z m e low = (let is = word_at z 0 m (omega (arith, ints, e)) in omega (arith, is, low))
 
-favour_small : (b : Bool) (z : ℤ) → unsigned_abs z ≤ max_soft → unsigned_abs (cond b (neg_ℤ (pos settling_scale *ℤ z)) (pos settling_scale *ℤ z)) ≤ settling_scale * max_soft
-favour_small true z h = omega (arith, ints)
-favour_small false z h = omega (arith, ints)
-
-pub start_within : (rows : Rows) (soft : List ℤ) (word : List Bool) → All IsSoft soft → IsWithin rows (plain.start soft word)
-start_within rows soft word all = record {
-  values = λ i low. favour_small (bit_at word i) (value_at soft i) (soft_small soft all i);
-  amounts = λ j. omega arith;
-}
+    go : (s b : Bool) → int_lt (value_at soft i) (pos 0) ≡ s → bit_at word i ≡ b → started soft word i ≡ plain.word (in_favour word i (pos settling_scale *ℤ value_at soft i))
+    go true true s b = (let lt = less_of (value_at soft i) (pos 0) s in rw (s, b) (stands (neg_ℤ (pos settling_scale *ℤ value_at soft i)) (zero_rest + settling_scale * unsigned_abs (value_at soft i)) (omega (arith, ints, small, lt)) (omega (arith, small))))
+    go true false s b = (let lt = less_of (value_at soft i) (pos 0) s in rw (s, b) (stands (pos settling_scale *ℤ value_at soft i) (zero_rest - settling_scale * unsigned_abs (value_at soft i)) (omega (arith, ints, small, lt)) (omega (arith, small))))
+    go false true s b = (let le = no_less_of (value_at soft i) (pos 0) s in rw (s, b) (stands (neg_ℤ (pos settling_scale *ℤ value_at soft i)) (zero_rest - settling_scale * unsigned_abs (value_at soft i)) (omega (arith, ints, small, le)) (omega (arith, small))))
+    go false false s b = (let le = no_less_of (value_at soft i) (pos 0) s in rw (s, b) (stands (pos settling_scale *ℤ value_at soft i) (zero_rest + settling_scale * unsigned_abs (value_at soft i)) (omega (arith, ints, small, le)) (omega (arith, small))))
 
 nothing_raised : (b : Bool) → cond b (pos 0) (neg_ℤ (pos 0)) ≡ pos 0
 nothing_raised true = refl
@@ -99,7 +99,8 @@ start_shown rows fit soft word all =
           let bit : bit_of s (p / n) (p % n) ≡ i = (λ x. bit_of s (div-mul-add row n lane lane_low x) (mod-mul-add row n lane lane_low x)) ∙ Places.bit_again s fit.shaped i low in
           let none = total-same (λ j. raise (plain.start soft word) j i) (λ _. pos 0) (checks_of (code_of rows) i) (λ j. nothing_raised (i == 0)) ∙ total-zero (checks_of (code_of rows) i) in
           let is = started_is soft word all i in
-          ap pos (at ∙ ap (started soft word) bit) ∙ is ∙ omega (arith, ints, none)
+          let same : in_favour word i (pos settling_scale *ℤ value_at soft i) ≡ rest (code_of rows) (plain.start soft word) i = omega (arith, ints, none) in
+          at ∙ ap (started soft word) bit ∙ is ∙ ap plain.word same
           );
       moves = record {
         amount = λ j low. same_everywhere 0 (place_of_check s j) many;
@@ -109,33 +110,27 @@ start_shown rows fit soft word all =
     }
 
 pub start_both : (rows : Rows) → AreFit rows → (soft : List ℤ) (word : List Bool) → All IsSoft soft → IsShown rows (start rows soft word) (plain.start soft word)
-start_both rows fit soft word all = record { within = start_within rows soft word all; shows = start_shown rows fit soft word all }
+start_both rows fit soft word all = record { within = λ j. omega arith; shows = start_shown rows fit soft word all }
 
 -- ---- a pass
 
-module _ (rows : Rows) (fit : AreFit rows) (margin : ℕ) (few : margin ≤ first_margin) (h : Held) (st : State) (within : IsWithin rows st) (shows : Shows rows h st) where
-  plain_more : (n : ℕ) → fold (plain.layer (code_of rows) rows.shape.q margin) st (upto (n + 1)) ≡ plain.layer (code_of rows) rows.shape.q margin (fold (plain.layer (code_of rows) rows.shape.q margin) st (upto n)) n
+module _ (rows : Rows) (fit : AreFit rows) (step : Step) (few : step.margin ≤ 65535) (h : Held) (st : State) (shown : IsShown rows h st) where
+  plain_more : (n : ℕ) → fold (plain.layer (code_of rows) rows.shape.q step) st (upto (n + 1)) ≡ plain.layer (code_of rows) rows.shape.q step (fold (plain.layer (code_of rows) rows.shape.q step) st (upto n)) n
   plain_more n =
-      ap (fold (plain.layer (code_of rows) rows.shape.q margin) st) (upto_more n) ∙ fold-append (plain.layer (code_of rows) rows.shape.q margin) st (upto n) (n ∷ [])
+      ap (fold (plain.layer (code_of rows) rows.shape.q step) st) (upto_more n) ∙ fold-append (plain.layer (code_of rows) rows.shape.q step) st (upto n) (n ∷ [])
 
-  layers_shown : (n : ℕ) → n ≤ rows.shape.q → IsShown rows (fold (layer rows margin) h (upto n)) (fold (plain.layer (code_of rows) rows.shape.q margin) st (upto n))
-  layers_shown zero le = record { within = within; shows = shows }
+  layers_shown : (n : ℕ) → n ≤ rows.shape.q → IsShown rows (fold (layer rows step) h (upto n)) (fold (plain.layer (code_of rows) rows.shape.q step) st (upto n))
+  layers_shown zero le = shown
   layers_shown (suc n) le =
       let one : suc n ≡ n + 1 = omega arith in
       let before = layers_shown n (omega arith) in
-      let low : n < rows.shape.q = omega arith in
-      let after = layer_shown rows fit margin few n low _ _ before.within before.shows in
-      let after' = layer_within rows margin n _ before.within in
-      let now : IsShown rows (layer rows margin (fold (layer rows margin) h (upto n)) n) (plain.layer (code_of rows) rows.shape.q margin (fold (plain.layer (code_of rows) rows.shape.q margin) st (upto n)) n) = record { within = after'; shows = after } in
-      let a = ap (λ k. fold (layer rows margin) h (upto k)) one ∙ pass_more rows margin n h in
-      let b = ap (λ k. fold (plain.layer (code_of rows) rows.shape.q margin) st (upto k)) one ∙ plain_more n in
-      subst (λ (x : State). IsShown rows (fold (layer rows margin) h (upto (suc n))) x) (sym b) (subst (λ (x : Held). IsShown rows x (plain.layer (code_of rows) rows.shape.q margin (fold (plain.layer (code_of rows) rows.shape.q margin) st (upto n)) n)) (sym a) now)
+      let now = layer_both rows fit step few n (omega arith) _ _ before in
+      let a = ap (λ k. fold (layer rows step) h (upto k)) one ∙ pass_more rows step n h in
+      let b = ap (λ k. fold (plain.layer (code_of rows) rows.shape.q step) st (upto k)) one ∙ plain_more n in
+      subst (λ (x : State). IsShown rows (fold (layer rows step) h (upto (suc n))) x) (sym b) (subst (λ (x : Held). IsShown rows x (plain.layer (code_of rows) rows.shape.q step (fold (plain.layer (code_of rows) rows.shape.q step) st (upto n)) n)) (sym a) now)
 
-  pub pass_shown : Shows rows (pass rows margin h) (plain.pass (code_of rows) rows.shape.q margin st)
-  pass_shown = (layers_shown rows.shape.q (omega arith)).shows
-
-  pub pass_within : IsWithin rows (plain.pass (code_of rows) rows.shape.q margin st)
-  pass_within = (layers_shown rows.shape.q (omega arith)).within
+  pub pass_shown : IsShown rows (pass rows step h) (plain.pass (code_of rows) rows.shape.q step st)
+  pass_shown = layers_shown rows.shape.q (omega arith)
 
 -- ---- bits that lack
 
@@ -151,12 +146,6 @@ sum_same f g (x ∷ xs) same =
 
 any_of : (xs : List ℕ) (y k : ℕ) → k < length xs → get_or xs k 0 ≡ y → list_any (λ m. m == y) xs ≡ true
 any_of xs y k lt is = list_any_at (λ m. m == y) xs k 0 lt (eq-eqb (get_or xs k 0) y is)
-
-same_sign : (w : ℕ) (z : ℤ) → pos w ≡ pos 2147483648 +ℤ z → cond {A = ℕ} (nat_lt w 2147483649) 1 0 ≡ cond (int_lt z (pos 1)) 1 0
-same_sign w z is = elim (cases_lt w 2147483649) [
-  | inl lt ↦ (λ i. cond {A = ℕ} ((lt-ltb w 2147483649 lt ∙ sym (less_is z (pos 1) (omega (arith, ints, is)))) i) 1 0)
-  | inr le ↦ (λ i. cond {A = ℕ} ((le-ltb w 2147483649 le ∙ sym (no_less_is z (pos 1) (omega (arith, ints, is)))) i) 1 0)
-]
 
 module _ (rows : Rows) (fit : AreFit rows) (h : Held) (st : State) (shows : Shows rows h st) where
   abbrev bits : ℕ
@@ -231,13 +220,13 @@ module _ (rows : Rows) (fit : AreFit rows) (h : Held) (st : State) (shows : Show
 
   pub lacking_same : lacking h.rests ≡ plain.lacking (code_of rows) st
   lacking_same =
-      let F : ℕ → ℕ = λ p. cond (nat_lt (get_or h.rests p 0) 2147483649) 1 0 in
-      let G : ℕ → ℕ = λ i. cond (int_lt (rest (code_of rows) st i) (pos 1)) 1 0 in
-      let own : ℕ → ℕ = λ v. cond (nat_lt v 2147483649) 1 0 in
+      let F : ℕ → ℕ = λ p. cond (nat_lt (get_or h.rests p 0) 32769) 1 0 in
+      let G : ℕ → ℕ = λ i. cond (nat_lt (plain.word (rest (code_of rows) st i)) 32769) 1 0 in
+      let own : ℕ → ℕ = λ v. cond (nat_lt v 32769) 1 0 in
       let list = by_places 0 (λ p. get_or h.rests p 0) bits h.rests shows.long.rests_long (λ k lt. refl) in
       let one : sum_by own h.rests ≡ sum_by F (upto bits) = ap (sum_by own) list ∙ sum_map own (λ p. get_or h.rests p 0) (upto bits) in
       let two : sum_by F places ≡ sum_by (λ i. F (row_of_bit rows.shape i * rows.shape.group + lane_of_bit rows.shape i)) (upto bits) = sum_map F (λ i. row_of_bit rows.shape i * rows.shape.group + lane_of_bit rows.shape i) (upto bits) in
-      let three : sum_by (λ i. F (row_of_bit rows.shape i * rows.shape.group + lane_of_bit rows.shape i)) (upto bits) ≡ sum_by G (upto bits) = sum_same _ G (upto bits) (λ k d lt. (let low = upto_below bits k d lt in same_sign _ (rest (code_of rows) st (get_or (upto bits) k d)) (shows.rests (get_or (upto bits) k d) low))) in
+      let three : sum_by (λ i. F (row_of_bit rows.shape i * rows.shape.group + lane_of_bit rows.shape i)) (upto bits) ≡ sum_by G (upto bits) = sum_same _ G (upto bits) (λ k d lt. (let low = upto_below bits k d lt in ap (λ w. cond {A = ℕ} (nat_lt w 32769) 1 0) (shows.rests (get_or (upto bits) k d) low))) in
       let up = sum_within F places (upto bits) places_apart places_in in
       let down = sum_within F (upto bits) places upto_apart upto_in in
       omega (arith, one, two, three, up, down)
@@ -271,21 +260,10 @@ module _ (code : Code) (q : ℕ) where
   unfolding plain.passes
   passes_hopeless n p c s some hopeless = rw (some, hopeless) refl
 
-  pub passes_queued : (n p : ℕ) (c : Course) (s : State) → (plain.lacking code s == 0) ≡ false → is_hopeless code.bits p c.before (plain.lacking code s) ≡ false → (plain.lacking code (begun code c s) == 0) ≡ true → plain.passes code q (suc n) p c s ≡ Some (begun code c s)
+  pub passes_later : (n p : ℕ) (c : Course) (s : State) → (plain.lacking code s == 0) ≡ false → is_hopeless code.bits p c.before (plain.lacking code s) ≡ false
+      → plain.passes code q (suc n) p c s ≡ plain.passes code q n (p + 1) (after c (plain.lacking code s)) (plain.pass code q (step_at c p (plain.lacking code s)) s)
   unfolding plain.passes
-  passes_queued n p c s some hopeful found =
-      let b = begun code c s in
-      let on = plain.passes code q n (p + 1) (after code c p (plain.lacking code s)) (plain.pass code q (after code c p (plain.lacking code s)).margin b) in
-      ap (λ x. cond x (Some s) (cond (is_hopeless code.bits p c.before (plain.lacking code s)) None (cond (plain.lacking code b == 0) (Some b) on))) some
-      ∙ ap (λ x. cond x None (cond (plain.lacking code b == 0) (Some b) on)) hopeful
-      ∙ ap (λ x. cond x (Some b) on) found
-
-  pub passes_later : (n p : ℕ) (c : Course) (s : State) → (plain.lacking code s == 0) ≡ false → is_hopeless code.bits p c.before (plain.lacking code s) ≡ false → (plain.lacking code (begun code c s) == 0) ≡ false
-      → plain.passes code q (suc n) p c s ≡ plain.passes code q n (p + 1) (after code c p (plain.lacking code s)) (plain.pass code q (after code c p (plain.lacking code s)).margin (begun code c s))
-  unfolding plain.passes
-  passes_later n p c s some hopeful none =
-      let b = begun code c s in
-      let on = plain.passes code q n (p + 1) (after code c p (plain.lacking code s)) (plain.pass code q (after code c p (plain.lacking code s)).margin b) in
-      ap (λ x. cond x (Some s) (cond (is_hopeless code.bits p c.before (plain.lacking code s)) None (cond (plain.lacking code b == 0) (Some b) on))) some
-      ∙ ap (λ x. cond x None (cond (plain.lacking code b == 0) (Some b) on)) hopeful
-      ∙ ap (λ x. cond x (Some b) on) none
+  passes_later n p c s some hopeful =
+      let on = plain.passes code q n (p + 1) (after c (plain.lacking code s)) (plain.pass code q (step_at c p (plain.lacking code s)) s) in
+      ap (λ x. cond x (Some s) (cond (is_hopeless code.bits p c.before (plain.lacking code s)) None on)) some
+      ∙ ap (λ x. cond x None on) hopeful

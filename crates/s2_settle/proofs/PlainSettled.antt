@@ -17,7 +17,7 @@ none_moved xs bit bit' a none = (let test = eq-eqb a 0 none in rw test refl)
 move_shown : (rows : Rows) (h : Held) (s : State) → IsShown rows h s → (j : ℕ) → j < (code_of rows).checks → move_of rows h.targets h.amounts j ≡ move_in (code_of rows) s j
 move_shown rows h s both j low =
     let ms = members (code_of rows) j in
-    let most = both.within.amounts j in
+    let most = both.within j in
     let amount : min (get_or h.amounts (place_of_check rows.shape j) 0) 1048576 ≡ s.amount j = omega (arith, both.shows.moves.amount j low, most) in
     let bit = shown rows (j % rows.shape.q) (j / rows.shape.q) (get_or h.targets (place_of_check rows.shape j) 0) in
     ap (move_to ms bit) amount ∙ elim (cases_eq (s.amount j) 0) [

@@ -1,65 +1,101 @@
--- What words of 32 bits say of the rests that they stand for.
-use Rattle.std.proofs.Common.{◌≡◌, ℕ, ◌+◌, ◌-◌, ◌/◌, ◌%◌, ◌<◌, ◌≤◌, min, max, Bool, true, false, cond, ℤ, pos, neg_ℤ, ◌+ℤ◌, ◌-ℤ◌, ◌≤ℤ◌, ◌<ℤ◌, int_lt, unsigned_abs, ap, sym, ◌∙◌, arith}
-use Rattle.std.proofs.lemmas.Int.{ints, by_lt_z}
-use Rattle.s2_bits.specs.Lanes32.{minus32, plus32}
-use Rattle.s2_settle.specs.Rests.{gap}
-use Rattle.s2_settle.specs.Plain.{first_margin, half_gap}
+-- What words of 16 bits say of the whole numbers that they stand for.
+use Rattle.std.proofs.Common.{◌≡◌, ℕ, ◌+◌, ◌-◌, ◌*◌, ◌/◌, ◌%◌, ◌<◌, ◌≤◌, max, Bool, true, false, cond, ℤ, pos, neg_ℤ, ◌+ℤ◌, ◌-ℤ◌, unsigned_abs, refl, ap, ◌∙◌, arith}
+use Rattle.std.proofs.lemmas.Int.{ints, int_rem_euclid_is}
+use Rattle.s2_bits.specs.Lanes16.{minus16, plus16}
+use Rattle.s2_settle.specs.Rests.{freed16, further16}
+use Rattle.s2_settle.specs.Plain.{word, freed, further}
 
-pub less_is : (a b : ℤ) → a <ℤ b → int_lt a b ≡ true
-less_is a b h = grind (arith, ints)
+-- the word of a number that is so many times 2^16 lower
+pub word_at : (z : ℤ) (k m : ℕ) → z +ℤ pos 32768 +ℤ pos (k * 65536) ≡ pos m → word z ≡ m % 65536
+word_at z k m e =
+    ap unsigned_abs (int_rem_euclid_is (z +ℤ pos 32768) (pos 65536) 65536 k m (omega arith) refl e)
 
-pub no_less_is : (a b : ℤ) → b ≤ℤ a → int_lt a b ≡ false
-no_less_is a b h = grind (arith, ints)
+abbrev turns : ℤ → ℕ
+turns z = unsigned_abs z + 4
 
-pub less_of : (a b : ℤ) → int_lt a b ≡ true → a <ℤ b
-less_of a b h = by_lt_z a b (λ lt. lt) (λ le. absurd (grind (arith, ints)))
+abbrev high : ℤ → ℕ
+high z = unsigned_abs (z +ℤ pos 32768 +ℤ pos (turns z * 65536))
 
-pub no_less_of : (a b : ℤ) → int_lt a b ≡ false → b ≤ℤ a
-no_less_of a b h = by_lt_z a b (λ lt. absurd (grind (arith, ints))) (λ le. le)
+high_is : (z : ℤ) → z +ℤ pos 32768 +ℤ pos (turns z * 65536) ≡ pos (high z)
+high_is z = omega (arith, ints)
+
+word_is : (z : ℤ) → word z ≡ high z % 65536
+word_is z = word_at z (turns z) (high z) (high_is z)
+
+pub word_fits : (z : ℤ) → word z < 65536
+word_fits z = omega (arith, word_is z)
 
 -- by how much a move raises a member: by the amount where it is the target
 abbrev pub signed : Bool → ℕ → ℤ
 signed here amount = cond here (pos amount) (neg_ℤ (pos amount))
 
 -- a rest once a move is taken back
-pub given_is : (A amount : ℕ) (z : ℤ) (here : Bool) → pos A ≡ pos 2147483648 +ℤ z → unsigned_abs z ≤ 536870912 → amount ≤ 1048576
-    → pos (cond here (minus32 A amount) (plus32 A amount)) ≡ pos 2147483648 +ℤ (z -ℤ signed here amount)
-given_is A amount z true is small few =
-    let low : A < 4294967296 = omega (arith, ints) in
-    let e : (A + (4294967296 - amount)) % 4294967296 ≡ A - amount = omega (arith, ints) in
-    omega (arith, ints, e)
-given_is A amount z false is small few =
-    let e : (A + amount) % 4294967296 ≡ A + amount = omega (arith, ints) in
-    omega (arith, ints, e)
-
--- what is moved, where both numbers are rests
-pub gap_is : (margin F S : ℕ) (a b : ℤ) → pos F ≡ pos 2147483648 +ℤ a → pos S ≡ pos 2147483648 +ℤ b → unsigned_abs a ≤ 1073741824 → unsigned_abs b ≤ 1073741824 → margin ≤ first_margin → a ≤ℤ b → gap margin F S ≡ half_gap margin a b
-gap_is margin F S a b first second small small' few le =
-    let up : F ≤ S = omega (arith, ints) in
-    let low : S < 4294967296 = omega (arith, ints) in
-    let d : (S + (4294967296 - F)) % 4294967296 ≡ S - F = omega arith in
-    let m : (max (S - F) margin + (4294967296 - margin)) % 4294967296 ≡ S - F - margin = omega arith in
-    let g : gap margin F S ≡ min ((S - F - margin) / 2) 1048576 = ap (λ x. min ((max x margin + (4294967296 - margin)) % 4294967296 / 2) 1048576) d ∙ ap (λ x. min (x / 2) 1048576) m in
-    by_lt_z (a +ℤ pos margin) b
-    (λ lt.
-    let size : unsigned_abs (b -ℤ a -ℤ pos margin) ≡ S - F - margin = omega (arith, ints) in
-    g ∙ sym (ap (λ t. cond t (min (unsigned_abs (b -ℤ a -ℤ pos margin) / 2) 1048576) 0) (less_is (a +ℤ pos margin) b lt) ∙ ap (λ x. min (x / 2) 1048576) size))
-    (λ ge.
-    let none : S - F - margin ≡ 0 = omega (arith, ints) in
-    g ∙ ap (λ x. min (x / 2) 1048576) none ∙ sym (ap (λ t. cond t (min (unsigned_abs (b -ℤ a -ℤ pos margin) / 2) 1048576) 0) (no_less_is (a +ℤ pos margin) b ge)))
-
--- what is moved where there are no others
-pub gap_alone : (margin F : ℕ) (a : ℤ) → pos F ≡ pos 2147483648 +ℤ a → unsigned_abs a ≤ 1073741824 → margin ≤ first_margin → gap margin F 4294967295 ≡ 1048576
-gap_alone margin F a first small few =
-    let low : F ≤ 3221225472 = omega (arith, ints) in
-    let d : (4294967295 + (4294967296 - F)) % 4294967296 ≡ 4294967295 - F = omega arith in
-    let m : (max (4294967295 - F) margin + (4294967296 - margin)) % 4294967296 ≡ 4294967295 - F - margin = omega arith in
-    ap (λ x. min ((max x margin + (4294967296 - margin)) % 4294967296 / 2) 1048576) d ∙ ap (λ x. min (x / 2) 1048576) m ∙ omega arith
+pub given_is : (A amount : ℕ) (z : ℤ) (here : Bool) → A ≡ word z → amount ≤ 65535
+    → cond here (minus16 A amount) (plus16 A amount) ≡ word (z -ℤ signed here amount)
+given_is A amount z true is few =
+    let one = word_is z in
+    let top = high_is z in
+    let m = high z - amount in
+    let two = word_at (z -ℤ pos amount) (turns z) m (omega (arith, ints, top, few)) in
+    let far : 98304 ≤ high z = omega (arith, ints, top) in
+    omega (arith, is, one, two, far, few)
+given_is A amount z false is few =
+    let one = word_is z in
+    let top = high_is z in
+    let two = word_at (z -ℤ neg_ℤ (pos amount)) (turns z) (high z + amount) (omega (arith, ints, top)) in
+    omega (arith, is, one, two)
 
 -- what a change of moves adds to a rest
-pub change_adds : (A : ℕ) (z : ℤ) (now old : Bool) (new was : ℕ) → pos A ≡ pos 2147483648 +ℤ z → unsigned_abs z ≤ 1073741824 → new ≤ 1048576 → was ≤ 1048576
-    → pos (plus32 A (minus32 (cond now new (minus32 0 new)) (cond old was (minus32 0 was)))) ≡ pos 2147483648 +ℤ (z +ℤ (signed now new -ℤ signed old was))
-change_adds A z true true new was is small few few' = omega (arith, ints)
-change_adds A z true false new was is small few few' = omega (arith, ints)
-change_adds A z false true new was is small few few' = omega (arith, ints)
-change_adds A z false false new was is small few few' = omega (arith, ints)
+pub change_adds : (A : ℕ) (z : ℤ) (now old : Bool) (new was : ℕ) → A ≡ word z → new ≤ 65535 → was ≤ 65535
+    → plus16 A (minus16 (cond now new (minus16 0 new)) (cond old was (minus16 0 was))) ≡ word (z +ℤ (signed now new -ℤ signed old was))
+change_adds A z true true new was is few few' =
+    let top = high_is z in
+    let far : 98304 ≤ high z = omega (arith, ints, top) in
+    let two = word_at (z +ℤ (pos new -ℤ pos was)) (turns z) (high z + new - was) (omega (arith, ints, top, far, few')) in
+    omega (arith, is, word_is z, two, far, few, few')
+change_adds A z true false new was is few few' =
+    let top = high_is z in
+    let two = word_at (z +ℤ (pos new -ℤ neg_ℤ (pos was))) (turns z) (high z + new + was) (omega (arith, ints, top)) in
+    omega (arith, is, word_is z, two, few, few')
+change_adds A z false true new was is few few' =
+    let top = high_is z in
+    let far : 196608 ≤ high z = omega (arith, ints, top) in
+    let two = word_at (z +ℤ (neg_ℤ (pos new) -ℤ pos was)) (turns z) (high z - new - was) (omega (arith, ints, top, far, few, few')) in
+    omega (arith, is, word_is z, two, far, few, few')
+change_adds A z false false new was is few few' =
+    let top = high_is z in
+    let far : 98304 ≤ high z = omega (arith, ints, top) in
+    let two = word_at (z +ℤ (neg_ℤ (pos new) -ℤ neg_ℤ (pos was))) (turns z) (high z + was - new) (omega (arith, ints, top, far, few)) in
+    omega (arith, is, word_is z, two, far, few, few')
+
+-- what three inputs leave free
+pub freed_is : (margin a b c : ℕ) → margin ≤ 65535 → a ≤ b → b ≤ c → c ≤ 65535 → freed16 margin a b c ≡ freed margin a b c
+freed_is margin a b c few le le' low =
+    let one : minus16 b a ≡ b - a = omega arith in
+    let two : minus16 c b ≡ c - b = omega arith in
+    let reserve : (max margin (c - b) + (65536 - (c - b))) % 65536 ≡ margin - (c - b) = omega arith in
+    let r = (margin - (c - b)) / 2 in
+    let free : (max (b - a) r + (65536 - r)) % 65536 ≡ b - a - r = omega arith in
+    (λ i. (max (one i) ((max margin (two i) + (65536 - two i)) % 65536 / 2) + (65536 - (max margin (two i) + (65536 - two i)) % 65536 / 2)) % 65536 / 2)
+    ∙ ap (λ x. (max (b - a) (x / 2) + (65536 - x / 2)) % 65536 / 2) reserve
+    ∙ ap (λ x. x / 2) free
+
+-- how far an amount goes
+pub further_is : (old amount : ℕ) → old ≤ 49150 → amount ≤ 32767 → further16 old amount ≡ further old amount
+further_is old amount few few' =
+    let up : (max amount old + (65536 - old)) % 65536 ≡ amount - old = omega arith in
+    let down : (max old amount + (65536 - amount)) % 65536 ≡ old - amount = omega arith in
+    let u = (amount - old) / 2 in
+    let d = (old - amount + 1) / 2 in
+    let one : (amount + u) % 65536 ≡ amount + u = omega arith in
+    let two : (old - amount + 1) % 65536 ≡ old - amount + 1 = omega arith in
+    let all : (max (amount + u) d + (65536 - d)) % 65536 ≡ amount + u - d = omega arith in
+    (λ i. (max ((amount + up i / 2) % 65536) ((down i + 1) % 65536 / 2) + (65536 - (down i + 1) % 65536 / 2)) % 65536)
+    ∙ (λ i. (max (one i) (two i / 2) + (65536 - two i / 2)) % 65536)
+    ∙ all
+
+pub further_most : (old amount : ℕ) → amount ≤ 32767 → further old amount ≤ 49150
+further_most old amount few = omega arith
+
+pub further_none : (old : ℕ) → further old 0 ≡ 0
+further_none old = omega arith

@@ -3,12 +3,13 @@ use Rattle.std.specs.Prelude.{◌≡◌, ℕ, ◌+◌, ◌*◌, ◌/◌, ◌%◌
 use Rattle.s2_mode.specs.Shape.{code_bits}
 use Rattle.s2_rows.specs.Rows.{Rows}
 use Rattle.s2_matrix.specs.Total.{upto}
-use Rattle.s2_minsum.specs.Rows.{entry_at, is_lacking}
+use Rattle.s2_minsum.specs.Rows.{entry_at, is_lacking, changed}
 use Rattle.s2_minsum.specs.Layout.{entries_of, lacked_row}
-use Rattle.s2_settle.specs.Rests.{change, changed, gap, received}
-use Rattle.s2_settle.specs.Nodes.{min1_of, min2_of, least_at}
+use Rattle.s2_settle.specs.declared.course.Step.{Step}
+use Rattle.s2_settle.specs.Rests.{change, received}
+use Rattle.s2_settle.specs.Nodes.{least_at, amount_of}
 
--- the rest of each place, as a word of 32 bits that is 2^31 higher; of each check, layer by layer, the entry of its
+-- the rest of each place, as a word of 16 bits that is 2^15 higher; of each check, layer by layer, the entry of its
 -- target and its amount
 pub record Held : Type 0 where
   pub rests : List ℕ
@@ -37,21 +38,21 @@ layer_inputs rows r h c e =
 abbrev pub new_target : Rows → ℕ → Held → ℕ → ℕ
 new_target rows r h c = least_at (layer_inputs rows r h c) (length (entries_of rows r))
 
-abbrev pub new_amount : Rows → ℕ → ℕ → Held → ℕ → ℕ
-new_amount rows margin r h c =
-    gap margin (min1_of (layer_inputs rows r h c) (length (entries_of rows r))) (min2_of (layer_inputs rows r h c) (length (entries_of rows r)))
+abbrev pub new_amount : Rows → Step → ℕ → Held → ℕ → ℕ
+new_amount rows step r h c =
+    amount_of step (get_or (of_layer rows.shape.group r h.targets) c 0) (get_or (of_layer rows.shape.group r h.amounts) c 0) (layer_inputs rows r h c) (length (entries_of rows r))
 
 -- the change of the rest of its member at entry e
-abbrev pub change_in : Rows → ℕ → ℕ → Held → ℕ → ℕ → ℕ
-change_in rows margin r h e c =
-    if is_lacking (lacked_row rows.shape r) (entry_at (entries_of rows r) e) c then 0 else change (get_or h.targets (r * rows.shape.group + c) 0) (get_or h.amounts (r * rows.shape.group + c) 0) (new_target rows r h c) (new_amount rows margin r h c) e
+abbrev pub change_in : Rows → Step → ℕ → Held → ℕ → ℕ → ℕ
+change_in rows step r h e c =
+    if is_lacking (lacked_row rows.shape r) (entry_at (entries_of rows r) e) c then 0 else change (get_or h.targets (r * rows.shape.group + c) 0) (get_or h.amounts (r * rows.shape.group + c) 0) (new_target rows r h c) (new_amount rows step r h c) e
 
 -- each check of layer r takes its move back and moves anew, all by the rests before the layer
-abbrev pub layer : Rows → ℕ → Held → ℕ → Held
-layer rows margin h r = record {
-  rests = map (changed rows.shape.group (entries_of rows r) h.rests (change_in rows margin r h) (length (entries_of rows r))) (upto (length h.rests));
+abbrev pub layer : Rows → Step → Held → ℕ → Held
+layer rows step h r = record {
+  rests = map (changed rows.shape.group (entries_of rows r) h.rests (change_in rows step r h) (length (entries_of rows r))) (upto (length h.rests));
   targets = with_layer rows.shape.group r h.targets (new_target rows r h);
-  amounts = with_layer rows.shape.group r h.amounts (new_amount rows margin r h);
+  amounts = with_layer rows.shape.group r h.amounts (new_amount rows step r h);
 }
 
 -- the sizes of the lists

@@ -2,12 +2,11 @@ pub mod Plain
 pub mod Settled
 pub mod Rests
 pub mod Nodes
+pub mod Exchange
 pub mod Layer
 pub mod Passes
 pub mod Start
 pub mod Placing
-pub mod WorkList
-pub mod Serving
 pub mod Shows
 pub mod Holding
 pub mod Laws

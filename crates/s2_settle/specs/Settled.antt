@@ -55,7 +55,7 @@ view_in rows soft word (Some s) = if_strict rows (moved_view rows soft word (mov
 -- the state in which at most n passes end, if there is one
 abbrev pub ended : Rows → List ℤ → List Bool → ℕ → Option State
 ended rows soft word most =
-    passes (code_of rows) rows.shape.q most 0 (at_first (code_of rows)) (start soft word)
+    passes (code_of rows) rows.shape.q most 0 (at_first soft) (start soft word)
 
 -- the certificate that n passes find for a codeword
 unfoldable pub settled : Rows → List ℤ → List Bool → ℕ → Option View

@@ -1,32 +1,37 @@
-//! The course of settling: the margin, when there is a queue, and when settling is given up.
-ghost use Rattle.std.specs.Prelude.{◌≡◌, ◌≤◌, ◌-◌, nat_lt, if◌then◌else◌};
+//! The course of settling: the margin, how far amounts go, and when settling is given up.
+ghost use Rattle.std.specs.Prelude.{◌≡◌, ◌≤◌, ◌<◌, ◌||◌, All, nat_lt, length};
 ghost use Rattle.s2_mode.specs.Limits.{max_bits};
-ghost use Rattle.s2_matrix.specs.Code.{Code};
-ghost use Rattle.s2_settle.specs.Plain.{full_passes, fall, is_hopeless, is_time, at_first, after};
+ghost use Rattle.s2_check.specs.Views.{IsSoft};
+ghost use Rattle.s2_settle.specs.Plain.{is_hopeless, first_margin, at_first, after, step_at};
 
-use crate::limits::{
-    BITS_A_FEW, FALL_PART, FIRST_END, FIRST_MARGIN, FULL_PASSES, GROWTH_PART, LEAST_FALL, MAX_FALL,
-};
+use crate::limits::{BITS_A_FEW, FIRST_END, MAX_GROWTH, SETTLING_SCALE};
 
-/// The margin, and the numbers of bits that lacked before the last pass and before the last queue.
+/// The margin of the last pass, and the number of bits that lacked before it; 0 before the first pass.
 #[derive(Clone, Copy)]
 pub(crate) struct Course {
-    pub(crate) margin: u32,
+    pub(crate) margin: u16,
     pub(crate) before: usize,
-    pub(crate) tried: usize,
 }
 
-/// The fall of the margin, by the numbers of bits that lacked before, and that lack now.
-fn fall(before: usize, now: usize) -> u32
-    requires { before ≤ max_bits }
-    ensures { result ≡ fall before now }
+/// The margin of a pass, and whether its amounts go further (over-relaxation).
+#[derive(Clone, Copy)]
+pub(crate) struct Step {
+    pub(crate) margin: u16,
+    pub(crate) further: bool,
+}
+
+/// Two fifths of the mean magnitude of the scaled values.
+fn first_margin(soft: &[i16]) -> u16
+    requires range { All IsSoft soft.now }
+    requires some { 0 < length soft.now }
+    requires few { length soft.now ≤ max_bits }
+    ensures { result ≡ first_margin soft.now }
 {
-    let part = if now < before {
-        FALL_PART * (before - now) / before
-    } else {
-        0
-    };
-    part.max(LEAST_FALL).min(MAX_FALL) as u32
+    let mut sum = 0usize;
+    for i in 0..soft.len() {
+        sum += usize::from(soft[i].unsigned_abs());
+    }
+    (usize::from(SETTLING_SCALE) * (sum / soft.len()) * 2 / 5) as u16
 }
 
 /// Whether passes are of no more use.
@@ -34,52 +39,47 @@ pub(crate) fn is_hopeless(bits: usize, pass: u32, before: usize, now: usize) -> 
     requires { before ≤ max_bits }
     ensures { result ≡ is_hopeless bits pass before now }
 {
-    pass >= FIRST_END && now > bits / BITS_A_FEW && now >= before + before / GROWTH_PART
-}
-
-/// Whether it is time for a queue.
-pub(crate) fn is_time(bits: usize, tried: usize, now: usize) -> bool
-    requires { now ≤ max_bits }
-    ensures { result ≡ is_time bits tried now }
-{
-    now <= bits / BITS_A_FEW && 2 * now <= tried
+    pass >= FIRST_END && now > bits / BITS_A_FEW && now > before + MAX_GROWTH
 }
 
 impl Course {
-    /// The course before the first pass, for a code with this number of bits.
-    pub(crate) fn at_first(bits: usize) -> Course
-        ensures { (code : Code) → code.bits ≡ bits → result ≡ at_first code }
+    /// The course before the first pass, for these values.
+    pub(crate) fn at_first(soft: &[i16]) -> Course
+        requires range { All IsSoft soft.now }
+        requires some { 0 < length soft.now }
+        requires few { length soft.now ≤ max_bits }
+        ensures { result ≡ at_first soft.now }
     {
         Course {
-            margin: FIRST_MARGIN,
+            margin: first_margin(soft),
             before: 0,
-            tried: bits,
-        }
-    }
-
-    /// The margin from a pass on, by the number of bits that lack before it.
-    fn next_margin(self, pass: u32, now: usize) -> u32
-        requires { self.before ≤ max_bits }
-        ensures { result ≡ (if nat_lt pass full_passes then self.margin else self.margin - fall self.before now) }
-    {
-        if pass < FULL_PASSES {
-            self.margin
-        } else {
-            self.margin.saturating_sub(fall(self.before, now))
         }
     }
 
     /// The course from a pass on, by the number of bits that lack before it.
-    pub(crate) fn after(self, bits: usize, pass: u32, now: usize) -> Course
-        requires before { self.before ≤ max_bits }
-        requires now { now ≤ max_bits }
-        ensures { (code : Code) → code.bits ≡ bits → result ≡ after code self pass now }
+    pub(crate) fn after(self, now: usize) -> Course
+        requires { self.before ≤ max_bits }
+        ensures { result ≡ after self now }
     {
-        let is_time = is_time(bits, self.tried, now);
+        let margin = if self.before == 0 {
+            self.margin
+        } else {
+            (usize::from(self.margin) * 5 * now.min(self.before) / (6 * self.before)) as u16
+        };
         Course {
-            margin: self.next_margin(pass, now),
+            margin,
             before: now,
-            tried: if is_time { now } else { self.tried },
+        }
+    }
+
+    /// The step of a pass, by the number of bits that lack before it.
+    pub(crate) fn step(self, pass: u32, now: usize) -> Step
+        requires { self.before ≤ max_bits }
+        ensures { result ≡ step_at self pass now }
+    {
+        Step {
+            margin: self.after(now).margin,
+            further: pass < 2 || now < self.before,
         }
     }
 }

@@ -9,7 +9,6 @@ ghost use Rattle.s2_settle.specs.Holding.{view_by};
 use crate::find::find_moves;
 use crate::held::Held;
 use crate::limits::SETTLING_SCALE;
-use crate::work_list::WorkList;
 use s2_bits::Bits;
 use s2_check::{CertView, Move, examine};
 use s2_matrix::Matrix;
@@ -17,14 +16,12 @@ use s2_minsum::{Layers, scratch_len};
 use std::alloc::{AllocError, Global};
 use std::marker::Model;
 
-/// A maker of certificates by passes over all layers, and queues between them. To contracts it is the address rows,
-/// and the moves that it made last.
+/// A maker of certificates by passes over all layers. To contracts it is the address rows, and the moves that it made last.
 pub struct DualAscent<'a> {
     matrix: &'a Matrix,
     layers: Layers<'a>,
     held: Held,
-    scratch: Vec<u32>,
-    work_list: WorkList,
+    scratch: Vec<u16>,
     moves: Vec<Move>,
 }
 
@@ -35,7 +32,6 @@ impl<'a> Drop for DualAscent<'a> {
             layers: _,
             held: _,
             scratch: _,
-            work_list: _,
             moves: _,
         } = self;
     }
@@ -49,7 +45,7 @@ impl<'a> Model for DualAscent<'a> {
 
     ghost view = { λ s. record { rows = s.matrix.now; moves = s.moves.items } };
 
-    ghost invariant = { λ s. IsDualAscent s.matrix.now s.layers s.held s.work_list s.moves.items (length s.scratch.items) };
+    ghost invariant = { λ s. IsDualAscent s.matrix.now s.layers s.held s.moves.items (length s.scratch.items) };
 }
 
 impl<'a> DualAscent<'a> {
@@ -65,15 +61,13 @@ impl<'a> DualAscent<'a> {
             amount: 0,
         };
         let held = Held::of(alloc, matrix)?;
-        let scratch = vec![in alloc; 0u32; scratch_len(matrix)]?;
-        let work_list = WorkList::of(alloc, checks)?;
+        let scratch = vec![in alloc; 0u16; scratch_len(matrix)]?;
         let moves = vec![in alloc; none; checks]?;
         Ok(DualAscent {
             matrix,
             layers,
             held,
             scratch,
-            work_list,
             moves,
         })
     }
@@ -97,7 +91,6 @@ impl<'a> DualAscent<'a> {
             passes,
             &mut self.held,
             &mut self.scratch,
-            &mut self.work_list,
             &mut self.moves,
         ) {
             return false;

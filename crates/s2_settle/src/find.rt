@@ -9,9 +9,9 @@ ghost use Rattle.s2_settle.specs.Settled.{ended};
 ghost use Rattle.s2_settle.specs.Placing.{Finds};
 ghost use Rattle.s2_check.specs.Moves.{AreMoves};
 
+use crate::course::Course;
 use crate::held::Held;
 use crate::passes::run_passes;
-use crate::work_list::WorkList;
 use s2_check::Move;
 use s2_matrix::Matrix;
 use s2_minsum::Layers;
@@ -24,8 +24,7 @@ pub(crate) fn find_moves(
     word: &[bool],
     passes: u32,
     held: &mut Held,
-    scratch: &mut [u32],
-    work_list: &mut WorkList,
+    scratch: &mut [u16],
     moves: &mut [Move],
 ) -> bool
     requires layers { layers.now ≡ matrix.now }
@@ -35,15 +34,14 @@ pub(crate) fn find_moves(
     requires long { AreLong matrix.now held.old }
     requires room { HasRoom matrix.now (length scratch.old) }
     requires fit { AreFit matrix.now }
-    requires work_list { work_list.old.room ≡ (code_of matrix.now).checks }
     requires moves { AreMoves (code_of matrix.now) moves.old }
     ensures found { Finds matrix.now (ended matrix.now soft.now word.now passes) result moves.new }
     ensures moves { AreMoves (code_of matrix.now) moves.new }
     ensures long { AreLong matrix.now held.new }
-    ensures work_list { work_list.new.room ≡ (code_of matrix.now).checks }
 {
     held.start(matrix, soft, word);
-    if !run_passes(matrix, layers, passes, held, scratch, work_list) {
+    let first = Course::at_first(soft);
+    if !run_passes(matrix, layers, first, passes, held, scratch) {
         return false;
     }
     held.put_moves(matrix, layers, moves);

@@ -1,26 +1,21 @@
 //! What an ascent holds while it settles.
-ghost use Rattle.std.specs.Prelude.{◌≡◌, ◌*◌, ◌<◌, ◌≤◌, nat_lt, filter, All, IfOk, length};
+ghost use Rattle.std.specs.Prelude.{◌≡◌, ◌*◌, ◌<◌, ◌≤◌, All, IfOk, length};
+ghost use Rattle.s2_mode.specs.Limits.{max_bits};
 ghost use Rattle.s2_mode.specs.Shape.{code_bits};
 ghost use Rattle.s2_matrix.specs.Code.{code_of};
 ghost use Rattle.s2_check.specs.Views.{IsSoft};
 ghost use Rattle.s2_minsum.specs.Decoding.{HasRoom};
 ghost use Rattle.s2_settle.specs.Layer.{AreLong, layer as after_layer};
-ghost use Rattle.s2_matrix.specs.Total.{upto};
-ghost use Rattle.s2_settle.specs.Plain.{call_for};
-ghost use Rattle.s2_settle.specs.Rests.{least_rest, lacking};
-ghost use Rattle.s2_settle.specs.Serving.{rest_at, IsServed};
-ghost use Rattle.s2_settle.specs.WorkList.{work_list as work_list_of};
+ghost use Rattle.s2_settle.specs.Rests.{lacking};
 ghost use Rattle.s2_settle.specs.Start.{start as started};
 ghost use Rattle.s2_settle.specs.Placing.{moves_of};
 ghost use Rattle.s2_check.specs.Moves.{AreMoves};
 
-use crate::calling::call_lacking;
+use crate::course::Step;
 use crate::lacking::count_lacking;
 use crate::moves::put_moves;
 use crate::one_layer::run_layer;
-use crate::serving::serve;
 use crate::start::put_rests;
-use crate::work_list::WorkList;
 use s2_check::Move;
 use s2_matrix::Matrix;
 use s2_minsum::Layers;
@@ -30,9 +25,9 @@ use std::marker::Model;
 /// The rest of each place; and of each check, layer by layer, the entry of its target and its amount. To contracts it
 /// is these three lists.
 pub(crate) struct Held {
-    rests: Vec<u32>,
-    targets: Vec<u32>,
-    amounts: Vec<u32>,
+    rests: Vec<u16>,
+    targets: Vec<u16>,
+    amounts: Vec<u16>,
 }
 
 impl Drop for Held {
@@ -59,9 +54,9 @@ impl Held {
         ensures { IfOk result (λ h. AreLong matrix.now h) }
     {
         let places = matrix.shape().q() * matrix.shape().group();
-        let rests = vec![in alloc; 0u32; matrix.bits()]?;
-        let targets = vec![in alloc; 0u32; places]?;
-        let amounts = vec![in alloc; 0u32; places]?;
+        let rests = vec![in alloc; 0u16; matrix.bits()]?;
+        let targets = vec![in alloc; 0u16; places]?;
+        let amounts = vec![in alloc; 0u16; places]?;
         Ok(Held {
             rests,
             targets,
@@ -88,21 +83,21 @@ impl Held {
         &mut self,
         matrix: &Matrix,
         layers: &Layers<'_>,
-        margin: u32,
-        scratch: &mut [u32],
+        step: Step,
+        scratch: &mut [u16],
         r: usize,
     )
         requires layers { layers.now ≡ matrix.now }
         requires long { AreLong matrix.now self.old }
         requires room { HasRoom matrix.now (length scratch.old) }
         requires layer { r < matrix.now.shape.q }
-        ensures is { self.new ≡ after_layer matrix.now margin self.old r }
+        ensures is { self.new ≡ after_layer matrix.now step self.old r }
         ensures long { AreLong matrix.now self.new }
     {
         run_layer(
             matrix,
             layers,
-            margin,
+            step,
             &mut self.rests,
             &mut self.targets,
             &mut self.amounts,
@@ -113,47 +108,11 @@ impl Held {
 
     /// How many bits lack.
     pub(crate) fn lacking(&self) -> usize
+        requires { length self.now.rests ≤ max_bits }
         ensures is { result ≡ lacking self.now.rests }
         ensures few { result ≤ length self.now.rests }
     {
         count_lacking(&self.rests)
-    }
-
-    /// Calls the checks of the bits that lack.
-    pub(crate) fn call_lacking(&self, matrix: &Matrix, work_list: &mut WorkList)
-        requires long { AreLong matrix.now self.now }
-        requires room { work_list.old.room ≡ (code_of matrix.now).checks }
-        ensures { work_list.new ≡ work_list_of work_list.old.room (call_for (code_of matrix.now) work_list.old.checks (filter (λ i. nat_lt (rest_at matrix.now.shape self.now.rests i) least_rest) (upto (code_of matrix.now).bits))) }
-    {
-        call_lacking(matrix, &self.rests, work_list);
-    }
-
-    /// A check takes its move back and moves anew, with no margin. It calls the checks of its members whose rests
-    /// changed and that then lack.
-    pub(crate) fn serve(
-        &mut self,
-        matrix: &Matrix,
-        layers: &Layers<'_>,
-        check: usize,
-        work_list: &mut WorkList,
-    )
-        requires layers { layers.now ≡ matrix.now }
-        requires check { check < (code_of matrix.now).checks }
-        requires long { AreLong matrix.now self.old }
-        requires room { work_list.old.room ≡ (code_of matrix.now).checks }
-        ensures is { IsServed matrix.now check self.old self.new work_list.old.checks work_list.new.checks }
-        ensures long { AreLong matrix.now self.new }
-        ensures room { work_list.new.room ≡ work_list.old.room }
-    {
-        serve(
-            matrix,
-            layers,
-            check,
-            &mut self.rests,
-            &mut self.targets,
-            &mut self.amounts,
-            work_list,
-        );
     }
 
     /// Writes the moves check by check.

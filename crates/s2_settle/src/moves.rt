@@ -76,8 +76,8 @@ fn move_to(members: &[u32], bit: u32, amount: u32) -> Move
 pub(crate) fn put_moves(
     matrix: &Matrix,
     layers: &Layers<'_>,
-    targets: &[u32],
-    amounts: &[u32],
+    targets: &[u16],
+    amounts: &[u16],
     moves: &mut [Move],
 )
     requires layers { layers.now ≡ matrix.now }
@@ -93,9 +93,9 @@ pub(crate) fn put_moves(
     for check in 0..matrix.check_count() {
         let r = check % q;
         let lane = check / q;
-        let e = targets[r * n + lane] as usize;
+        let e = usize::from(targets[r * n + lane]);
         let bit = target_of(matrix, layers, r, lane, e);
-        let amount = amounts[r * n + lane].min(MAX_MOVED);
+        let amount = u32::from(amounts[r * n + lane]).min(MAX_MOVED);
         moves[check] = move_to(matrix.members_at(check), bit as u32, amount);
     }
 }

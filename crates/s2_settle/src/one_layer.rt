@@ -3,6 +3,7 @@ ghost use Rattle.std.specs.Prelude.{◌≡◌, ℕ, ◌≤◌, ◌<◌, ◌+◌,
 ghost use Rattle.s2_minsum.specs.Decoding.{HasRoom};
 ghost use Rattle.s2_settle.specs.Layer.{held, AreLong, layer as after_layer};
 
+use crate::course::Step;
 use crate::layer::run;
 use s2_matrix::Matrix;
 use s2_minsum::{Layers, last_row};
@@ -11,18 +12,18 @@ use s2_minsum::{Layers, last_row};
 pub(crate) fn run_layer(
     matrix: &Matrix,
     layers: &Layers<'_>,
-    margin: u32,
-    rests: &mut [u32],
-    targets: &mut [u32],
-    amounts: &mut [u32],
-    scratch: &mut [u32],
+    step: Step,
+    rests: &mut [u16],
+    targets: &mut [u16],
+    amounts: &mut [u16],
+    scratch: &mut [u16],
     r: usize,
 )
     requires layers { layers.now ≡ matrix.now }
     requires long { AreLong matrix.now (held rests.old targets.old amounts.old) }
     requires room { HasRoom matrix.now (length scratch.old) }
     requires layer { r < matrix.now.shape.q }
-    ensures { held rests.new targets.new amounts.new ≡ after_layer matrix.now margin (held rests.old targets.old amounts.old) r }
+    ensures { held rests.new targets.new amounts.new ≡ after_layer matrix.now step (held rests.old targets.old amounts.old) r }
 {
     let shape = matrix.shape();
     let n = shape.group();
@@ -33,7 +34,7 @@ pub(crate) fn run_layer(
         entries,
         n,
         last,
-        margin,
+        step,
         rests,
         &mut targets[at..at + n],
         &mut amounts[at..at + n],

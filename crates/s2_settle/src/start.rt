@@ -10,14 +10,14 @@ use s2_matrix::Matrix;
 use s2_minsum::{first_bit, step_of};
 
 /// The scaled soft value of a place, in favour of the word.
-fn started(soft: &[i16], word: &[bool], i: usize) -> u32
+fn started(soft: &[i16], word: &[bool], i: usize) -> u16
     requires range { All IsSoft soft.now }
     requires soft { i < length soft.now }
     requires word { i < length word.now }
     ensures { result ≡ started soft.now word.now i }
 {
     let value = soft[i];
-    let size = u32::from(SETTLING_SCALE) * u32::from(value.unsigned_abs());
+    let size = SETTLING_SCALE * value.unsigned_abs();
     let differs = if value < 0 { !word[i] } else { word[i] };
     if differs {
         ZERO_REST - size
@@ -27,7 +27,7 @@ fn started(soft: &[i16], word: &[bool], i: usize) -> u32
 }
 
 /// Writes the rests of bits `step` places apart.
-fn put_row(row: &mut [u32], soft: &[i16], word: &[bool], first: usize, step: usize)
+fn put_row(row: &mut [u16], soft: &[i16], word: &[bool], first: usize, step: usize)
     requires range { All IsSoft soft.now }
     requires few { length soft.now ≤ max_bits }
     requires word { length word.now ≡ length soft.now }
@@ -42,7 +42,7 @@ fn put_row(row: &mut [u32], soft: &[i16], word: &[bool], first: usize, step: usi
 }
 
 /// Writes the rests before any move.
-pub(crate) fn put_rests(matrix: &Matrix, soft: &[i16], word: &[bool], rests: &mut [u32])
+pub(crate) fn put_rests(matrix: &Matrix, soft: &[i16], word: &[bool], rests: &mut [u16])
     requires range { All IsSoft soft.now }
     requires long { length soft.now ≡ code_bits matrix.now.shape }
     requires word { length word.now ≡ code_bits matrix.now.shape }

@@ -1,9 +1,8 @@
 use Rattle.std.proofs.Common.{◌≡◌, suc, ◌+◌, ◌-◌, ◌*◌, ◌/◌, ◌%◌, ◌<◌, ◌≤◌, true, false, cond, eqb, length, get_or, take, drop, ap, sym, ◌∙◌, inl, inr, arith, eq-eqb, ne_eqb}
 use Rattle.std.proofs.lemmas.Bool.{cases_eq}
 use borrow.Rule.Slice.PartMut.{put_mid}
-use Rattle.s2_minsum.specs.Rows.{rotated_back, entry_at, cell}
-use Rattle.s2_bits.specs.Lanes32.{plus32}
-use Rattle.s2_settle.specs.Rests.{changed}
+use Rattle.s2_minsum.specs.Rows.{rotated_back, entry_at, cell, changed}
+use Rattle.s2_bits.specs.Lanes16.{plus16}
 use Rattle.s2_bits.proofs.RowParts.{length-part, part_at, length-put_row, put_row_same, put_row_other, row_room}
 use Rattle.s2_settle.proofs.layer.scatter_add_all.Goals as goal
 
@@ -22,7 +21,7 @@ loop-e-preserved c =
     let row = r * n in
     let v = row + n - row in
     let now = c.loop-e.rests in
-    let ys = c.add_back.new.to in
+    let ys = c.add_back.new.row in
     let inv = c.loop-e.invariant in
     let part = take v (drop row now) in
     let some = c.requires.entries.some in
@@ -33,7 +32,7 @@ loop-e-preserved c =
     let room' : at + n ≤ length changes = row_room n e count (length changes) lt c.requires.long in
     let room : row + n ≤ length now = omega arith in
     let plen = length-part row n v now width' room in
-    let ylen : length ys ≡ n = omega (arith, c.add_back.auto.to, plen) in
+    let ylen : length ys ≡ n = omega (arith, c.add_back.auto.row, plen) in
     let so_far = changed n entries old (cell changes n) in
     record {
       long = length-put_row n r v now ys width' room ylen ∙ inv.long;
@@ -43,7 +42,7 @@ loop-e-preserved c =
           let small : k < n = omega arith in
           let whole : q * n + k ≡ p = omega arith in
           let one : suc e ≡ e + 1 = omega arith in
-          let more = plus32 (so_far e p) (cell changes n e (rotated_back n shift k)) in
+          let more = plus16 (so_far e p) (cell changes n e (rotated_back n shift k)) in
           let step : so_far (e + 1) p ≡ cond (eqb r q) more (so_far e p) = ap (λ x. so_far x p) (sym one) in
           ap (λ x. get_or (put_mid row v now ys) x 0) (sym whole)
           ∙ elim (cases_eq q r) [
@@ -55,8 +54,8 @@ loop-e-preserved c =
                 let change = part_at 0 at n w (rotated_back n shift k) changes width turn in
                 ap (λ x. cell (put_mid row v now ys) n x k) same ∙ put_row_same n r v now ys width' room ylen k small
                 ∙ c.add_back.ensures k (omega arith)
-                ∙ ap (λ m. plus32 (get_or part k 0) (get_or (take w (drop at changes)) (rotated_back m shift k) 0)) plen
-                ∙ (λ i. plus32 (was i) (change i))
+                ∙ ap (λ m. plus16 (get_or part k 0) (get_or (take w (drop at changes)) (rotated_back m shift k) 0)) plen
+                ∙ (λ i. plus16 (was i) (change i))
                 ∙ sym (step ∙ ap (λ b. cond b more (so_far e p)) yes')
                 )
             | inr other ↦ (

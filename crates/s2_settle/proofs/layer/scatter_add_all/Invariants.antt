@@ -1,6 +1,5 @@
 use Rattle.std.proofs.Common.{◌≡◌, ℕ, ◌<◌, length, get_or}
-use Rattle.s2_minsum.specs.Rows.{cell}
-use Rattle.s2_settle.specs.Rests.{changed}
+use Rattle.s2_minsum.specs.Rows.{cell, changed}
 use Rattle.s2_settle.proofs.layer.scatter_add_all.Given as goal
 
 abbrev pub invariant-loop-e : goal.invariant-loop-e

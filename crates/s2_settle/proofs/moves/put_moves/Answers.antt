@@ -40,8 +40,8 @@ loop-check-preserved c =
     let amounts = c.args.amounts.now in
     let q = c.q-q.ensures.is ∙ ap (λ (x : Shape). x.q) c.shape-shape.ensures.is in
     let n = c.group-n.ensures.is ∙ ap (λ (x : Shape). x.group) c.shape-shape.ensures.is in
-    let bit : c.target_of-bit.result ≡ shown rows (j % s.q) (j / s.q) (get_or targets (place_of_check s j) 0) = c.target_of-bit.ensures.is ∙ (λ i. shown rows (j % q i) (j / q i) (get_or targets (j % q i * n i + j / q i) 0)) in
-    let amount : c.min-amount.result ≡ min (get_or amounts (place_of_check s j) 0) 1048576 = c.min-amount.ensures ∙ (λ i. min (get_or amounts (j % q i * n i + j / q i) 0) 1048576) in
+    let bit : c.target_of-bit.result ≡ shown rows (j % s.q) (j / s.q) (get_or targets (place_of_check s j) 0) = c.target_of-bit.ensures.is ∙ (λ i. shown rows (j % q i) (j / q i) c.from-e.result) ∙ ap (shown rows (j % s.q) (j / s.q)) (c.from-e.ensures ∙ (λ i. get_or targets (j % q i * n i + j / q i) 0)) in
+    let amount : c.min-amount.result ≡ min (get_or amounts (place_of_check s j) 0) 1048576 = c.min-amount.ensures ∙ ap (λ x. min x 1048576) (c.from.ensures ∙ (λ i. get_or amounts (j % q i * n i + j / q i) 0)) in
     let is : c.move_to.result ≡ move_of rows targets amounts j = c.move_to.ensures ∙ (λ i. move_to (c.members_at.ensures.are i) (bit i) (amount i)) in
     record {
       long = length-set c.loop-check.moves j c.move_to.result ∙ inv.long;

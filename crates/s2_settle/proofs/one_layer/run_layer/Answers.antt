@@ -32,7 +32,7 @@ run-requires-clause-room c =
     let g = c.group-n.ensures.is ∙ ap (λ (s : Shape). s.group) c.shape-shape.ensures.is in
     let es_is = c.entries-entries.ensures.are ∙ ap (λ (x : Rows). entries_of x c.args.r) c.requires.layers in
     let count = ap (λ (es : List Circulant). length es) es_is ∙ length-entries rows c.args.r in
-    let product : (length c.entries-entries.result.now + 3) * c.group-n.result ≡ (entry_count rows c.args.r + 3) * rows.shape.group = λ i. (count i + 3) * g i in
+    let product : length c.entries-entries.result.now * c.group-n.result ≡ entry_count rows c.args.r * rows.shape.group = λ i. count i * g i in
     omega (arith, product, c.requires.room c.args.r c.requires.layer)
 
 pub returns : goal.returns
@@ -58,7 +58,7 @@ returns c =
     let whole : suc r * n ≤ q * n = mul-le-mul_right n c.requires.layer in
     let t_in : length (take w (drop (r * n) targets)) ≡ n = length-take-le w (drop (r * n) targets) (omega (arith, length-drop (r * n) targets)) ∙ width in
     let a_in : length (take w (drop (r * n) amounts)) ≡ n = length-take-le w (drop (r * n) amounts) (omega (arith, length-drop (r * n) amounts)) ∙ width in
-    gives rows c.args.rests.now targets amounts c.run.new.rests c.run.new.targets c.run.new.amounts c.args.margin r n w c.last_row-last.result es (take w (drop (r * n) targets)) (take w (drop (r * n) amounts)) fit.shaped.group_some c.requires.long c.requires.layer
+    gives rows c.args.rests.now targets amounts c.run.new.rests c.run.new.targets c.run.new.amounts c.args.step r n w c.last_row-last.result es (take w (drop (r * n) targets)) (take w (drop (r * n) amounts)) fit.shaped.group_some c.requires.long c.requires.layer
     (sym g) width (sym last) (sym es_is) (sym t_part) (sym a_part)
     (record {
       rests_long = c.run.auto.rests;

@@ -6,5 +6,5 @@ use Rattle.s2_settle.proofs.passes.run_pass.Given as goal
 abbrev pub invariant-loop-r : goal.invariant-loop-r
 invariant-loop-r l = record {
   long : AreLong l.matrix l.held;
-  is : l.held ≡ fold (layer l.matrix l.margin) l.initial.held (upto l.r);
+  is : l.held ≡ fold (layer l.matrix l.step) l.initial.held (upto l.r);
 }

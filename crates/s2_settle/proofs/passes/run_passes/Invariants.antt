@@ -1,6 +1,6 @@
 use Rattle.std.proofs.Common.{◌≡◌, ◌+◌, ◌≤◌, ℕ}
 use Rattle.s2_matrix.specs.Code.{code_of}
-use Rattle.s2_settle.specs.Plain.{State, at_first, passes}
+use Rattle.s2_settle.specs.Plain.{State, passes}
 use Rattle.s2_settle.specs.Layer.{AreLong}
 use Rattle.s2_settle.specs.Shows.{IsShown}
 use Rattle.s2_settle.proofs.PlainPasses.{IsPassed}
@@ -9,8 +9,6 @@ use Rattle.s2_settle.proofs.passes.run_passes.Given as goal
 abbrev pub invariant-loop-pass : goal.invariant-loop-pass
 invariant-loop-pass l = record {
   long : AreLong l.matrix l.held;
-  work_list : l.work_list.room ≡ (code_of l.matrix).checks;
   before : l.course.before ≤ 64800;
-  margin : l.course.margin ≤ 256;
-  left : (k : ℕ) → k + l.pass ≡ l.passes → (s : State) → IsShown l.matrix l.initial.held s → IsPassed l.matrix k l.pass l.course l.held (passes (code_of l.matrix) l.matrix.shape.q l.passes 0 (at_first (code_of l.matrix)) s);
+  left : (k : ℕ) → k + l.pass ≡ l.passes → (s : State) → IsShown l.matrix l.initial.held s → IsPassed l.matrix k l.pass l.course l.held (passes (code_of l.matrix) l.matrix.shape.q l.passes 0 l.fn.first s);
 }

@@ -1,6 +1,5 @@
 use Rattle.std.proofs.Common.{subst, ap, ◌∙◌, arith}
 use Rattle.s2_minsum.specs.Decoding.{AreFit}
-use Rattle.s2_settle.specs.WorkList.{WorkList}
 use Rattle.s2_check.proofs.MoveLists.{none_are}
 use Rattle.s2_settle.proofs.dual_ascent.DualAscent.new.Goals as goal
 
@@ -13,7 +12,6 @@ invariant_of-result c =
       layers = layers;
       fit = subst AreFit layers c.in_ok-layers.ensures.fit;
       long = c.in_ok-held.ensures;
-      work_list = ap (λ (w : WorkList). w.room) c.in_ok-work_list.ensures ∙ c.check_count-checks.ensures.is;
       room = λ r lt. omega (arith, c.scratch_len.ensures.room r lt, c.in_ok-scratch.ensures.len);
       moves = none_are rows c.check_count-checks.result c.in_ok-moves.moves.items c.check_count-checks.ensures.is moves;
     }

@@ -1,7 +1,0 @@
-use Rattle.std.proofs.Common.{◌*◌, get_or}
-use Rattle.s2_settle.specs.Rests.{change}
-use Rattle.s2_bits.specs.Bits.{Rewritten}
-use Rattle.s2_settle.proofs.kernels.write_change_blocks.Given as goal
-
-abbrev pub invariant-loop-block : goal.invariant-loop-block
-invariant-loop-block l = Rewritten 0 (4 * l.block) (λ k. change (get_or l.old_targets k 0) (get_or l.old_amounts k 0) (get_or l.targets k 0) (get_or l.amounts k 0) l.e) l.fn.changes l.changes
