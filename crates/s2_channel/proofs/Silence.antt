@@ -10,11 +10,11 @@ use Rattle.s2_mode.specs.Symbols.{symbol_of, symbols_of, symbol_bytes}
 use Rattle.s2_channel.specs.Noise.{draw, level_gain, moved, add, noisy}
 use Rattle.s2_channel.specs.Laws.{silence, SilentLaw, SilentStreamLaw}
 
-no_gain : (d : ℕ) → level_gain 0 d ≡ pos 0
+no_gain : (d : ℤ) → level_gain 0 d ≡ pos 0
 unfolding level_gain
-no_gain d = ap (λ z. int_div z (pos 256)) (*ℤ-zero (pos d -ℤ pos 1020))
+no_gain d = ap (λ z. int_div z (pos 256)) (*ℤ-zero (d -ℤ pos 1020))
 
-unmoved : (x : ℤ) (d : ℕ) → FitsSigned w16 x → moved silence x d ≡ x
+unmoved : (x d : ℤ) → FitsSigned w16 x → moved silence x d ≡ x
 unfolding moved
 unmoved x d fits = let none = no_gain d in omega (arith, ints, clamps, none, fits)
 

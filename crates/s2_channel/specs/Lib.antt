@@ -1,3 +1,4 @@
+pub mod Table
 pub mod Gaussian
 pub mod Noise
 pub mod Laws

@@ -1,12 +1,16 @@
 //! Noise on one symbol.
-ghost use Rattle.std.specs.Prelude.{◌≡◌, ◌≤◌, ◌≤ℤ◌, ◌*◌, pos, negsuc};
+ghost use Rattle.std.specs.Prelude.{◌≡◌, ◌≤◌, ◌≤ℤ◌, ◌*◌, pos, negsuc, length};
+ghost use Rattle.std.specs.Int.{w32, to_le_bytes};
 ghost use Rattle.rand_core.specs.Pcg32Seed.{pcg32_seed};
 ghost use Rattle.rand_pcg.specs.Pcg.{pcg32_of_seed};
 ghost use Rattle.s2_channel.specs.Gaussian.{greatest_amplitude, nearest, gaussian_gain};
-ghost use Rattle.s2_channel.specs.Noise.{byte_sum, byte_sums, words, draw, level_gain, gain, moved, add};
+ghost use Rattle.s2_channel.specs.Noise.{draw, level_gain, gain, moved, add, drawn_for, noisy};
+ghost use Rattle.s2_channel.specs.Table.{entry, total};
+ghost use Rattle.s2_mode.specs.Symbols.{bytes_of_symbols};
 ghost use Rattle.s2_channel.specs.declared.strength.Strength.TheVariants as by;
 
 use crate::strength::Strength;
+use crate::table::entry;
 use rand_core::SeedableRng;
 use rand_core::utils::NextWord;
 use rand_pcg::Pcg32;
@@ -14,9 +18,6 @@ use s2_mode::Symbol;
 
 /// The mean of the sum of eight bytes.
 const MEAN_OF_EIGHT: i32 = 1020;
-
-/// The mean of the sum of 64 bytes.
-const MEAN_OF_64: u16 = 8160;
 
 /// Noise of one strength. To contracts it is the strength, and the state of the generator of random words.
 #[derive(Drop)]
@@ -26,80 +27,83 @@ pub struct Noise {
 }
 
 /// The sum of the four bytes of a word.
-fn byte_sum(word: u32) -> u16
-    ensures sum { result ≡ byte_sum word }
-    ensures most { result ≤ 1020 }
+fn byte_sum(word: u32) -> i32
+    ensures sum { result ≡ total pos (to_le_bytes w32 word) }
+    ensures least { pos 0 ≤ℤ result }
+    ensures most { result ≤ℤ pos 1020 }
 {
     let [a, b, c, d] = word.to_le_bytes();
-    u16::from(a) + u16::from(b) + u16::from(c) + u16::from(d)
+    i32::from(a) + i32::from(b) + i32::from(c) + i32::from(d)
 }
 
-/// The sum of the bytes of the next words of the generator, `words` in number.
-#[tactic(auto, unfolding(crate::specs::Noise::byte_sums))]
-fn byte_sums(words: u16, generator: &mut Pcg32) -> u16
-    requires { words ≤ 16 }
-    ensures drawn { (result, generator.new) ≡ byte_sums words generator.old }
-    ensures most { result ≤ 1020 * words }
+/// The sum of the entries of the four bytes of a word.
+fn entry_sum(word: u32) -> i32
+    ensures sum { result ≡ total entry (to_le_bytes w32 word) }
+    ensures least { negsuc 12759 ≤ℤ result }
+    ensures most { result ≤ℤ pos 12760 }
 {
-    let mut total = 0;
-    'add: for _word in 0..words {
-        total += byte_sum(generator.next_word());
-    }
-    total
+    let [a, b, c, d] = word.to_le_bytes();
+    (entry(a) + entry(b)) + (entry(c) + entry(d))
 }
 
-/// The sum of the bytes that the noise of a component is made of.
-fn draw(strength: Strength, generator: &mut Pcg32) -> u16
+/// The sum that the noise of a component is made of.
+#[tactic(auto, unfolding(crate::specs::Noise::draw))]
+fn draw(strength: Strength, generator: &mut Pcg32) -> i32
     ensures drawn { (result, generator.new) ≡ draw strength generator.old }
-    ensures most { result ≤ 1020 * words strength }
+    ensures least { negsuc 25519 ≤ℤ result }
+    ensures most { result ≤ℤ pos 25520 }
 {
+    let first = generator.next_word();
+    let second = generator.next_word();
     match strength {
-        Strength::Level(_) => byte_sums(2, generator),
-        Strength::EsN0(_) => byte_sums(16, generator),
+        Strength::Level(_) => byte_sum(first) + byte_sum(second),
+        Strength::EsN0(_) => entry_sum(first) + entry_sum(second),
     }
 }
 
 /// What a component gains by a sum of eight bytes.
 #[tactic(auto, unfolding(crate::specs::Noise::level_gain))]
-fn level_gain(noise_level: u16, sum: u16) -> i32
-    requires { sum ≤ 2040 }
+fn level_gain(noise_level: u16, sum: i32) -> i32
+    requires least { negsuc 25519 ≤ℤ sum }
+    requires most { sum ≤ℤ pos 25520 }
     ensures value { result ≡ level_gain noise_level sum }
-    ensures least { negsuc 299999 ≤ℤ result }
-    ensures most { result ≤ℤ pos 300000 }
+    ensures least { negsuc 8388607 ≤ℤ result }
+    ensures most { result ≤ℤ pos 8388608 }
 {
-    (i32::from(sum) - MEAN_OF_EIGHT) * i32::from(noise_level) / 256
+    (sum - MEAN_OF_EIGHT) * i32::from(noise_level) / 256
 }
 
-/// The product of a difference of sums and an amplitude, to the nearest whole number.
-fn scaled(amplitude: u32, difference: u16) -> i32
+/// The product of the size of a sum and an amplitude, to the nearest whole number.
+fn scaled(amplitude: u32, size: u32) -> i32
     requires amplitude { amplitude ≤ greatest_amplitude }
-    requires difference { difference ≤ 8160 }
-    ensures value { result ≡ pos (nearest (difference * amplitude)) }
+    requires size { size ≤ 25520 }
+    ensures value { result ≡ pos (nearest (size * amplitude)) }
     ensures most { result ≤ℤ pos 300000 }
 {
-    ((u64::from(difference) * u64::from(amplitude) + (1 << 29)) >> 30) as i32
+    ((u64::from(size) * u64::from(amplitude) + (1 << 29)) >> 30) as i32
 }
 
-/// What a component gains by a sum of 64 bytes.
+/// What a component gains by a sum of eight entries.
 #[tactic(auto, unfolding(crate::specs::Gaussian::gaussian_gain))]
-fn gaussian_gain(amplitude: u32, sum: u16) -> i32
+fn gaussian_gain(amplitude: u32, sum: i32) -> i32
     requires amplitude { amplitude ≤ greatest_amplitude }
-    requires sum { sum ≤ 16320 }
+    requires least { negsuc 25519 ≤ℤ sum }
+    requires most { sum ≤ℤ pos 25520 }
     ensures value { result ≡ gaussian_gain amplitude sum }
-    ensures least { negsuc 299999 ≤ℤ result }
-    ensures most { result ≤ℤ pos 300000 }
+    ensures least { negsuc 8388607 ≤ℤ result }
+    ensures most { result ≤ℤ pos 8388608 }
 {
-    let more = scaled(amplitude, sum.saturating_sub(MEAN_OF_64));
-    let less = scaled(amplitude, MEAN_OF_64.saturating_sub(sum));
-    more - less
+    let size = scaled(amplitude, sum.unsigned_abs());
+    if sum < 0 { -size } else { size }
 }
 
 /// What a component gains by the sum that was drawn.
-fn gain(strength: Strength, sum: u16) -> i32
-    requires { sum ≤ 1020 * words strength }
+fn gain(strength: Strength, sum: i32) -> i32
+    requires least { negsuc 25519 ≤ℤ sum }
+    requires most { sum ≤ℤ pos 25520 }
     ensures value { result ≡ gain strength sum }
-    ensures least { negsuc 299999 ≤ℤ result }
-    ensures most { result ≤ℤ pos 300000 }
+    ensures least { negsuc 8388607 ≤ℤ result }
+    ensures most { result ≤ℤ pos 8388608 }
 {
     match strength {
         Strength::Level(noise_level) => level_gain(noise_level, sum),
@@ -109,8 +113,9 @@ fn gain(strength: Strength, sum: u16) -> i32
 
 /// A component with its gain, or the nearest number of 16 bits.
 #[tactic(auto, unfolding(crate::specs::Noise::moved))]
-fn moved(strength: Strength, component: i16, sum: u16) -> i16
-    requires { sum ≤ 1020 * words strength }
+fn moved(strength: Strength, component: i16, sum: i32) -> i16
+    requires least { negsuc 25519 ≤ℤ sum }
+    requires most { sum ≤ℤ pos 25520 }
     ensures { result ≡ moved strength component sum }
 {
     let moved = i32::from(component) + gain(strength, sum);
@@ -150,6 +155,17 @@ impl Noise {
         Symbol {
             i: moved(self.strength, symbol.i, i),
             q: moved(self.strength, symbol.q, q),
+        }
+    }
+
+    /// Symbols with the noise that is drawn next, for one after another.
+    pub fn add_to(&mut self, symbols: &mut [Symbol])
+        ensures symbols { bytes_of_symbols symbols.new ≡ noisy self.old.strength self.old.generator symbols.old }
+        ensures drawn { self.new.generator ≡ drawn_for self.old.strength (length symbols.old) self.old.generator }
+        ensures strength { self.new.strength ≡ self.old.strength }
+    {
+        'add: for i in 0..symbols.len() {
+            symbols[i] = self.add(symbols[i]);
         }
     }
 }

@@ -10,8 +10,8 @@ pub const LEAST_ESN0: i32 = -1000;
 /// The highest Es/N0, in hundredths of a dB.
 pub const MAX_ESN0: i32 = 4000;
 
-/// The amplitude at the lowest Es/N0: 700 · 10^(1/2) / 349520^(1/2), times 2^30.
-const GREATEST_AMPLITUDE: u32 = 4_020_331_772;
+/// The amplitude at the lowest Es/N0: 700 · 10^(1/2) / 8364491.25^(1/2), times 2^30.
+const GREATEST_AMPLITUDE: u32 = 821_822_722;
 
 /// 10^(-1/2000), times 2^30.
 const HUNDREDTH: u64 = 1_072_506_344;
@@ -79,7 +79,7 @@ impl EsN0 {
         })
     }
 
-    /// The factor of the sum of 64 bytes, times 2^30.
+    /// The factor of the sum of eight entries, times 2^30.
     pub(crate) fn amplitude(self) -> u32
         ensures value { result ≡ amplitude_at self }
         ensures most { result ≤ greatest_amplitude }
@@ -93,6 +93,6 @@ impl EsN0 {
 pub enum Strength {
     /// Made of eight bytes for each component, of a standard deviation of 209.0 / 256 for each unit of this level.
     Level(u16),
-    /// Nearly Gaussian, up to 13.8 standard deviations: made of 64 bytes for each component.
+    /// Nearly Gaussian, up to 8.8 standard deviations: made of eight entries of the table for each component.
     EsN0(EsN0),
 }
