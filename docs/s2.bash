@@ -31,7 +31,7 @@ _s2() {
   if [[ $now == -* || ${COMP_WORDS[1]} == help ]]; then
     COMPREPLY=($(compgen -W "$words" -- "$now"))
   else
-    COMPREPLY=($(compgen -f -- "$now"))
+    compopt -o default
   fi
 }
-complete -o filenames -F _s2 s2 ./s2
+complete -F _s2 s2 ./s2

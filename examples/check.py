@@ -128,7 +128,7 @@ def read_body(file, version, shape, entries, is_last):
     bits = [byte >> place & 1 for byte in next_bytes(file, (n + 7) // 8) for place in range(7, -1, -1)]
     split = [*struct.iter_unpack(entry, next_bytes(file, entries * struct.calcsize(entry)))]
     if is_last and file.read(1):
-        raise Refused("certificate: extra")
+        raise Refused("certificate: extra: several certificates need --each")
     moves = [move for move in split if move[1:]]
     are_moves = are_in("amount", *(amount for _, amount in moves)) and all(amount or not place for place, amount in moves)
     if not (are_in("soft value", *soft) and are_in("padding bit", *bits[n:]) and are_moves):

@@ -36,8 +36,8 @@
 extern "C" {
 #endif
 
-/* The version of this header. s2_version() is that of the library: it must not be less. */
-#define S2_VERSION 1
+/* The version of this header. s2_version() is that of the library: it must not be less. Version 2: s2_figures is longer. */
+#define S2_VERSION 2
 uint32_t s2_version(void);
 
 enum s2_result {
@@ -167,12 +167,13 @@ enum s2_outcome {
     S2_BAD_LENGTHS = 4   /* no frame of the mode has such a data field */
 };
 
-/* The figures of a frame, or of all so far. Distances are squared, in the units of symbols. */
+/* The figures of a frame, or of all so far. Distances are squared, in the units of symbols. With `equalize` the symbols are
+ * those after the equalizer. The last four numbers are what it took out of a frame, 0 without it and in sums. */
 typedef struct s2_figures {
     uint32_t size;
     uint32_t header;         /* wrong bits of the 90 of the PLHEADER */
     uint32_t rounds;         /* rounds of min-sum */
-    uint32_t reserved;
+    uint32_t equalized;      /* 1: the last four numbers are there */
     uint64_t changed;        /* bits that differ from the hard decision */
     uint64_t changed_of;     /* of so many */
     uint64_t known;          /* squared distances of header and pilots */
@@ -185,6 +186,10 @@ typedef struct s2_figures {
     uint64_t payload_power;
     int64_t payload_along;
     int64_t payload_across;
+    int64_t gain_along;      /* the complex gain of the channel at the header, in 1/1024: real part */
+    int64_t gain_across;     /* imaginary part */
+    int64_t rotation_along;  /* the carrier's rotation from a block of known symbols to the next, of size 32768: real part */
+    int64_t rotation_across;
 } s2_figures;
 
 typedef struct s2_step {

@@ -3,11 +3,13 @@
 A received symbol is r = g s + w: s is the sent symbol, g the complex gain of the frame, w noise. The figures of N symbols are the squared error
 E = sum |r - s|^2, the power P = sum |r|^2, and along + i across = sum r conj(s). So the energy of the sent symbols is S = E - P + 2 along. The best
 gain is (along + i across) / S, and the noise energy that it leaves is P - |along + i across|^2 / S. It has N - 1 degrees of freedom, and as much
-noise as one of them has is left in the energy of the signal."""
+noise as one of them has is left in the energy of the signal. After an equalizer g is what the equalizer left."""
 import cmath
 import collections
 import math
 
+# the symbols of a header and of a block of pilots, those from the begin of one block to that of the next, and the number that is a gain of 1
+HEADER, PILOTS, PERIOD, ONE = 90, 36, 1476, 1024
 # the energy of a symbol; standard deviations of a 95 % interval; decibels of a ratio of e
 ENERGY, DEVIATIONS, DECIBELS = 980000, 1.959964, 10 / math.log(10)
 Correlation = collections.namedtuple("Correlation", "error power along across")
@@ -68,10 +70,22 @@ def unit(turn):
 
 
 class Frame:
-    """The estimates of a frame, by its known symbols, and by its payload if its word was decoded."""
+    """The estimates of a frame, by its known symbols, and by its payload if its word was decoded. It was rotated back by a number of quarter turns,
+    and perhaps divided by a gain. If the carrier rotates, the equalizer makes the symbols between pilot blocks smaller. So with pilots the gain is that of
+    the known symbols."""
 
-    def __init__(self, known, payload):
+    def __init__(self, known, payload, quarters, gain=None, rotation=None):
         parts = [known, payload] if payload else [known]
         self.known, self.payload = Fit.of(known), Fit.of(payload) if payload else Fit()
         self.all = self.known.plus(self.payload)
-        self.turn = unit(complex(sum(it.along for it in parts), sum(it.across for it in parts)))
+        blocks = max(0, self.known.symbols - HEADER) / PILOTS if gain is not None else 0
+        self.level, parts = (self.known, [known]) if blocks else (self.all, parts)
+        left = unit(complex(sum(it.along for it in parts), sum(it.across for it in parts)))
+        # the mean distance of the middles of two blocks: the first two are those of the header and of a block
+        self.distance = PERIOD + (HEADER - PILOTS) / 2 / blocks if blocks else 0
+        self.rotation, self.left = (unit(rotation) if blocks else 0), (left if gain is None else 0)
+        gain = 1 if gain is None else gain / ONE
+        self.turn, self.strength = unit(left * gain) * 1j ** (quarters % 4), abs(gain)
+
+    def amplitude(self):
+        return self.strength * self.level.amplitude()

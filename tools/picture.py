@@ -1,4 +1,5 @@
-"""Draws plots as SVG or PNG, with Python's standard library alone.
+"""Draws plots as SVG or PNG, with Python's standard library alone. A PNG has the letters of matplotlib if that is installed. Else rsvg-convert makes it of
+the SVG, and without that its letters are dots.
 
     panel = picture.Panel("QPSK 3/4", picture.Axis("position in millions of symbols"), picture.Axis("Es/N0 in dB"))
     panel.line("mean", [(x, y), ..], colour=0)                       a line; also dashes=picture.DOTTED, marker="circle"
@@ -6,7 +7,7 @@
     panel.band("least, mean, greatest", [(x, least, mean, greatest), ..], colour=2)
     panel.rule("ideal", x, colour=0)                                 a vertical dashed line; name="1/4" is written above it
     panel.text(x, y, "text", colour=0)
-    picture.write("link.svg", [panel, ..], "the picture's title", columns=2)
+    picture.write("link.svg", [panel, ..], "the picture's title", columns=2, note="below the title")
 
 The name's suffix decides: .svg or .png. An SVG follows the reader's light or dark colours; a PNG is light, or dark with dark=True.
 Each label has one entry in the legend of its panel, also without values. Without a label there is no entry. A value of None leaves a hole
@@ -16,10 +17,14 @@ beyond an end is drawn at that end. Svg and Png draw single shapes, for pictures
 
 A script that runs with `python3 -I` adds the folder of this file to sys.path first."""
 import collections
+import functools
 import html
 import itertools
+import logging
 import math
+import shutil
 import struct
+import subprocess
 import zlib
 
 # What something is -> its colour on light and on dark paper.
@@ -52,7 +57,7 @@ MARKERS = {
     "down": [(0, 1.2), (1.1, -0.8), (-1.1, -0.8)],
     "bar": [(-0.35, -1.3), (0.35, -1.3), (0.35, 1.3), (-0.35, 1.3)],
 }
-# Letters of 5 by 7 dots for PNG, from the space to ~: five columns each, whose lowest bit is the upper dot.
+# Letters of 5 by 7 dots for a PNG, from the space to ~: five columns each, whose lowest bit is the upper dot.
 LETTERS = bytes.fromhex(
     "000000000000005f00000007000700147f147f14242a7f2a12231308646236495620500008070300001c2241000041221c002a1c7f1c2a08083e0808"
     "008070300008080808080000606000201008040 23e5149453e00427f400072494949462141494d331814127f1027454545393c4a49493141211109"
@@ -64,6 +69,8 @@ LETTERS = bytes.fromhex(
     "04043f44243c4040207c1c2040201c3c4030403c44281028444c9090907c4464544c4400083641000000770000004136080002010204 02".replace(" ", "")
 )
 MARGIN, SIZE, LETTER = 14, 12, 0.58
+# The size of a picture's title, and the most that its letters have on average.
+TITLE, WIDE = 15, 0.7
 
 
 def letters_of(text):
@@ -72,6 +79,25 @@ def letters_of(text):
         at = 5 * (ord(character) - 32)
         yield from LETTERS[at : at + 5] if 0 <= at < len(LETTERS) else LETTERS[155:160]
         yield 0
+
+
+@functools.cache
+def fonts():
+    """What makes the outlines of a text, and of a font; None without a matplotlib that works."""
+    logging.getLogger("matplotlib").setLevel(logging.CRITICAL)
+    try:
+        from matplotlib.font_manager import FontProperties
+        from matplotlib.textpath import TextPath
+    except Exception:
+        return None
+    return TextPath, FontProperties
+
+
+def outlines_of(text, size, bold):
+    """The outlines of a text whose base line begins at (0, 0). A dollar sign would begin a formula."""
+    outlined, font = fonts()
+    path = outlined((0, 0), text.replace("$", r"\$"), size=size, prop=font(family="DejaVu Sans", weight="bold" if bold else "normal"))
+    return [[(x, -y) for x, y in it] for it in path.to_polygons()]
 
 
 def near(value):
@@ -163,9 +189,14 @@ class Png:
 
     def shape(self, corners, colour, opacity=1):
         """A filled polygon."""
-        corners = [(self.SCALE * x, self.SCALE * y) for x, y in corners]
-        edges = list(zip(corners, corners[1:] + corners[:1]))
-        top, below = math.floor(min(y for _, y in corners)), math.ceil(max(y for _, y in corners))
+        self.fill([corners], colour, opacity)
+
+    def fill(self, outlines, colour, opacity=1):
+        """Fills the places that are inside of an odd number of outlines."""
+        outlines = [[(self.SCALE * x, self.SCALE * y) for x, y in it] for it in outlines]
+        edges = [edge for it in outlines for edge in zip(it, it[1:] + it[:1])]
+        heights = [y for it in outlines for _, y in it]
+        top, below = math.floor(min(heights)), math.ceil(max(heights))
         for row in range(max(0, top), min(self.height, below)):
             self.blend(row, self.covered(edges, row), self.tone(colour), opacity)
 
@@ -195,6 +226,13 @@ class Png:
                 self.path(corners, colour, 1.3, closed=True)
 
     def text(self, place, text, colour="ink", size=SIZE, anchor="start", bold=False):
+        if not fonts():
+            self.dots(place, text, colour, size, anchor, bold)
+        elif outlines := outlines_of(text, size, bold):
+            left = place[0] - {"start": 0, "middle": 0.5, "end": 1}[anchor] * max(x for it in outlines for x, _ in it)
+            self.fill([[(left + x, place[1] + y) for x, y in it] for it in outlines], colour)
+
+    def dots(self, place, text, colour, size, anchor, bold):
         dot = 1 if size < 20 else 2
         columns = list(letters_of(text))
         left = self.SCALE * place[0] / dot - {"start": 0, "middle": 1, "end": 2}[anchor] * len(columns) * self.SCALE / 2
@@ -387,16 +425,30 @@ def laid_out(panels, columns):
     return places, max((x + it.size()[0] for it, x, _ in places), default=0), sum(heights) + MARGIN * max(0, len(rows) - 1)
 
 
-def write(path, panels, title, columns=1, dark=False):
-    """Draws panels, in this number of columns, to a file whose name ends with .svg or .png."""
+def converted(drawing):
+    """A light PNG of an SVG, two points for each unit, or nothing without an rsvg-convert that works."""
+    program = shutil.which("rsvg-convert")
+    made = subprocess.run([program, "--zoom=2"], input=drawing, capture_output=True, check=False).stdout if program else b""
+    return made if made.startswith(b"\x89PNG") else b""
+
+
+def write(path, panels, title, columns=1, dark=False, note=""):
+    """Draws panels, in this number of columns, to a file whose name ends with .svg or .png. A note is written below the title."""
     kind = {".svg": Svg, ".png": Png}.get(path[-4:].lower())
     if not kind:
         raise ValueError(f"{path}: a picture's name ends with .svg or .png")
     places, width, height = laid_out(panels, columns)
-    size = width + 2 * MARGIN, height + 2 * MARGIN + 22
-    canvas = Svg(*size, title) if kind is Svg else Png(*size, title, dark)
-    canvas.text((MARGIN, MARGIN + 10), title, size=15, bold=True)
-    for panel, x, y in places:
-        panel.draw(canvas, x + MARGIN, y + MARGIN + 22)
+    above = MARGIN + 22 + 20 * bool(note)
+    size = max(width, WIDE * TITLE * len(title), WIDE * SIZE * len(note)) + 2 * MARGIN, height + MARGIN + above
+
+    def drawn(canvas):
+        canvas.text((MARGIN, MARGIN + 10), title, size=TITLE, bold=True)
+        if note:
+            canvas.text((MARGIN, MARGIN + 30), note, "faint")
+        for panel, x, y in places:
+            panel.draw(canvas, x + MARGIN, y + above)
+        return canvas.written()
+
+    made = converted(drawn(Svg(*size, title))) if kind is Png and not dark and not fonts() else b""
     with open(path, "wb") as file:
-        file.write(canvas.written())
+        file.write(made or drawn(Svg(*size, title) if kind is Svg else Png(*size, title, dark)))

@@ -19,8 +19,9 @@ import tempfile
 import time
 from concurrent.futures import ThreadPoolExecutor
 
-TOP = os.path.dirname(os.path.dirname(os.path.realpath(__file__)))
-STANDARD, REMOVING = ("-", "/dev/stdout"), 'cat; for it; do mv "$it" "$it.old" && rm -rf "$it.old"; done 2>/dev/null'
+from program import TOP, Fault, add_option, program_of
+
+STANDARD, REMOVING = ("-", "/dev/stdout"), 'PATH=$PATH:/usr/bin:/bin; cat; for it; do mv "$it" "$it.old" && rm -rf "$it.old"; done 2>/dev/null'
 # Bytes of a symbol; symbols of the longest PLFRAME, and those that a piece reads after its end at most.
 SYMBOL, FRAME, OVER = 4, 33282, 33282 + 90
 # Pieces for each process, and of the rest near the end. Frames of a piece at least and at most; with --hosts and --slurm frames at least, pieces at most.
@@ -34,7 +35,6 @@ LIBC, PR_SET_PDEATHSIG, FALLOC_FL_PUNCH_HOLE = ctypes.CDLL(None), 1, 3
 BOTH = {
     "--jobs": {"type": int, "metavar": "N", "help": "processes at a time: here (default: one for each core), on each host, or of the array job"},
     "--frames": {"type": int, "metavar": "F", "help": "frames of a piece or a group, if they have the greatest length"},
-    "--s2": {"metavar": "PROGRAM", "help": "the program s2 (default: that of this folder)"},
 }
 PIECES = {
     "--hosts": {"metavar": "FILE", "help": "decode by GNU parallel on the hosts of this file, one per line; `:` is this machine"},
@@ -44,10 +44,6 @@ PIECES = {
     "--task": {"type": int, "help": argparse.SUPPRESS},
 }
 LIVE = {"--seconds": {"type": float, "default": 1.0, "metavar": "T", "help": "a group ends after this time at the latest (default: 1)"}}
-
-
-class Fault(Exception):
-    """Why the work cannot go on, in one line."""
 
 
 class Output(str):
@@ -60,15 +56,35 @@ class Output(str):
         return f"{folder}/.{name}{PART}" if is_file else str(self)
 
 
-def program_of(chosen):
-    """The program: the one that is named, otherwise that of this folder: an archive has it itself, else it is built if possible. Of two, that of `s2`."""
-    front, built = os.path.join(TOP, "s2"), os.path.join(TOP, "crates/s2_tool/out/s2_tool")
-    if chosen or not os.path.exists(os.path.join(TOP, "crates.txt")):
-        return os.path.abspath(chosen or front)
-    if (shutil.which("rt") or not os.path.exists(built)) and subprocess.run([front, "--build"], check=False).returncode:
-        sys.exit(1)
-    fitting = f"{built}.{subprocess.run([front, '--version'], capture_output=True, text=True, check=False).stdout.split()[-1]}"
-    return fitting if os.path.exists(fitting) else built
+def help_of(program):
+    """The help on demod's options: the program prints it, and without a program, the man page of this folder has it."""
+    if program:
+        return subprocess.run([program, "demod", "--help"], stdout=subprocess.PIPE, text=True, check=False).stdout
+    page = pathlib.Path(TOP, "docs/s2.1").read_text(encoding="utf-8").replace("\\-", "-")
+    return page.partition(".SS demod\n")[2].partition(".SS ")[0]
+
+
+def parted(given, printed):
+    """The options of demod in a command line, in which an output is an Output, and the files. `printed` is the help of demod."""
+    values, words, files, given = dict(re.findall(r"(--[a-z0-9-]+) <([^>]+)>", printed)), [], [], iter(given)
+    for word in given:
+        option, equals, value = word.partition("=")
+        if word in ("-", "--") or not word.startswith("-"):
+            files += given if word == "--" else [word]
+        elif values.get(option) == "FILE":
+            words += [option, *map(Output, [value] if equals else itertools.islice(given, 1))]
+        else:
+            words += [word, *itertools.islice(given, int(word in values))]
+    return words, files
+
+
+def refuse(words, chosen, files, options):
+    """Refuses an option that demod does not have, and another number of files."""
+    for it in chosen.words:
+        if it.startswith("-") and it.partition("=")[0] not in options:
+            words.error(f"{it} is not an option of demod")
+    if len(chosen.files) != files:
+        words.error(f"{len(chosen.files)} files are named, not {files}")
 
 
 def line_of(name, text, files, options):
@@ -78,20 +94,23 @@ def line_of(name, text, files, options):
     words.error = lambda message: words.exit(1, f"{name}: {message}; see tools/{name} --help\n")
     for option, how in (BOTH | options).items():
         words.add_argument(option, **how)
+    add_option(words)
     chosen, rest = words.parse_known_args()
     if any(it is not None and it <= 0 for it in (chosen.jobs, chosen.frames, getattr(chosen, "seconds", None))):
         words.error("numbers are above 0")
-    chosen.s2, chosen.words, chosen.files = program_of(chosen.s2), [], []
-    printed = subprocess.run([chosen.s2, "demod", "--help"], stdout=subprocess.PIPE, text=True, check=False).stdout
-    values, chosen.given, rest = dict(re.findall(r"(--[a-z0-9-]+) <([^>]+)>", printed)), rest, iter(rest)
-    for word in rest:
-        option, equals, value = word.partition("=")
-        if word in ("-", "--") or not word.startswith("-"):
-            chosen.files += rest if word == "--" else [word]
-        elif values.get(option) == "FILE":
-            chosen.words += [option, *map(Output, [value] if equals else itertools.islice(rest, 1))]
-        else:
-            chosen.words += [word, *itertools.islice(rest, int(word in values))]
+    chosen.given, missing = rest, None
+    try:
+        chosen.s2 = program_of(chosen.s2)
+    except Fault as fault:
+        chosen.s2, missing = None, fault
+    printed = help_of(chosen.s2)
+    chosen.words, chosen.files = parted(rest, printed)
+    if missing:
+        # these faults come first, and an input that cannot be read
+        refuse(words, chosen, files, re.findall(r"--[a-z0-9-]+", printed))
+        for it in chosen.files[: max(1, files - 1)]:
+            it in STANDARD or open(it, "rb").close()
+        raise missing
     if len(chosen.files) != files:
         os.execv(chosen.s2, ["s2", "demod", *chosen.given])
     # the call for a piece, which writes no files of records and shows no progress
@@ -157,7 +176,7 @@ def ahead(items, found):
 def stitched(words, outputs, records, *left):
     """The exit status of `s2 stitch` with these records. Its files get their names if nothing failed. After any end, a shell removes the others."""
     parts = {it: it.part() for it in outputs if it.part() != it}
-    cleaner = subprocess.Popen(["sh", "-c", REMOVING, "sh", *parts.values(), *left], stdin=subprocess.PIPE, start_new_session=True)
+    cleaner = subprocess.Popen(["/bin/sh", "-c", REMOVING, "sh", *parts.values(), *left], stdin=subprocess.PIPE, start_new_session=True)
     # it inherits pipes that the user's shell made
     stitch = subprocess.Popen([parts.get(it, it) if isinstance(it, Output) else it for it in words], stdin=subprocess.PIPE, close_fds=False, preexec_fn=tied)
     feeding = ThreadPoolExecutor(1).submit(pour, records, stitch.stdin)
@@ -351,7 +370,8 @@ def ending_of(name, main):
     try:
         return main()
     except (Fault, OSError) as fault:
-        print(f"{name}: {fault}", file=sys.stderr)
+        what = f"{fault.filename}: {fault.strerror}" if getattr(fault, "filename", None) else fault
+        print(f"{name}: {what}", file=sys.stderr)
         return 1
     except KeyboardInterrupt:
         return 130

@@ -1,10 +1,10 @@
 """Draws the frames of a report over their position, as `tools/report --plot` does.
 
-    plot.draw("link.svg", frames, "QPSK 3/4, normal frames, pilots")
+    plot.draw("link.svg", frames, "QPSK 3/4, normal frames, pilots", 4.03, "report, 2030-01-31 12:00 UTC")
 
 The frames are objects as `tools/report --json` prints them. Up to FEW frames are drawn one by one, each with the mark and the colour of its
 verdict. More are drawn in STRETCHES: the least, the mean and the greatest value of each, with the mark of its worst verdict. A share of
-lost frames is that of GROUP frames in a row, or of a stretch."""
+lost frames is that of GROUP frames in a row, or of a stretch. A dashed line shows the Es/N0 that the mode needs, if it is given."""
 import picture
 
 FEW, STRETCHES, GROUP, HEIGHT = 400, 100, 10, 190
@@ -13,12 +13,13 @@ VERDICTS = {"sole": (2, "circle"), "most-likely": (0, "square"), "parity": (4, "
 UNITS = ((1e6, "millions of symbols"), (1e3, "thousands of symbols"), (1, "symbols"))
 ES_N0, ERRORS = "es_n0_db", "bit_error_ratio"
 RATIOS = {"mer_db": "modulation error ratio"}
-# Other panels: their title, their unit, and their figures with labels. PLAIN is for frames without figures.
+# Other panels: their title, their unit and its part of one, and their figures with labels. PLAIN is for frames without figures.
 OTHERS = [
-    ("Amplitude", "amplitude", {"amplitude": "amplitude"}),
-    ("Phase", "degrees", {"phase_deg": "phase", "phase_drift_deg": "phase from frame to frame"}),
+    ("Amplitude", "amplitude", 1, {"amplitude": "amplitude"}),
+    ("Phase", "degrees", 1, {"phase_deg": "phase", "phase_drift_deg": "phase from frame to frame"}),
+    ("Carrier", "millionths of a cycle per symbol", 1e-6, {"carrier_error": "carrier error"}),
 ]
-PLAIN = [("Bits that BCH decoding changed", "bits", {"fixed_bits": "bits changed"})]
+PLAIN = [("Bits that BCH decoding changed", "bits", 1, {"fixed_bits": "bits changed"})]
 
 
 def unit_of(frames):
@@ -36,10 +37,10 @@ def stretches(frames):
     return grouped(frames, 1 if len(frames) <= FEW else -(-len(frames) // STRETCHES))
 
 
-def points_of(groups, name, size):
-    """Position, least, mean and greatest value of each group that has the figure, and its worst verdict."""
+def points_of(groups, name, size, part=1):
+    """Position, least, mean and greatest value of each group that has the figure, and its worst verdict. The values are in parts of their unit."""
     order = [*VERDICTS]
-    found = [(it, [frame[name] for frame in it if name in frame]) for it in groups]
+    found = [(it, [frame[name] / part for frame in it if name in frame]) for it in groups]
     worst = [max((frame["verdict"] for frame in it), key=order.index) for it, values in found if values]
     places = [(it[len(it) // 2]["at_symbol"] / size, min(values), sum(values) / len(values), max(values)) for it, values in found if values]
     return list(zip(places, worst))
@@ -60,7 +61,7 @@ def add_verdicts(panel, points, label):
             panel.points(f"{label}, {verdict}", values, colour, mark)
 
 
-def ratios(frames, groups, size, across):
+def ratios(frames, groups, size, across, needed_db):
     """The panel of ratios in dB."""
     panel = picture.Panel("Es/N0 and modulation error ratio", across, picture.Axis("dB"), height=HEIGHT)
     for name, label in RATIOS.items():
@@ -71,6 +72,9 @@ def ratios(frames, groups, size, across):
     if not is_single:
         add_figure(panel, points, "Es/N0", 0)
     add_verdicts(panel, points, "Es/N0" if is_single else "mean Es/N0, worst verdict")
+    if needed_db is not None:
+        ends = [(frames[at]["at_symbol"] / size, needed_db) for at in (0, -1)]
+        panel.line(f"for 99 of 100 frames the mode needs {needed_db:g} dB", ends, "ink", picture.DASHED)
     return panel
 
 
@@ -90,8 +94,8 @@ def errors(frames, groups, size, across):
 
 def others(panels, groups, size, across):
     """Those panels whose figures the frames have."""
-    for title, unit, names in panels:
-        found = {label: points for name, label in names.items() if (points := points_of(groups, name, size))}
+    for title, unit, part, names in panels:
+        found = {label: points for name, label in names.items() if (points := points_of(groups, name, size, part))}
         panel = picture.Panel(title, across, picture.Axis(unit), height=HEIGHT)
         for colour, (label, points) in enumerate(found.items()):
             add_figure(panel, points, label, colour)
@@ -99,11 +103,11 @@ def others(panels, groups, size, across):
             yield panel
 
 
-def draw(path, frames, title):
-    """Draws a report to a file whose name ends with .svg or .png."""
+def draw(path, frames, title, needed_db=None, note=""):
+    """Draws a report to a file whose name ends with .svg or .png. The note is written below the title."""
     size, name = unit_of(frames)
     across, groups = picture.Axis(f"position in {name}"), stretches(frames)
     has_figures = any(ES_N0 in frame for frame in frames)
-    panels = [ratios(frames, groups, size, across)] if has_figures else []
+    panels = [ratios(frames, groups, size, across, needed_db)] if has_figures else []
     panels += [errors(frames, groups, size, across), *others(OTHERS if has_figures else PLAIN, groups, size, across)]
-    picture.write(path, panels, title)
+    picture.write(path, panels, title, note=note)

@@ -5,6 +5,10 @@ import subprocess
 import sys
 import typing
 
+from program import Fault
+
+# Forms that are written in the file.
+TOLD = ("sigmf", "wav")
 # Symbols of a header; symbols that are examined, and the form in which they are read: 64-bit floats, which hold every number of each form.
 HEADER, LOOKED, FORM, BYTES = 90, 1 << 15, "cf64_le", 16
 FLOATS, INTEGERS = ("cf32_le", "cf32_be", "cf64_le", "cf64_be"), ("ci16_le", "ci16_be", "ci8", "cu8")
@@ -31,28 +35,38 @@ class Look(typing.NamedTuple):
 
     @classmethod
     def of(cls, form, numbers):
-        count = len(numbers) // 2
-        symbols = [complex(*it) for it in zip(numbers[: 2 * count : 2], numbers[1 : 2 * count : 2])]
-        power, greatest = math.fsum(map(lambda it: it * it, numbers)), max(map(abs, numbers), default=0)
-        clipped = sum(max(abs(it.real), abs(it.imag)) == greatest for it in symbols) / max(1, count)
-        together = abs(sum(one * other.conjugate() for one, other in zip(symbols[1:], symbols))) if math.isfinite(power) else 0
-        return cls(form, count, math.sqrt(power / max(1, count)), greatest, clipped, together / power if power else 0)
+        count, greatest = len(numbers) // 2, max(map(abs, numbers), default=0)
+        # divided by the greatest, so that no square is too large for a float
+        scale = greatest or 1
+        symbols = [complex(real / scale, imaginary / scale) for real, imaginary in zip(numbers[::2], numbers[1::2])]
+        power = sum(it.real**2 + it.imag**2 for it in symbols)
+        clipped = sum(max(abs(it.real), abs(it.imag)) == greatest / scale for it in symbols) / max(1, count)
+        together = abs(sum(one * other.conjugate() for one, other in zip(symbols[1:], symbols)))
+        return cls(form, count, scale * math.sqrt(power / max(1, count)), greatest, clipped, together / power if power else 0)
 
     def is_usual(self):
         """Whether floats look like those of a recording."""
         return self.count > 0 and USUAL[0] < self.rms < USUAL[1] and self.greatest < MOST * self.rms
 
 
-def numbers_of(convert, recording, form, limit):
-    """The first numbers of a recording in a form."""
+def name_of(recording):
+    return recording.name if recording.is_file else "standard input"
+
+
+def numbers_of(convert, recording, form, limit, is_known):
+    """The first numbers of a recording in a form. If the form is known, and the numbers cannot be read in it, that is a fault."""
     words, given = [convert, form, FORM, "--gain", "1"], subprocess.DEVNULL
-    if form in ("sigmf", "wav") and recording.is_file:
+    if form in TOLD and recording.is_file:
         words.append(recording.name)
     else:
         given = recording.opened(limit)
-    with subprocess.Popen(words, stdin=given, stdout=subprocess.PIPE, stderr=subprocess.DEVNULL) as child:
+    with subprocess.Popen(words, stdin=given, stdout=subprocess.PIPE, stderr=subprocess.PIPE) as child:
         data = child.stdout.read(LOOKED * BYTES)
         child.stdout.close()
+        said = child.stderr.read().decode(errors="replace").splitlines()
+    if is_known and len(data) < HEADER * BYTES and child.returncode:
+        why = said[-1].removeprefix("convert: ")
+        raise Fault(why if name_of(recording) in why else f"{name_of(recording)}: {why}")
     numbers = array.array("d", data[: len(data) - len(data) % BYTES])
     if sys.byteorder == "big":
         numbers.byteswap()
@@ -61,7 +75,7 @@ def numbers_of(convert, recording, form, limit):
 
 def likely(convert, recording, forms, sizes):
     """How it looks in the form that it has most likely."""
-    looks = {it: Look.of(it, numbers_of(convert, recording, it, LOOKED * sizes.get(it, 4))) for it in forms}
+    looks = {it: Look.of(it, numbers_of(convert, recording, it, LOOKED * sizes.get(it, 4), len(forms) == 1)) for it in forms}
     if len(looks) == 1:
         return next(iter(looks.values()))
     usual = [looks[it] for it in FLOATS if looks[it].is_usual() and looks[it].count >= min(LOOKED, recording.size // sizes[it])]
@@ -76,14 +90,14 @@ def likely(convert, recording, forms, sizes):
 
 def looks(recording, finder, convert, sizes):
     """The lines."""
-    name = recording.name if recording.is_file else "standard input"
+    name = name_of(recording)
     if finder.others:
         wanted = f"not {finder.chosen.modcod}" if finder.chosen.modcod else "which s2 demod does not receive"
         yield f"found in {name}: {', '.join(dict.fromkeys(finder.others))}, {wanted}"
         return
-    yield f"nothing found in {name}, which has {recording.size} bytes"
     given = finder.forms()
     look = likely(convert, recording, given if len(given) == 1 else [*FLOATS, *INTEGERS], sizes)
+    yield f"nothing found in {name}, which has {recording.size} bytes"
     if look.count < HEADER:
         yield "that is less than the header of a frame"
         return

@@ -1,5 +1,6 @@
 # PCG32 (XSH RR 64/32) and the noise, by its description alone.
 from decimal import Decimal,getcontext
+from statistics import NormalDist
 getcontext().prec=40
 ONE=2**30
 M64=(1<<64)-1
@@ -43,16 +44,21 @@ class Noise:
         return max(-32768,min(32767,x+trunc((d-1020)*self.level,256)))
     def add(self,i,q): 
         a=self.one(i); b=self.one(q); return a,b
+# The entries of all bytes: the quantiles of a normal distribution at (k + 128.5) / 256 times 1024, but for the last two sizes. The other
+# half has the same sizes less than 0. Then the variance of the sum of eight.
+SIZES=[round(1024*NormalDist().inv_cdf((k+128.5)/256)) for k in range(126)]+[2345,3190]
+ENTRIES=SIZES+[-it for it in SIZES]
+VARIANCE=Decimal(8*sum(it*it for it in ENTRIES))/256
 class Gaussian(Noise):
     # by hundredths of a dB: at -10 dB a standard deviation of 700 sqrt(10), each hundredth 10**(-1/2000) times that
     def __init__(self,seed,hundredths):
         self.g=Pcg32(seed)
-        a=round(ONE*700*Decimal(10).sqrt()/Decimal(349520).sqrt())
+        a=round(ONE*700*Decimal(10).sqrt()/VARIANCE.sqrt())
         step=round(ONE*Decimal(10)**(Decimal(-1)/2000))
         for _ in range(hundredths+1000): a=(a*step+ONE//2)//ONE
         self.a=a
     def one(self,x):
-        d=sum(sum(self.g.next().to_bytes(4,'little')) for _ in range(16))-8160
+        d=sum(ENTRIES[byte] for _ in range(2) for byte in self.g.next().to_bytes(4,'little'))
         size=(abs(d)*self.a+ONE//2)//ONE
         return max(-32768,min(32767,x+(size if d>0 else -size)))
 if __name__=='__main__':
@@ -65,7 +71,7 @@ if __name__=='__main__':
         n=Gaussian(seed,hundredths)
         print(seed,hundredths,n.a,[n.add(700,-700) for _ in range(4)])
     # how far the amplitude is from the right one, at most
-    print(max(abs(Gaussian(0,h).a/(ONE*700*10**(-h/2000)/349520**.5)-1) for h in range(-1000,4001)))
+    print(max(abs(Gaussian(0,h).a/(ONE*700*10**(-h/2000)/float(VARIANCE)**.5)-1) for h in range(-1000,4001)))
     for seed in range(1,4):
         n=Gaussian(seed,-1000); print(seed,[n.add(32767,-32768) for _ in range(4)])
     # clamps

@@ -21,7 +21,6 @@ SHAPES = [
 FORTY = [(*shape, 4 * n + k + 1, deviation, 40) for n, shape in enumerate(SHAPES) for k, deviation in enumerate((40, 50, 60, 70))]
 # The smallest code, found and given up; and check 0 has one member.
 CORNERS = [(1, 1, 1, 1, 2, 90, 40), (1, 1, 1, 1, 10, 120, 40), (1, 4, 14, 2, 5, 100, 40), (4, 3, 5, 2, 13, 100, 40)]
-# The last one's first queue ends at its 4000th step, and passes go on from there.
 REAL = [
     (360, 20, 25, 6, 101, 50, 40), (360, 33, 12, 4, 102, 40, 40), (360, 40, 5, 3, 103, 30, 40),
     (360, 90, 90, 6, 104, 60, 40), (360, 135, 45, 4, 105, 45, 40), (360, 162, 18, 3, 106, 30, 40),
@@ -75,7 +74,7 @@ def file_of(group, groups, q, checks, soft, word, moves):
     bits += "0" * (-len(bits) % 8)
     out += int(bits, 2).to_bytes(len(bits) // 8, "big")
     for check, move in zip(checks, moves):
-        place, amount = (0, 0) if move is None else (check.index(move[0]), move[1])
+        place, amount = (check.index(move[0]), move[1]) if move[1] else (0, 0)
         out += place.to_bytes(2, "big") + amount.to_bytes(4, "big")
     return out
 
@@ -94,7 +93,7 @@ def tell(group, groups, q, weight, seed, deviation, passes, judged=True):
     moves = shares.find_moves(checks, q, in_favour, passes, trace)
     number = 0 if moves is None else fnv(file_of(group, groups, q, checks, soft, word, moves))
     verdict = verdicts.verdict((group, groups, q, rows), soft, passes, rounds=20)[0] if judged else "-"
-    print(f"    ({group}, {groups}, {q}, {weight}, {seed}, {deviation}, {number}),", verdict, trace.counts, trace.served, flush=True)
+    print(f"    ({group}, {groups}, {q}, {weight}, {seed}, {deviation}, {number}),", verdict, trace.counts, flush=True)
 
 
 if __name__ == "__main__":

@@ -4,18 +4,16 @@ them by GNU Radio's loops and our receiver.
 A band edge loop corrects the frequency, symbol_sync recovers the symbol timing with matched filters, and a Costas loop corrects the rest of
 the frequency, and the phase up to a multiple of 90 degrees. The headers of the frames determine that multiple. The first frames are lost while
 the loops settle; after the first received packet none may be missing."""
-import os
+import itertools
 import random
 import sys
 
 import numpy
 from gnuradio import blocks, digital, filter as filters, gr
 
-import flow
-
 sys.dont_write_bytecode = True
-sys.path.append(os.path.join(os.path.dirname(os.path.abspath(__file__)), "../../bench/gnuradio"))
-from dummy import bpsk, header
+import flow
+from headers import START_OF_FRAME, bpsk, header
 
 # The largest frequency offset, as a fraction of the symbol rate.
 MAX_OFFSET = 0.05
@@ -23,27 +21,34 @@ MAX_OFFSET = 0.05
 FILTERS = 32
 
 
-class QuarterTurns(gr.sync_block):
-    """Finds the headers of a mode in symbols of amplitude 1 that are rotated by a multiple of 90 degrees, or of another part of a circle, and
+class Turns(gr.sync_block):
+    """Finds the headers of a mode, or without it those of all modes, in symbols that are rotated by a multiple of 1 / `parts` of a circle. It
     derotates the symbols from each header on."""
 
-    def __init__(self, modcod, frame_type, parts=4):
-        gr.sync_block.__init__(self, "quarter turns", [numpy.complex64], [numpy.complex64])
-        self.header = numpy.array(bpsk(header(modcod, frame_type))) / 2**0.5
-        self.turn, self.parts = 1, parts
-        self.set_history(len(self.header))
+    def __init__(self, mode=None, parts=4):
+        gr.sync_block.__init__(self, "turns", [numpy.complex64], [numpy.complex64])
+        modes = [mode] if mode else itertools.product(range(32), range(4))
+        self.heads = numpy.array([bpsk(header(*each)) for each in modes]) / 2**0.5
+        self.turn, self.part, self.count = 1, 2 * numpy.pi / parts, self.heads.shape[1]
+        self.set_history(self.count)
+
+    def found(self, symbols):
+        """The places at which a header begins, and the rotation of each."""
+        start = self.heads[0][: len(START_OF_FRAME)]
+        sums, level = numpy.correlate(symbols, start, "valid"), numpy.mean(abs(symbols) ** 2) ** 0.5
+        for place in numpy.flatnonzero(abs(sums[: len(symbols) - self.count + 1]) > 0.5 * level * len(start)):
+            head = symbols[place : place + self.count]
+            like = self.heads.conj() @ head / (numpy.linalg.norm(head) * self.count**0.5)
+            best = like[numpy.argmax(abs(like))]
+            if abs(best) > 0.6:
+                yield place, numpy.angle(best)
 
     def work(self, input_items, output_items):
-        symbols, out = input_items[0], output_items[0]
-        # For each output symbol the correlation with a header that begins there.
-        sums = numpy.correlate(symbols, self.header, "valid") / len(self.header)
-        begun = 0
-        for start in [*numpy.flatnonzero(abs(sums) > 0.6), len(out)]:
-            out[begun:start] = symbols[begun:start] * self.turn
-            if start < len(out):
-                part = 2 * numpy.pi / self.parts
-                self.turn = numpy.exp(-1j * part * round(numpy.angle(sums[start]) / part))
-            begun = start
+        symbols, out, begun = input_items[0], output_items[0], 0
+        for place, angle in self.found(symbols):
+            out[begun:place], begun = symbols[begun:place] * self.turn, place
+            self.turn = numpy.exp(-1j * self.part * round(angle / self.part))
+        out[begun:] = symbols[begun : len(out)] * self.turn
         return len(out)
 
 
@@ -69,9 +74,11 @@ def recovered(graph, samples, quarters=0, rate=flow.SAMPLES, roll_off=flow.ROLL_
     timing = digital.symbol_sync_cc(
         digital.TED_SIGNAL_TIMES_SLOPE_ML, rate, 0.002, 1, 1, 0.1, 1, points, digital.IR_PFB_MF, FILTERS, bank
     )
-    turns = QuarterTurns(*mode, psk) if mode else blocks.multiply_const_cc(1)
+    turns = Turns(mode, psk)
     edges = digital.fll_band_edge_cc(rate, roll_off, 12 * round(rate) + 1, 0.0015)
-    graph.connect(samples, edges, timing, digital.costas_loop_cc(0.008, psk), blocks.multiply_const_cc(1j**quarters), turns)
+    # the loop of order 8 locks to points between those of DVB-S2
+    turned = blocks.multiply_const_cc(1j**quarters * numpy.exp(1j * numpy.pi / 8 * (psk == 8)))
+    graph.connect(samples, edges, timing, digital.costas_loop_cc(0.008, psk), turned, turns)
     graph.turns = turns  # the graph itself does not keep a block of Python alive
     return turns
 

@@ -16,7 +16,7 @@ HERE = os.path.dirname(os.path.abspath(__file__))
 FOLDERS = [HERE, os.path.join(HERE, ".."), os.path.join(HERE, "../../build")]
 """The folders in which the library is looked for."""
 
-VERSION = 1
+VERSION = 2
 """The version of the header that this package is written for."""
 
 RESULTS = (
@@ -82,11 +82,11 @@ class Figures(Sized):
     """`s2_figures`."""
 
     _fields_ = [
-        *_of(c_uint32, "size header rounds reserved"),
+        *_of(c_uint32, "size header rounds equalized"),
         *_of(c_uint64, "changed changed_of known known_of payload payload_of known_power"),
         *_of(c_int64, "known_along known_across"),
         *_of(c_uint64, "payload_power"),
-        *_of(c_int64, "payload_along payload_across"),
+        *_of(c_int64, "payload_along payload_across gain_along gain_across rotation_along rotation_across"),
     ]
 
 

@@ -25,7 +25,9 @@ RECORDS = ("soft", "word", "bbframe", "certificate")
 class Figures(NamedTuple):
     """The figures of a frame, or the sums of those of all frames (`docs/formats.md`, Figures of a frame).
 
-    In sums `header`, `rounds` and the correlations (`.._along`, `.._across`) are 0."""
+    With `equalized` the equalizer took a gain and a rotation out of a frame, else they are 0. The gain is that of the channel at the header, in
+    1/1024. The rotation is that of the carrier from one block of known symbols to the next, a number of the size 32768. In sums `header`,
+    `rounds` and all real and imaginary parts (`.._along`, `.._across`) are 0."""
 
     header: int
     rounds: int
@@ -41,10 +43,19 @@ class Figures(NamedTuple):
     payload_power: int
     payload_along: int
     payload_across: int
+    equalized: bool
+    gain_along: int
+    gain_across: int
+    rotation_along: int
+    rotation_across: int
 
     def _words(self) -> str:
-        sums = (f"{part} {getattr(self, part)} " + " ".join(f"{it} {getattr(self, f'{part}_{it}')}" for it in ("power", "along", "across")) for part in ("known", "payload"))
-        return f" header {self.header} changed {self.changed} rounds {self.rounds} {' '.join(sums)}"
+        sums = (f" {part} {getattr(self, part)} power {getattr(self, f'{part}_power')}{self._parts(part)}" for part in ("known", "payload"))
+        removed = (f" {part}{self._parts(part)}" for part in ("gain", "rotation") if self.equalized)
+        return f" header {self.header} changed {self.changed} rounds {self.rounds}{''.join([*sums, *removed])}"
+
+    def _parts(self, name: str) -> str:
+        return "".join(f" {it} {getattr(self, f'{name}_{it}')}" for it in ("along", "across"))
 
 
 class Cut(NamedTuple):
@@ -253,7 +264,7 @@ class Receiver(Held):
         if result == _library.NONE_THERE:
             return None
         self._library.succeed(result)
-        return Figures(**{it: getattr(told, it) for it in Figures._fields})
+        return Figures(**{it: getattr(told, it) for it in Figures._fields} | {"equalized": told.equalized == 1})
 
     def _asked_room(self) -> int:
         """The bytes that the next step takes."""

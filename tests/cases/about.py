@@ -15,7 +15,7 @@ TUNED = {"divisor": 16384, "turns": True, "resync": True, "factor": 14, "rounds"
 RECEIVING = MODE | FOUND | DECODING | REPORTING
 SENDING = {"ro": 0, "dummy": 0, "resync-packets": False}
 # A number of hundredths, with both decimals.
-DECIBELS = "12.50"
+DECIBELS = "14.50"
 
 
 def text(lines):
@@ -101,7 +101,7 @@ def run_cases(made, packets):
 
     usual = {"seed": 1, "last-seed": 1, "level": 0}
     yield case("--seed 1 --level 0", usual)
-    yield case("--seed 1 --esn0 12.5 --ro 1", {"ro": 1, "seed": 1, "last-seed": 1, "esn0": DECIBELS})
+    yield case("--seed 1 --esn0 14.5 --ro 1", {"ro": 1, "seed": 1, "last-seed": 1, "esn0": DECIBELS})
     yield case("--seed 1 --level 0 --dummy 1", usual | {"dummy": 1}, TWO.replace("8190", "11520"))
     yield case("--seed 1 --level 0 --resync", usual | {"resync": True, "resync-packets": True})
     yield case("--seed 1 --level 0 --tuned", usual | TUNED)

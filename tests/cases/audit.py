@@ -249,7 +249,7 @@ def report_cases(made):
             yield from both(made.with_line(at, other), NO, before + expected(at + 1, " ".join(words[:4])))
         # a line that cannot be read
         for other in ("frame", "frame 1", "frame 1 at", "frame 1 at 0", "frame 1 in 0 sole fixed 0", "frame x at 0 sole", "frame 1 at -1 sole", "frame 1 at 0 sure fixed 0",
-                      "frame  1 at 0 sole", f"frame {2**40} at 0 sole", f"frame 1 at {2**40} sole", "ending", "", "end " + 508 * "x"):  # fmt: skip
+                      "frame  1 at 0 sole", f"frame {2**40} at 0 sole", f"frame 1 at {2**40} sole", "ending", "", "end " + 636 * "x"):  # fmt: skip
             yield stopped(made.with_line(at, other), before, f"report: line {at + 1}")
     # two frames exchanged
     yield audit(made.with_line(0, text[1], text[0]).with_line(2), NO, expected(1, text[0]))
@@ -259,9 +259,9 @@ def report_cases(made):
     for place in range(2, len(words), 2):
         other = " ".join([*words[:place], str(int(words[place]) + 1), *words[place + 1 :]])
         yield from both(made.with_line(number - 1, other), NO, made.shown() + expected(number, text[-1]))
-    for other in ("end", "cut", "cut at 5 symbols 90", frames[0], f"{text[-1]} ", "end " + 507 * "x"):
+    for other in ("end", "cut", "cut at 5 symbols 90", frames[0], f"{text[-1]} ", "end " + 635 * "x"):
         yield audit(made.with_line(number - 1, other), NO, made.shown() + expected(number, text[-1]))
-    for other in ("", "ending", "frame 1", "end " + 508 * "x"):
+    for other in ("", "ending", "frame 1", "end " + 636 * "x"):
         yield stopped(made.with_line(number - 1, other), made.shown(), f"report: line {number}")
     for more in (text[-1], frames[0], "cut at 5 symbols 90"):
         yield from both(made.with_line(number - 1, text[-1], more), NO, made.shown() + no_more("report line", number + 1))

@@ -80,7 +80,9 @@ class Blocks(gr_unittest.TestCase):
 
     def test_figures(self):
         _, _, messages = self.received(frames_of([1, 3, 0, 12]), 100, figures=True)
-        self.assertEqual(messages[0]["figures"] | {"header": 2, "known_along": -11, "payload_across": -15}, messages[0]["figures"])
+        self.assertEqual(messages[0]["figures"] | {"header": 2, "known_along": -11, "payload_across": -15, "equalized": False}, messages[0]["figures"])
+        _, _, messages = self.received(frames_of([1, 3, 0, 12]), 100, figures=True, equalize=True)
+        self.assertEqual(messages[0]["figures"] | {"equalized": True, "gain_across": -17, "rotation_across": 19}, messages[0]["figures"])
 
     def test_amplitude(self):
         block, _, _ = self.received(frames_of([1, 3, 0, 12]) * numpy.float32(0.25), 100, amplitude=0.25)

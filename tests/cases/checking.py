@@ -40,17 +40,18 @@ ANSWERS = [
     # soft value 0 is the least, and soft value 1, of a bit that is 0, the largest
     (STORED_CERTIFICATE[:17] + b"\xFE\x01\x01\xFF" + STORED_CERTIFICATE[21:], 0, "sole cost -551\n"),
 ]
+EXTRA = "extra: several certificates need --each"
 FAULTS = [
     (with_byte(0, 0x54), "magic"),
     (b"S2ML\x03", "magic"),
     (b"S2ML\x02", "cut"),
-    (WRONG_MOVED + b"\x00", "extra"),
+    (WRONG_MOVED + b"\x00", EXTRA),
     (b"", "cut"),
     (b"S2ML\x01", "cut"),
     # a byte a value
     (HEAD + bytes([0xFC] + 19 * [10]) + WRONG_CERTIFICATE[57:], "cut"),
-    (with_byte(16, 0x2E), "extra"),
-    (WRONG_CERTIFICATE + b"\x00", "extra"),
+    (with_byte(16, 0x2E), EXTRA),
+    (WRONG_CERTIFICATE + b"\x00", EXTRA),
     (with_byte(12, 0), "range"),
     (HEAD + b"\x02\x00" + WRONG_CERTIFICATE[19:], "range"),
     (HEAD + b"\xFE\x00" + WRONG_CERTIFICATE[19:], "range"),
@@ -216,7 +217,7 @@ CASES = [
     Case("check short_rows out", NO, "no shape\n", reads={"short_rows": b"0 4 8\n0 1\n", "out": WRONG_CERTIFICATE}),
     Case("check normal normal_certificate", out="yes cost 0\n"),
     # a byte after the end is reported before other errors, and an incomplete header before a shape
-    refused(turned(WRONG_MOVED, 13) + b"\x00", "extra"),
+    refused(turned(WRONG_MOVED, 13) + b"\x00", EXTRA),
     refused(WRONG_MOVED[:5] + bytes(7), "cut"),
     refused(WRONG_MOVED[:5] + bytes(8), "shape"),
     refused(WRONG_MOVED[:11] + bytes(2), "range"),

@@ -120,8 +120,14 @@ def refused_headers(lost, refused):
     return f"of {lost} lost frame{'s' * (lost != 1)} {refused} had a BCH word whose header is refused"
 
 
-# The note on headers of the usual amplitude without a decoded frame.
-UNDECODED = "headers are right but no frame is decoded: another scrambling number or other rows? try s2 scan"
+# The note on headers of the usual amplitude without a decoded frame, and that with --equalize.
+UNDECODED = "headers are right but no frame is decoded: another scrambling number, other rows, or a phase or carrier error: try --equalize, or s2 scan"
+EQUALIZED = "headers are right but no frame is decoded: another scrambling number or other rows? try s2 scan"
+
+
+def unfound(count):
+    """The note on symbols without a frame."""
+    return f"no frame of QPSK 1/4, short in {count} symbols: try s2 scan, or tools/receive for floats and 8-bit samples"
 
 
 # The note on a gap after which frames may continue in another rotation.

@@ -235,23 +235,28 @@ int32_t s2_receiver_certificate(s2_handle *receiver, uint8_t *out, size_t room, 
     COPY(CERTIFICATE, (uint8_t)(5 * fake->number + i));
 }
 
-static s2_figures figures_of(uint64_t number) {
+static s2_figures figures_of(uint64_t number, uint32_t equalized) {
     uint32_t small = (uint32_t)number;
-    return (s2_figures){sizeof(s2_figures), small + 1, small + 2, 0, number + 3, number + 4, number + 5, number + 6, number + 7, number + 8,
-                        number + 9, -(int64_t)number - 10, -(int64_t)number - 11, number + 12, -(int64_t)number - 13, -(int64_t)number - 14};
+    int64_t large = (int64_t)number;
+    s2_figures figures = {sizeof figures, small + 1, small + 2, equalized, number + 3, number + 4, number + 5, number + 6, number + 7, number + 8,
+                          number + 9, -large - 10, -large - 11, number + 12, -large - 13, -large - 14, 0, 0, 0, 0};
+    if (!equalized) return figures;
+    figures.gain_along = large + 15, figures.gain_across = -large - 16;
+    figures.rotation_along = -large - 17, figures.rotation_across = large + 18;
+    return figures;
 }
 int32_t s2_receiver_figures(s2_handle *receiver, s2_figures *figures) {
     ENTER(receiver, RECEIVER)
     if (figures->size != sizeof *figures) return leave(fake, S2_BAD_SIZE);
     if (!fake->options.figures) return leave(fake, S2_NONE_THERE);
-    *figures = figures_of(fake->number);
+    *figures = figures_of(fake->number, fake->options.equalize);
     return leave(fake, S2_OK);
 }
 int32_t s2_receiver_sums(s2_handle *receiver, s2_figures *figures) {
     ENTER(receiver, RECEIVER)
     if (figures->size != sizeof *figures) return leave(fake, S2_BAD_SIZE);
     if (!fake->options.figures) return leave(fake, S2_NONE_THERE);
-    *figures = figures_of(1000);
+    *figures = figures_of(1000, 0);
     return leave(fake, S2_OK);
 }
 int32_t s2_receiver_totals(s2_handle *receiver, s2_totals *totals) {

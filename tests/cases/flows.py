@@ -25,13 +25,17 @@ def through(symbols, block):
     return numpy.array(out.data())
 
 
-def turned_back(quarters):
-    """Whether the symbols of three frames, each rotated by its number of quarters, are received unchanged."""
-    draw = numpy.random.default_rng(1)
-    head = numpy.array(recovery.bpsk(recovery.header(flow.MODCOD, flow.TYPE))) / 2**0.5
-    payloads = [numpy.exp(1j * numpy.pi * (0.25 + 0.5 * draw.integers(0, 4, 3000))) for _ in quarters]
-    sent = [numpy.concatenate([head, payload]) for payload in payloads]
-    came = through(numpy.concatenate([frame * 1j**turn for frame, turn in zip(sent, quarters)]), recovery.QuarterTurns(flow.MODCOD, flow.TYPE))
+def turned_back(turns, parts=4):
+    """Whether the symbols of three frames, each rotated by its number of parts of a circle, are received unchanged. In eighths these are frames of
+    8PSK 3/4 with another amplitude, whose mode is not given."""
+    draw, mode, level = numpy.random.default_rng(1), (flow.MODCOD, flow.TYPE), 1
+    block = recovery.Turns(mode) if parts == 4 else recovery.Turns(parts=parts)
+    if parts == 8:
+        mode, level = (14, 1), 0.3
+    head = numpy.array(recovery.bpsk(recovery.header(*mode))) / 2**0.5
+    payloads = [numpy.exp(2j * numpy.pi * (draw.integers(0, parts, 3000) / parts + 1 / 8)) for _ in turns]
+    sent = [level * numpy.concatenate([head, payload]) for payload in payloads]
+    came = through(numpy.concatenate([frame * numpy.exp(2j * numpy.pi * turn / parts) for frame, turn in zip(sent, turns)]), block)
     # the block waits for the rest of a header, and returns the same number of zeros first
     held, wanted = len(head) - 1, numpy.concatenate(sent)
     return len(came) == len(wanted) and abs(came[held:] - wanted[:-held]).max() < 0.01
@@ -100,6 +104,8 @@ def parts():
     yield "a fault of an end", failed_end() == "an end: no sync"
     for quarters in ((0, 0, 0), (1, 1, 1), (2, 2, 2), (3, 3, 3), (0, 1, 3), (2, 3, 1)):
         yield f"turns of {quarters} quarters", turned_back(quarters)
+    for eighths in ((0, 1, 3), (7, 6, 5), (4, 2, 1)):
+        yield f"turns of {eighths} eighths", turned_back(eighths, 8)
     yield from judgements()
     yield from ((f"noise of {ratio} dB", noise_is(ratio)) for ratio in (0, 7, 10))
     offsets = [offset_of(seed) for seed in SEEDS]

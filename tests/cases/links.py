@@ -2,9 +2,11 @@
 import functools
 
 from cases.common import (
-    ANY, DIVISORS, LINK, LONG_ROWS, NO, ONE, PACKET, PAIR, SLIPPED, TOY, TWO, UNDECODED, WANTED, Case, digest, Rule, ending, fault, missing, noted, refused_headers, size, tuned,
+    ANY, DIVISORS, EQUALIZED, LINK, LONG_ROWS, NO, ONE, PACKET, PAIR, SLIPPED, TOY, TWO, UNDECODED, WANTED, Case, digest, Rule, ending, fault, missing, noted, refused_headers, size, tuned,
+    unfound,
 )  # fmt: skip
 from cases.drawn import gaussian, made_rows, spoilt
+from cases.equalized import through
 from cases.plain_receiver import broken, checks_of, soft_value, weakened
 
 MAX_SEED = 2**64 - 1
@@ -206,7 +208,7 @@ def losing(two):
     """The cases of losses in the symbols of the two packets: their notes, the exit statuses of strict commands, and quiet ones."""
     one, other, gap = two[:32_760], two[32_760:], bytes(400)
     first, incomplete = ONE + "frame 2 at 8290 sole fixed 0\nend frames 2 delivered 2 packets 1 bad 0\n", "1 packet incomplete"
-    nothing = "100 symbols skipped in 1 place, the first at 0", "no frame of QPSK 1/4, short in 100 symbols: try s2 scan"
+    nothing = "100 symbols skipped in 1 place, the first at 0", unfound(100)
     cases = [
         # before the frames, between them, after them, and before a cut one
         (gap + two, 0, TWO.replace("at 0 ", "at 100 ").replace("8190", "8290"), 2 * PACKET, ["100 symbols skipped in 1 place, the first at 0"]),
@@ -291,6 +293,8 @@ def strong(two):
         *(received(loud(two, size), NO, lost, b"", f"{words} made", undelivered(said, tuned(2, 2))) for size, said in AMPLITUDES.items()),
         *(received(loud(two, size), NO, lost, b"", f"{words} --tuned made", undelivered(said)) for size, said in AMPLITUDES.items()),
         *(received(loud(two, size), NO, lost, b"", f"{words} --quiet made") for size in AMPLITUDES),
+        # with the equalizer, at the right amplitude and at another one
+        *(received(loud(two, size), NO, lost, b"", f"{words} --equalize made", noted(said)) for size, said in ((700, EQUALIZED), (7000, tuned(2, 2)))),
         # the energy is that of all headers
         received(one + loud(other, 7000), NO, lost, b"", f"{words} made", undelivered((7035, "0.1407"), tuned(2, 2))),
         # one frame is delivered, or all are
@@ -440,7 +444,7 @@ def among(two, dummies):
             errors=noted("1 symbol skipped in 1 place, the first at 8190", "1 packet incomplete"),
         ),
         *(
-            received(symbols, 0, NONE, b"", errors=noted(*said, f"no frame of QPSK 1/4, short in {len(symbols) // 4} symbols: try s2 scan"))
+            received(symbols, 0, NONE, b"", errors=noted(*said, unfound(len(symbols) // 4)))
             for symbols, said in ((dummy, []), (100 * dummy, missing((0,))), (dummy[:400], []), (b"".join(dummies), []))
         ),
         run(f"{LINK} --dummy 1 --seed 1 --level 0 made", 0, later, 2 * PACKET),
@@ -473,10 +477,14 @@ def heard(words, symbols, code, end, packets, errors=""):
 def worded(two):
     """Symbols with pilots and another scrambling number, received with other words too."""
     words, end = f"{LINK} --pilots", "end frames 2 delivered {0} packets {0} bad 0\n"
-    no_sync = *missing((0,)), "16740 symbols skipped in 1 place, the first at 0", "no frame of QPSK 1/4, short in 16740 symbols: try s2 scan"
+    turned = through(two[: len(two) // 2], 1, 40, 0.00002)
+    no_sync = *missing((0,)), "16740 symbols skipped in 1 place, the first at 0", unfound(16740)
     return [
         heard(f"{words} --number 7", two, 0, end.format(2), 2 * PACKET),
         heard(words, two, NO, end.format(0), b"", noted(UNDECODED)),
+        # the right number, and a phase and a carrier error
+        heard(f"{words} --number 7", turned, NO, "end frames 1 delivered 0 packets 0 bad 0\n", b"", noted(UNDECODED)),
+        heard(f"{words} --number 7 --equalize", turned, 0, "end frames 1 delivered 1 packets 1 bad 0\n", PACKET),
         heard(f"{LINK} --number 7", two, 0, NONE, b"", noted(*no_sync)),
         heard(f"{LINK} --number 7 --strict", two, NO, NONE, b"", noted(*no_sync)),
     ]

@@ -5,7 +5,7 @@ from dataclasses import dataclass, field
 
 from cases import about, audit, comparing, equalized, figured, links, listing, pieces, progress, records, rotations, slips
 from cases.common import (
-    ANY, FINE, LINK, NO, ONE, PACKET, PAIR, SLIPPED, STORED, STORED_CERTIFICATE, STORED_MOVED, TOY, TWO, UNDECODED, WANTED, Case, Rule, digest, ending, noted,
+    ANY, FINE, LINK, NO, ONE, PACKET, PAIR, SLIPPED, STORED, STORED_CERTIFICATE, STORED_MOVED, TOY, TWO, UNDECODED, WANTED, Case, Rule, digest, ending, noted, unfound,
 )  # fmt: skip
 from cases.drawn import gaussian, made_rows, spoilt
 from cases.judging import HARD_NOTE, LEFT
@@ -92,7 +92,7 @@ def judge_effects():
     yield Effect("--each", f"judge {TOY} {{}} toy values", {"": refused("values: too many"), "--each": many}, two)
     yield Effect("--cert", f"judge {TOY} {{}} toy stored", {"": sole, "--cert out": ended("sole cost -45\n", out=STORED_MOVED)})
     (shape, rows), passes, values, line, *_ = LEFT[0]
-    ends, soft = (ended(line.replace("sole", "most-likely")), ended(line)), {"reads": {"rows": rows, "values": values}}
+    ends, soft = (ended(line.replace("sole", "parity"), NO), ended(line)), {"reads": {"rows": rows, "values": values}}
     yield Effect("--passes", f"judge {shape} {{}} rows values", by_default("--passes", 0, passes, *ends), soft)
     values = {"reads": {"values": b"-5 3"}}
     yield Effect("--uncertified", f"judge {PAIR} {{}} pair values", {"": ended("most-likely cost -2\n"), "--uncertified": parity}, values)
@@ -133,7 +133,7 @@ def few_effects():
     yield Effect("--short", "modes --modcod 7 {}", {"": one, "--short": short})
     yield Effect("--quiet", "modes {}", dict.fromkeys(("", "--quiet"), ended(listing.listed())))
     two = {"reads": {"two": 2 * STORED_CERTIFICATE}}
-    yield Effect("--each", "check toy two {}", {"": refused("certificate: extra"), "--each": ended(2 * "sole cost -45\n")}, two)
+    yield Effect("--each", "check toy two {}", {"": refused("certificate: extra: several certificates need --each"), "--each": ended(2 * "sole cost -45\n")}, two)
     yield Effect("--quiet", "check toy certificate {}", dict.fromkeys(("", "--quiet"), ended("sole cost -45\n")))
     other = ended("other: line 1\n", NO)
     yield Effect("--modcod", "table {} --short made", each("--modcod", (1, "qpsk1/4", 2), (other, other, refused(*OTHER_SHORT))))
@@ -142,10 +142,11 @@ def few_effects():
     for name, values, rest in (("seed", (1, 2), "--level 256"), ("level", (256, 512), "--seed 1")):
         made = [ended(out=spoilt(SAMPLES, *((it, 256) if name == "seed" else (1, it)))) for it in values]
         yield Effect(f"--{name}", f"noise {rest} {{}} in out", each(f"--{name}", values, made), {"reads": {"in": SAMPLES}})
-    ends = {text: ended(out=gaussian(SAMPLES, 1, text)) for text in ("-10", "-2.35", "0", "6.2", "6.21", "40")}
+    symbols = 40 * SAMPLES[:8]
+    ends = {text: ended(out=gaussian(symbols, 1, text)) for text in ("-10", "-2.35", "0", "6.2", "6.21", "40")}
     ends |= {text: ends[same] for text, same in {"+6.20": "6.2", "06.2": "6.2", "-0.00": "0", "40.0": "40"}.items()}
     values, made = [f"--esn0 {text}" for text in ends] + ["--esn0=-2.35"], [*ends.values(), ends["-2.35"]]
-    yield Effect("--esn0", "noise --seed 1 {} in out", dict(zip(values, made)), {"reads": {"in": SAMPLES}})
+    yield Effect("--esn0", "noise --seed 1 {} in out", dict(zip(values, made)), {"reads": {"in": symbols}})
 
 
 def scan_effects(two):
@@ -327,7 +328,7 @@ def record_effects(two, made):
 
 def demod_effects(two, pilots):
     words, end = f"{LINK} --pilots", "end frames 2 delivered {0} packets {0} bad 0\n"
-    none = received(NONE, FINE, b"", ["no frame since symbol 0", "16740 symbols skipped in 1 place, the first at 0", "no frame of QPSK 1/4, short in 16740 symbols: try s2 scan"])
+    none = received(NONE, FINE, b"", ["no frame since symbol 0", "16740 symbols skipped in 1 place, the first at 0", unfound(16740)])
     heard = received(TWO.replace("8190", "8370"))
     lost = received(Rule("lost frames", lambda got: got.decode().endswith(end.format(0))), NO, b"", [UNDECODED])
     yield Effect("--pilots", f"demod {LINK} --number 7 {{}} made in out", {"": none, "--pilots": heard}, {"reads": {"in": pilots}})
@@ -390,7 +391,7 @@ def run_effects(report, others):
     yield Effect("--pilots", f"run {LINK} --seed 1 --level 0 {{}} made packets out", {"": WELL, "--pilots": received(TWO.replace("8190", "8370"))})
     apart = received(TWO.replace("8190", "11520"))
     yield Effect("--dummy", f"run {LINK} --seed 1 --level 0 {{}} made packets out", by_default("--dummy", 0, 1, WELL, apart))
-    none = ["16380 symbols skipped in 1 place, the first at 0", "no frame of QPSK 1/4, short in 16380 symbols: try s2 scan"]
+    none = ["16380 symbols skipped in 1 place, the first at 0", unfound(16380)]
     ends = {"": received(NONE, FINE, b"", none), "--strict": received(NONE, NO, b"", none)}
     yield Effect("--strict", f"run {LINK} --seed 1 --level 65535 {{}} made packets out", ends)
     # 13 to 30 bits of the second header are wrong

@@ -5,7 +5,7 @@ import struct
 from dataclasses import replace
 
 from cases import about, records
-from cases.common import FAULT, LINK, PACKET, STORED_CERTIFICATE, TWO, WANTED, Case, fault, noted
+from cases.common import FAULT, LINK, PACKET, STORED_CERTIFICATE, TWO, WANTED, Case, fault, noted, unfound
 
 FACTOR, BITS, FRAME, HEADER = 6364136223846793005, 16200, records.FRAME, 90
 SOLE, END = 0, 4
@@ -89,7 +89,7 @@ def piece_cases(two, made):
         yield case(f"--piece {first}..{stop}", nothing + line(first, stop, 0, 0), end_record(begun, stop) if stop > first else b"", symbols)
         yield case(f"--piece {first}..{stop} --last", nothing + line(first, stop, 1, 0), b"", symbols)
     # notes count from the beginning of the piece
-    skipped = noted("8281 symbols skipped in 1 place, the first at 0", "no frame of QPSK 1/4, short in 8281 symbols: try s2 scan")
+    skipped = noted("8281 symbols skipped in 1 place, the first at 0", unfound(8281))
     yield case("--piece 7..9000", nothing + line(7, 9000, 0, 0), end_record(begun, 9000), bytes(4 * 8281), errors=skipped)
     # certificates are in the records, and no other file is written, not even opened
     named = " ".join(f"{option} old" for option in (*records.OPTIONS, "--about"))

@@ -1,7 +1,8 @@
 """The figures of a frame, computed independently from its symbols, its soft values and its decided word: docs/formats.md describes them, and
-EN 302 307-1 the frame (5.3.3, 5.4, 5.5)."""
+EN 302 307-1 the frame (5.3.3, 5.4, 5.5). The equalizer is that of cases/equalized.py."""
 from dataclasses import dataclass
 
+from cases.equalized import equalized, gains_of, smoothed, turn_of
 from dummy import bpsk, header, quarter_turns
 
 HEADER, SLOT, PILOTS, BETWEEN, DIAGONAL, AXIS = 90, 90, 36, 16, 700, 990
@@ -10,6 +11,9 @@ QPSK = [(i, q) for i in (DIAGONAL, -DIAGONAL) for q in (DIAGONAL, -DIAGONAL)]
 PSK = [(DIAGONAL, DIAGONAL), (AXIS, 0), (-AXIS, 0), (-DIAGONAL, -DIAGONAL), (0, AXIS), (DIAGONAL, -DIAGONAL), (-DIAGONAL, DIAGONAL), (0, -AXIS)]
 TURNED = [lambda i, q: (i, q), lambda i, q: (-q, i), lambda i, q: (-i, -q), lambda i, q: (q, -i)]
 NAMES = ("header", "changed", "rounds", *(f"{part}{name}" for part in ("known", "payload") for name in ("", "_power", "_along", "_across")))
+
+# After the equalizer: the gain of the channel at the header, and the rotation from a pilot block to the next.
+LEVELS = ("gain_along", "gain_across", "rotation_along", "rotation_across")
 
 
 @dataclass(frozen=True)
@@ -30,9 +34,11 @@ class Mode:
     def payload(self):
         return self.bits() // self.width()
 
+    def blocks(self):
+        return (self.payload() // SLOT - 1) // BETWEEN * self.pilots
+
     def known(self):
-        blocks = (self.payload() // SLOT - 1) // BETWEEN
-        return HEADER + PILOTS * blocks * self.pilots
+        return HEADER + PILOTS * self.blocks()
 
     def size(self):
         return self.known() + self.payload()
@@ -82,13 +88,22 @@ class Frames:
         decided = [(i + q < 0) if at % 2 == 0 else (q - i < 0) for at, (i, q) in enumerate(symbols[:HEADER])]
         return sum(one != bool(other) for one, other in zip(decided, self.bits))
 
-    def figures(self, symbols, soft, word):
-        """All figures but the rounds."""
+    def equalized(self, symbols, sent):
+        """The symbols after the equalizer, the gain at the header and the rotation from a pilot block to the next."""
+        gains = list(gains_of(symbols, sent, self.mode.blocks()))
+        gain, turn = smoothed(gains)[0], turn_of(gains)
+        return equalized(symbols, sent, self.mode.blocks()), dict(zip(LEVELS, (gain.re, gain.im, turn.re, turn.im)))
+
+    def figures(self, symbols, soft, word, equalizes=False):
+        """All figures but the rounds. If an equalizer is used, they are those of the symbols after it."""
+        sent, levels = self.sent(word), {}
+        if equalizes:
+            symbols, levels = self.equalized(symbols, [point for point, _ in sent])
         found = {"header": self.wrong(symbols), "changed": sum((value < 0) != bool(bit) for value, bit in zip(soft, word, strict=True))}
-        pairs = [*zip((complex(*it) for it in symbols), self.sent(word), strict=True)]
+        pairs = [*zip((complex(*it) for it in symbols), sent, strict=True)]
         for part in ("known", "payload"):
             found |= correlated(part, [(r, complex(*s)) for r, (s, known) in pairs if known == (part == "known")])
-        return found
+        return found | levels
 
 
 def clean(mode):
@@ -106,7 +121,8 @@ def unpacked(codeword):
 
 def words(figures):
     """What a frame's line has of its figures."""
-    return "".join(f" {name.rpartition('_')[2]} {figures[name]}" for name in NAMES)
+    levels = " gain along {gain_along} across {gain_across} rotation along {rotation_along} across {rotation_across}"
+    return "".join(f" {name.rpartition('_')[2]} {figures[name]}" for name in NAMES) + (levels.format(**figures) if LEVELS[0] in figures else "")
 
 
 def sums(mode, lines):

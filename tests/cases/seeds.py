@@ -18,7 +18,7 @@ RANGES = [
 END = re.compile(rb"^end frames (\d+) delivered (\d+) packets (\d+) bad (\d+)", re.M)
 NOTES = {
     "skipped": re.compile(rb"s2: note: (\d+) symbols? skipped in (\d+) places?, the first at (\d+)\n"),
-    "none": re.compile(rb"(s2: note: no frame of .* in )(\d+)( symbols: try s2 scan\n)"),
+    "none": re.compile(rb"(s2: note: no frame of .* in )(\d+)( symbols: try s2 scan, or tools/receive for floats and 8-bit samples\n)"),
     "incomplete": re.compile(rb"s2: note: (\d+) packets? incomplete\n"),
     "refused": re.compile(rb"s2: note: of (\d+) lost frames? (\d+) had a BCH word whose header is refused\n"),
     "amplitude": re.compile(rb"s2: note: the headers' amplitude, noise included, is (\d+), not 990: use --gain \d+\.\d{4} of tools/convert, or --equalize\n"),

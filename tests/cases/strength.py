@@ -17,4 +17,4 @@ def line(recording, order, name):
 
 
 def nothing_found(recording):
-    return "nothing found\n" + line(recording, ">", "big") + line(recording, "<", "little")
+    return "nothing found\n" + line(recording, ">", "big") + line(recording, "<", "little") + "try tools/receive for floats and 8-bit samples\n"

@@ -23,8 +23,7 @@ SHORT = [
 DEFINED = {
     "s2_tuning/specs/Best.antt": {"best_max_header_errors": LOCK},
     "s2_settle/specs/Plain.antt": {
-        "settling_scale": 16, "first_margin": 256, "full_passes": 2, "fall_part": 320, "least_fall": 12, "max_fall": 64,
-        "bits_a_few": 200, "first_end": 3, "growth_part": 64, "max_served": 4000,
+        "settling_scale": 16, "bits_a_few": 200, "first_end": 2, "max_growth": 24,
     },
 }  # fmt: skip
 
@@ -32,7 +31,7 @@ DEFINED = {
 BEST = "s2_tuning/specs/Best.antt"
 
 # QPSK 1/3, short frames, rows of weight 4: seed and level of the noise, and a number of passes that certifies fewer frames than 96 do.
-PASSING = [(1, 860, 48)]
+PASSING = [(4, 872, 48)]
 PASSING_ROWS = made_rows(360, 15, 30, 4, 1)
 
 

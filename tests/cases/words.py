@@ -100,7 +100,7 @@ The last line:
   s2 demod receives none of these     only 16APSK, 32APSK or dummy frames were found
   nothing found                       no header is repeated one frame later: try a longer recording
 
-After nothing found, a line for each byte order:
+After nothing found, a line for each byte order, and then one that names tools/receive, for floats and 8-bit samples:
   symbols N                  number of symbols examined: all, or the first 4194304
   rms R                      the root of their mean power; `mod` sends 990
   clipped C                  number of symbols with a component of -32768, -32767 or 32767: the receiver's input may be too strong

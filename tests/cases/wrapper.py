@@ -174,7 +174,7 @@ def soft_of(number):
 
 def try_frames():
     """Frames, their records and their order."""
-    receiver = sembarohy.Receiver(code_of(), 7, figures=True)
+    receiver = sembarohy.Receiver(code_of(), 7, figures=True, equalize=True)
     judge("missing at first", 10, receiver.missing)
     judge("less than a step", [], list(receiver.feed(bytes(38))))
     judge("missing then", 1, receiver.missing)
@@ -191,12 +191,14 @@ def try_frames():
         certificate = bytes((5 * number + place) % 256 for place in range(600000))
         judge(f"certificate of frame {number}", certificate if frame.verdict in ("sole", "most-likely") else None, frame.certificate)
         judge(f"packets of frame {number}", bytes((number + place) % 256 for place in range(188 * number)), frame.packets)
-        judge(f"figures of frame {number}", [number + it for it in range(1, 10)] + [-number - 10, -number - 11, number + 12, -number - 13, -number - 14], figures_in_order(frame.figures))
+        wanted = [number + it for it in range(1, 10)] + [-number - 10, -number - 11, number + 12, -number - 13, -number - 14]
+        judge(f"figures of frame {number}", [*wanted, True, number + 15, -number - 16, -number - 17, number + 18], figures_in_order(frame.figures))
     judge("numbers of frames", [1, 2, 3, 4, 5], numbers)
 
 
 def figures_in_order(figures):
-    names = "header rounds changed changed_of known known_of payload payload_of known_power known_along known_across payload_power payload_along payload_across"
+    names = "header rounds changed changed_of known known_of payload payload_of known_power known_along known_across payload_power payload_along "
+    names += "payload_across equalized gain_along gain_across rotation_along rotation_across"
     return [getattr(figures, name) for name in names.split()]
 
 
@@ -235,11 +237,13 @@ def try_receiver():
     first, second = kept.feed(symbols_of([1, 3], [1, 0]))
     judge("records that are kept", (soft_of(1), soft_of(2), 600000, None), (plain(first.soft), plain(second.soft), len(first.certificate), second.certificate))
     judge("one that is not", "RuntimeError", refusal(lambda: first.word).partition(":")[0])
+    judge("figures without the equalizer", [False, 0, 0, 0, 0], figures_in_order(first.figures)[-5:])
     judge("sums", 1001, kept.sums.header)
     kept.end()
     judge("an ended receiver", ["Error: text of -2"] * 3, [refusal(lambda: kept.totals), refusal(kept.reset), refusal(lambda: list(kept.feed(bytes(40))))])
     line = "frame 1 at 0 sole fixed 4 header 2 changed 4 rounds 3 known 6 power 10 along -11 across -12 payload 8 power 13 along -14 across -15"
-    judge("a line with figures", [line], [str(it) for it in sembarohy.Receiver(code_of(), 7, figures=True).feed(symbols_of([1, 3, 0, 4]))])
+    told = [str(frame) for on in (False, True) for frame in sembarohy.Receiver(code_of(), 7, figures=True, equalize=on).feed(symbols_of([1, 3, 0, 4]))]
+    judge("lines with figures", [line, f"{line} gain along 16 across -17 rotation along -18 across 19"], told)
 
 
 def packets_of(count):

@@ -53,6 +53,9 @@ static void put_figures(s2_handle *rx) {
     printf(" header %" PRIu32 " changed %" PRIu64 " rounds %" PRIu32, f.header, f.changed, f.rounds);
     printf(" known %" PRIu64 " power %" PRIu64 " along %" PRId64 " across %" PRId64, f.known, f.known_power, f.known_along, f.known_across);
     printf(" payload %" PRIu64 " power %" PRIu64 " along %" PRId64 " across %" PRId64, f.payload, f.payload_power, f.payload_along, f.payload_across);
+    if (!f.equalized) return;
+    printf(" gain along %" PRId64 " across %" PRId64, f.gain_along, f.gain_across);
+    printf(" rotation along %" PRId64 " across %" PRId64, f.rotation_along, f.rotation_across);
 }
 
 static void put_sums(s2_handle *rx) {

@@ -167,7 +167,7 @@ static void try_receiver(s2_handle *rx) {
     IS(s2_receiver_certificate(rx, big, sizeof big, &count), S2_NONE_THERE);
     IS(s2_receiver_figures(rx, &figures), S2_NONE_THERE);
     IS(s2_receiver_sums(rx, &figures), S2_NONE_THERE);
-    figures.size = 111;
+    figures.size = 112;
     IS(s2_receiver_figures(rx, &figures), S2_BAD_SIZE);
     IS(s2_receiver_sums(rx, &figures), S2_BAD_SIZE);
     IS(s2_receiver_totals(rx, &totals), S2_BAD_SIZE);

@@ -190,11 +190,12 @@ Notes, on standard error:
   no frame since symbol E                              printed by `demod` at once, if there is none for a frame's length
   frames again from symbol S                           printed when the next frame is found
   N symbols skipped in M places, the first at S        they are part of no frame: symbols were inserted, or headers were lost
-  no frame of MODE in N symbols: try s2 scan           the recording may have another mode, byte order, sample format or rotation
+  no frame of MODE in N symbols: try s2 scan, or tools/receive for floats and 8-bit samples    the recording may have another mode, byte order, sample format or rotation
   N packets incomplete                                 they began, but a frame with the rest is missing or was not delivered
   of N lost frames M had a BCH word whose header is refused    decoded, but not a transport stream (a generic stream? another format?)
   the headers' amplitude, noise included, is A, not 990: use --gain G of tools/convert, or --equalize    no frame is delivered, and the amplitude is off by 1.5 dB or more
-  headers are right but no frame is decoded: another scrambling number or other rows? try s2 scan    the amplitude is as expected
+  headers are right but no frame is decoded: another scrambling number, other rows, or a phase or carrier error: try --equalize, or s2 scan    the amplitude is as expected
+  headers are right but no frame is decoded: another scrambling number or other rows? try s2 scan    the same with --equalize
   L of F frames lost: try --tuned                      the settings of --tuned deliver frames at a lower Es/N0
   a frame's length was skipped after a frame: try --turns, the carrier may have slipped    printed by `demod`: frames may go on in another rotation
 ",
@@ -266,7 +267,7 @@ The last line:
   s2 demod receives none of these     only 16APSK, 32APSK or dummy frames were found
   nothing found                       no header is repeated one frame later: try a longer recording
 
-After nothing found, a line for each byte order:
+After nothing found, a line for each byte order, and then one that names tools/receive, for floats and 8-bit samples:
   symbols N                  number of symbols examined: all, or the first 4194304
   rms R                      the root of their mean power; `mod` sends 990
   clipped C                  number of symbols with a component of -32768, -32767 or 32767: the receiver's input may be too strong

@@ -38,7 +38,7 @@ use Rattle.s2_audit.specs.declared.place.Place.{Place}
 
 -- ---- the next line of the report
 
--- the next line has its LF and cannot be read; or no LF follows, at the end or after 511 bytes
+-- the next line has its LF and cannot be read; or no LF follows, at the end or after 639 bytes
 abbrev pub IsUnreadable : Option (List ℕ) → Option (List ℕ) → Type 0
 IsUnreadable old new =
     (line : List ℕ) × IsLine line

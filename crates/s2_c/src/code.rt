@@ -5,7 +5,7 @@ ghost use Rattle.s2_library.specs.declared.slot.Slot.{Slot};
 ghost use Rattle.s2_library.specs.Codes.{GivesFacts, code_in};
 ghost use Rattle.s2_library.specs.Copying.{Copies};
 ghost use Rattle.s2_library.specs.Refusals.{GivesMode, MakesCode, MakesShapeCode};
-ghost use Rattle.s2_library.specs.Results.{answer_of};
+ghost use Rattle.s2_library.specs.Results.{answer_of, number_of};
 ghost use Rattle.s2_library.specs.Shelves.{IsNewShelf, ShelvesOf};
 ghost use Rattle.s2_library.specs.Texts.{result_text};
 ghost use Rattle.s2_c.specs.Handles.{Fills, Makes};
@@ -20,15 +20,16 @@ use std::alloc::Global;
 /// The version of the library.
 #[unsafe(no_mangle)]
 pub extern "C" fn s2_version() -> u32
-    ensures { result ≡ 1 }
+    ensures { result ≡ 2 }
 {
-    1
+    2
 }
 
 /// Copies the text of a result.
 #[unsafe(no_mangle)]
 pub extern "C" fn s2_error_text(number: i32, out: &mut [u8], count: &mut usize) -> i32
-    ensures { Copies (result_text number) out.old out.new count.new (answer_of result) }
+    ensures answer { Copies (result_text number) out.old out.new count.new (answer_of result) }
+    ensures number { result ≡ number_of (answer_of result) }
 {
     result_number(error_text(number, out, count))
 }
@@ -41,7 +42,8 @@ pub extern "C" fn s2_mode_of(
     has_pilots: u32,
     mode: &mut ModeFields,
 ) -> i32
-    ensures { GivesMode modcod is_short has_pilots mode.old mode.new (answer_of result) }
+    ensures answer { GivesMode modcod is_short has_pilots mode.old mode.new (answer_of result) }
+    ensures number { result ≡ number_of (answer_of result) }
 {
     result_number(mode_fields(modcod, is_short, has_pilots, mode))
 }
@@ -55,7 +57,8 @@ pub extern "C" fn s2_code_new(
     is_short: u32,
     code: &mut Handle,
 ) -> i32
-    ensures { Fills (MakesCode text.now modcod is_short) code.old.cell.value code.new.cell.value (answer_of result) }
+    ensures answer { Fills (MakesCode text.now modcod is_short) code.old.cell.value code.new.cell.value (answer_of result) }
+    ensures number { result ≡ number_of (answer_of result) }
 {
     if code.live != 0 {
         return Refusal::InUse.number();
@@ -73,7 +76,8 @@ pub extern "C" fn s2_code_of_shape(
     q: u32,
     code: &mut Handle,
 ) -> i32
-    ensures { Fills (MakesShapeCode text.now (shape_of group groups q)) code.old.cell.value code.new.cell.value (answer_of result) }
+    ensures answer { Fills (MakesShapeCode text.now (shape_of group groups q)) code.old.cell.value code.new.cell.value (answer_of result) }
+    ensures number { result ≡ number_of (answer_of result) }
 {
     if code.live != 0 {
         return Refusal::InUse.number();
@@ -93,6 +97,7 @@ pub extern "C" fn s2_code_facts(
     ensures empty { code.old.cell.value ≡ None → (answer_of result ≡ Err Refusal.Empty) × (n.new ≡ n.old) × (k.new ≡ k.old) × (is_standard.new ≡ is_standard.old) }
     ensures full { (s : Slot) → code.old.cell.value ≡ Some s → GivesFacts (code_in s) n.old n.new k.old k.new is_standard.old is_standard.new (answer_of result) }
     ensures kept { code.new.cell.value ≡ code.old.cell.value }
+    ensures number { result ≡ number_of (answer_of result) }
 {
     let Some(slot) = code.open(alloc) else {
         return Refusal::Empty.number();
@@ -105,7 +110,8 @@ pub extern "C" fn s2_code_facts(
 /// Makes an empty shelf.
 #[unsafe(no_mangle)]
 pub extern "C" fn s2_shelf_new(alloc: Global, shelf: &mut Handle) -> i32
-    ensures { Fills (Makes IsNewShelf) shelf.old.cell.value shelf.new.cell.value (answer_of result) }
+    ensures answer { Fills (Makes IsNewShelf) shelf.old.cell.value shelf.new.cell.value (answer_of result) }
+    ensures number { result ≡ number_of (answer_of result) }
 {
     if shelf.live != 0 {
         return Refusal::InUse.number();
@@ -125,8 +131,9 @@ pub extern "C" fn s2_shelf_code(
 ) -> i32
     ensures empty { shelf.old.cell.value ≡ None → code.old.cell.value ≡ None → (answer_of result ≡ Err Refusal.Empty) × (code.new.cell.value ≡ None) }
     ensures made { (s t : Slot) → shelf.old.cell.value ≡ Some s → shelf.new.cell.value ≡ Some t → Fills (ShelvesOf text.now modcod is_short s t) code.old.cell.value code.new.cell.value (answer_of result) }
-    ensures in_use { code.old.cell.value ≢ None → shelf.new.cell.value ≡ shelf.old.cell.value }
+    ensures in_use { code.old.cell.value ≢ None → (answer_of result ≡ Err Refusal.InUse) × (code.new.cell.value ≡ code.old.cell.value) × (shelf.new.cell.value ≡ shelf.old.cell.value) }
     ensures kept { (shelf.new.cell.value ≡ None) ↔ (shelf.old.cell.value ≡ None) }
+    ensures number { result ≡ number_of (answer_of result) }
 {
     if code.live != 0 {
         return Refusal::InUse.number();

@@ -1,6 +1,6 @@
 //! Handles.
 ghost use Rattle.std.specs.Prelude.{◌≡◌, ◌↔◌, None, Some, MatchOption};
-ghost use Rattle.s2_library.specs.Results.{answer_of};
+ghost use Rattle.s2_library.specs.Results.{answer_of, number_of};
 ghost use Rattle.s2_c.specs.Handles.{Fills};
 
 use crate::cell::Cell;
@@ -43,7 +43,8 @@ impl Handle {
 /// Puts a new slot into an empty handle, and returns the number of the result.
 pub(crate) fn fill(alloc: Global, made: Result<Slot, Refusal>, handle: &mut Handle) -> i32
     requires { handle.old.cell.value ≡ None }
-    ensures { Fills (λ answer. answer ≡ made) None handle.new.cell.value (answer_of result) }
+    ensures answer { Fills (λ answer. answer ≡ made) None handle.new.cell.value (answer_of result) }
+    ensures number { result ≡ number_of (answer_of result) }
 {
     match made {
         Ok(slot) => match Box::new(alloc, slot) {

@@ -4,7 +4,7 @@ ghost use Rattle.s2_library.specs.declared.slot.Slot.{Slot};
 ghost use Rattle.s2_library.specs.Checked.{ChecksFile};
 ghost use Rattle.s2_library.specs.Codes.{code_in};
 ghost use Rattle.s2_library.specs.Refusals.{MakesJudge};
-ghost use Rattle.s2_library.specs.Results.{answer_of};
+ghost use Rattle.s2_library.specs.Results.{answer_of, number_of};
 ghost use Rattle.s2_library.specs.Copying.{digits_of};
 ghost use Rattle.s2_library.specs.Slots.{CopiesMadeOf, CopiesOf, DecidesOnOf, decided_file, judge_in, listed};
 ghost use Rattle.s2_c.specs.Handles.{Fills, MakesOf};
@@ -26,6 +26,7 @@ pub extern "C" fn s2_judge_new(
 ) -> i32
     ensures made { Fills (MakesOf code.old.cell.value (λ s made. MakesJudge (code_in s) options.now made)) judge.old.cell.value judge.new.cell.value (answer_of result) }
     ensures kept { code.new.cell.value ≡ code.old.cell.value }
+    ensures number { result ≡ number_of (answer_of result) }
 {
     if judge.live != 0 {
         return Refusal::InUse.number();
@@ -49,6 +50,7 @@ pub extern "C" fn s2_judge_decide(
     ensures empty { judge.old.cell.value ≡ None → (answer_of result ≡ Err Refusal.Empty) × (verdict.new ≡ verdict.old) }
     ensures full { (s t : Slot) → judge.old.cell.value ≡ Some s → judge.new.cell.value ≡ Some t → DecidesOnOf s t soft.now verdict.old verdict.new (answer_of result) }
     ensures kept { (judge.new.cell.value ≡ None) ↔ (judge.old.cell.value ≡ None) }
+    ensures number { result ≡ number_of (answer_of result) }
 {
     let Some(mut slot) = judge.open(alloc) else {
         return Refusal::Empty.number();
@@ -69,6 +71,7 @@ pub extern "C" fn s2_judge_word(
     ensures empty { judge.old.cell.value ≡ None → (answer_of result ≡ Err Refusal.Empty) × (out.new ≡ out.old) × (count.new ≡ count.old) }
     ensures full { (s : Slot) → judge.old.cell.value ≡ Some s → CopiesOf (listed (λ j. digits_of j.bits) (judge_in s)) out.old out.new count.old count.new (answer_of result) }
     ensures kept { judge.new.cell.value ≡ judge.old.cell.value }
+    ensures number { result ≡ number_of (answer_of result) }
 {
     let Some(slot) = judge.open(alloc) else {
         return Refusal::Empty.number();
@@ -89,6 +92,7 @@ pub extern "C" fn s2_judge_certificate(
     ensures empty { judge.old.cell.value ≡ None → (answer_of result ≡ Err Refusal.Empty) × (out.new ≡ out.old) × (count.new ≡ count.old) }
     ensures full { (s : Slot) → judge.old.cell.value ≡ Some s → CopiesMadeOf (decided_file (judge_in s)) out.old out.new count.old count.new (answer_of result) }
     ensures kept { judge.new.cell.value ≡ judge.old.cell.value }
+    ensures number { result ≡ number_of (answer_of result) }
 {
     let Some(slot) = judge.open(alloc) else {
         return Refusal::Empty.number();
@@ -109,6 +113,7 @@ pub extern "C" fn s2_check(
     ensures empty { code.old.cell.value ≡ None → (answer_of result ≡ Err Refusal.Empty) × (checked.new ≡ checked.old) }
     ensures full { (s : Slot) → code.old.cell.value ≡ Some s → ChecksFile (code_in s) bytes.now checked.old checked.new (answer_of result) }
     ensures kept { code.new.cell.value ≡ code.old.cell.value }
+    ensures number { result ≡ number_of (answer_of result) }
 {
     let Some(slot) = code.open(alloc) else {
         return Refusal::Empty.number();

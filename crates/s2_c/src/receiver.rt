@@ -3,7 +3,7 @@ ghost use Rattle.std.specs.Prelude.{◌≡◌, ◌↔◌, None, Some, Err, nat_e
 ghost use Rattle.s2_library.specs.declared.slot.Slot.{Slot};
 ghost use Rattle.s2_library.specs.Codes.{code_in};
 ghost use Rattle.s2_library.specs.Refusals.{MakesReceiver};
-ghost use Rattle.s2_library.specs.Results.{answer_of};
+ghost use Rattle.s2_library.specs.Results.{answer_of, number_of};
 ghost use Rattle.s2_library.specs.Copying.{digits_of};
 ghost use Rattle.s2_library.specs.Fields as fields;
 ghost use Rattle.s2_c.specs.Handles.{Fills, MakesOf};
@@ -27,6 +27,7 @@ pub extern "C" fn s2_receiver_new(
 ) -> i32
     ensures made { Fills (MakesOf code.old.cell.value (λ s made. MakesReceiver (code_in s) options.now made)) receiver.old.cell.value receiver.new.cell.value (answer_of result) }
     ensures kept { code.new.cell.value ≡ code.old.cell.value }
+    ensures number { result ≡ number_of (answer_of result) }
 {
     if receiver.live != 0 {
         return Refusal::InUse.number();
@@ -45,6 +46,7 @@ pub extern "C" fn s2_receiver_reset(alloc: Global, receiver: &mut Handle) -> i32
     ensures empty { receiver.old.cell.value ≡ None → answer_of result ≡ Err Refusal.Empty }
     ensures full { (s t : Slot) → receiver.old.cell.value ≡ Some s → receiver.new.cell.value ≡ Some t → ResetsSlot s t (answer_of result) }
     ensures kept { (receiver.new.cell.value ≡ None) ↔ (receiver.old.cell.value ≡ None) }
+    ensures number { result ≡ number_of (answer_of result) }
 {
     let Some(mut slot) = receiver.open(alloc) else {
         return Refusal::Empty.number();
@@ -60,6 +62,7 @@ pub extern "C" fn s2_receiver_room(alloc: Global, receiver: &mut Handle, bytes: 
     ensures empty { receiver.old.cell.value ≡ None → (answer_of result ≡ Err Refusal.Empty) × (bytes.new ≡ bytes.old) }
     ensures full { (s : Slot) → receiver.old.cell.value ≡ Some s → Gives (room_in (receiver_in s)) bytes.old bytes.new (answer_of result) }
     ensures kept { receiver.new.cell.value ≡ receiver.old.cell.value }
+    ensures number { result ≡ number_of (answer_of result) }
 {
     let Some(slot) = receiver.open(alloc) else {
         return Refusal::Empty.number();
@@ -80,6 +83,7 @@ pub extern "C" fn s2_receiver_advance(
     ensures empty { receiver.old.cell.value ≡ None → (answer_of result ≡ Err Refusal.Empty) × (step.new ≡ step.old) }
     ensures full { (s t : Slot) → receiver.old.cell.value ≡ Some s → receiver.new.cell.value ≡ Some t → AdvancesSlot s t symbols.now step.old step.new (answer_of result) }
     ensures kept { (receiver.new.cell.value ≡ None) ↔ (receiver.old.cell.value ≡ None) }
+    ensures number { result ≡ number_of (answer_of result) }
 {
     let Some(mut slot) = receiver.open(alloc) else {
         return Refusal::Empty.number();
@@ -100,6 +104,7 @@ pub extern "C" fn s2_receiver_packets(
     ensures empty { receiver.old.cell.value ≡ None → (answer_of result ≡ Err Refusal.Empty) × (out.new ≡ out.old) × (count.new ≡ count.old) }
     ensures full { (s : Slot) → receiver.old.cell.value ≡ Some s → CopiesOf (listed (λ r. r.packets) (receiver_in s)) out.old out.new count.old count.new (answer_of result) }
     ensures kept { receiver.new.cell.value ≡ receiver.old.cell.value }
+    ensures number { result ≡ number_of (answer_of result) }
 {
     let Some(slot) = receiver.open(alloc) else {
         return Refusal::Empty.number();
@@ -120,6 +125,7 @@ pub extern "C" fn s2_receiver_soft(
     ensures empty { receiver.old.cell.value ≡ None → (answer_of result ≡ Err Refusal.Empty) × (out.new ≡ out.old) × (count.new ≡ count.old) }
     ensures full { (s : Slot) → receiver.old.cell.value ≡ Some s → CopiesOf (listed (λ r. r.last.soft) (receiver_in s)) out.old out.new count.old count.new (answer_of result) }
     ensures kept { receiver.new.cell.value ≡ receiver.old.cell.value }
+    ensures number { result ≡ number_of (answer_of result) }
 {
     let Some(slot) = receiver.open(alloc) else {
         return Refusal::Empty.number();
@@ -140,6 +146,7 @@ pub extern "C" fn s2_receiver_word(
     ensures empty { receiver.old.cell.value ≡ None → (answer_of result ≡ Err Refusal.Empty) × (out.new ≡ out.old) × (count.new ≡ count.old) }
     ensures full { (s : Slot) → receiver.old.cell.value ≡ Some s → CopiesOf (listed (λ r. digits_of r.last.bits) (receiver_in s)) out.old out.new count.old count.new (answer_of result) }
     ensures kept { receiver.new.cell.value ≡ receiver.old.cell.value }
+    ensures number { result ≡ number_of (answer_of result) }
 {
     let Some(slot) = receiver.open(alloc) else {
         return Refusal::Empty.number();
@@ -160,6 +167,7 @@ pub extern "C" fn s2_receiver_bbframe(
     ensures empty { receiver.old.cell.value ≡ None → (answer_of result ≡ Err Refusal.Empty) × (out.new ≡ out.old) × (count.new ≡ count.old) }
     ensures full { (s : Slot) → receiver.old.cell.value ≡ Some s → CopiesMadeOf (bbframe_in (reception_in s)) out.old out.new count.old count.new (answer_of result) }
     ensures kept { receiver.new.cell.value ≡ receiver.old.cell.value }
+    ensures number { result ≡ number_of (answer_of result) }
 {
     let Some(slot) = receiver.open(alloc) else {
         return Refusal::Empty.number();
@@ -180,6 +188,7 @@ pub extern "C" fn s2_receiver_certificate(
     ensures empty { receiver.old.cell.value ≡ None → (answer_of result ≡ Err Refusal.Empty) × (out.new ≡ out.old) × (count.new ≡ count.old) }
     ensures full { (s : Slot) → receiver.old.cell.value ≡ Some s → CopiesMadeOf (received_file (receiver_in s)) out.old out.new count.old count.new (answer_of result) }
     ensures kept { receiver.new.cell.value ≡ receiver.old.cell.value }
+    ensures number { result ≡ number_of (answer_of result) }
 {
     let Some(slot) = receiver.open(alloc) else {
         return Refusal::Empty.number();
@@ -197,8 +206,9 @@ pub extern "C" fn s2_receiver_figures(
     figures: &mut FiguresFields,
 ) -> i32
     ensures empty { receiver.old.cell.value ≡ None → (answer_of result ≡ Err Refusal.Empty) × (figures.new ≡ figures.old) }
-    ensures full { (s : Slot) → receiver.old.cell.value ≡ Some s → GivesFieldsIf fields.figures_fields (last_figures (reception_in s)) (nat_eq figures.old.size 112) figures.old figures.new (answer_of result) }
+    ensures full { (s : Slot) → receiver.old.cell.value ≡ Some s → GivesFieldsIf fields.figures_fields (last_figures (reception_in s)) (nat_eq figures.old.size 144) figures.old figures.new (answer_of result) }
     ensures kept { receiver.new.cell.value ≡ receiver.old.cell.value }
+    ensures number { result ≡ number_of (answer_of result) }
 {
     let Some(slot) = receiver.open(alloc) else {
         return Refusal::Empty.number();
@@ -216,8 +226,9 @@ pub extern "C" fn s2_receiver_sums(
     figures: &mut FiguresFields,
 ) -> i32
     ensures empty { receiver.old.cell.value ≡ None → (answer_of result ≡ Err Refusal.Empty) × (figures.new ≡ figures.old) }
-    ensures full { (s : Slot) → receiver.old.cell.value ≡ Some s → GivesFieldsIf fields.sums_fields (sums_in (receiver_in s)) (nat_eq figures.old.size 112) figures.old figures.new (answer_of result) }
+    ensures full { (s : Slot) → receiver.old.cell.value ≡ Some s → GivesFieldsIf fields.sums_fields (sums_in (receiver_in s)) (nat_eq figures.old.size 144) figures.old figures.new (answer_of result) }
     ensures kept { receiver.new.cell.value ≡ receiver.old.cell.value }
+    ensures number { result ≡ number_of (answer_of result) }
 {
     let Some(slot) = receiver.open(alloc) else {
         return Refusal::Empty.number();
@@ -237,6 +248,7 @@ pub extern "C" fn s2_receiver_totals(
     ensures empty { receiver.old.cell.value ≡ None → (answer_of result ≡ Err Refusal.Empty) × (totals.new ≡ totals.old) }
     ensures full { (s : Slot) → receiver.old.cell.value ≡ Some s → GivesFields fields.totals_fields (totals_in (receiver_in s)) (nat_eq totals.old.size 120) totals.old totals.new (answer_of result) }
     ensures kept { receiver.new.cell.value ≡ receiver.old.cell.value }
+    ensures number { result ≡ number_of (answer_of result) }
 {
     let Some(slot) = receiver.open(alloc) else {
         return Refusal::Empty.number();

@@ -3,7 +3,7 @@ ghost use Rattle.std.specs.Prelude.{◌≡◌, ◌↔◌, None, Some, Err};
 ghost use Rattle.s2_library.specs.declared.slot.Slot.{Slot};
 ghost use Rattle.s2_library.specs.Codes.{code_in};
 ghost use Rattle.s2_library.specs.Refusals.{MakesSender};
-ghost use Rattle.s2_library.specs.Results.{answer_of};
+ghost use Rattle.s2_library.specs.Results.{answer_of, number_of};
 ghost use Rattle.s2_library.specs.Copying.{digits_of};
 ghost use Rattle.s2_library.specs.Slots.{ClosesStreamOf, CopiesOf, GivesCounts, GivesReady, PutsPacketsOf, RestartsOf, TakesFrameOf, listed, sender_in};
 ghost use Rattle.s2_c.specs.Handles.{Fills, MakesOf};
@@ -26,6 +26,7 @@ pub extern "C" fn s2_transmitter_new(
 ) -> i32
     ensures made { Fills (MakesOf code.old.cell.value (λ s made. MakesSender (code_in s) options.now made)) transmitter.old.cell.value transmitter.new.cell.value (answer_of result) }
     ensures kept { code.new.cell.value ≡ code.old.cell.value }
+    ensures number { result ≡ number_of (answer_of result) }
 {
     if transmitter.live != 0 {
         return Refusal::InUse.number();
@@ -49,6 +50,7 @@ pub extern "C" fn s2_transmitter_put(
     ensures empty { transmitter.old.cell.value ≡ None → (answer_of result ≡ Err Refusal.Empty) × (taken.new ≡ taken.old) }
     ensures full { (s t : Slot) → transmitter.old.cell.value ≡ Some s → transmitter.new.cell.value ≡ Some t → PutsPacketsOf s t bytes.now taken.old taken.new (answer_of result) }
     ensures kept { (transmitter.new.cell.value ≡ None) ↔ (transmitter.old.cell.value ≡ None) }
+    ensures number { result ≡ number_of (answer_of result) }
 {
     let Some(mut slot) = transmitter.open(alloc) else {
         return Refusal::Empty.number();
@@ -64,6 +66,7 @@ pub extern "C" fn s2_transmitter_close(alloc: Global, transmitter: &mut Handle) 
     ensures empty { transmitter.old.cell.value ≡ None → answer_of result ≡ Err Refusal.Empty }
     ensures full { (s t : Slot) → transmitter.old.cell.value ≡ Some s → transmitter.new.cell.value ≡ Some t → ClosesStreamOf s t (answer_of result) }
     ensures kept { (transmitter.new.cell.value ≡ None) ↔ (transmitter.old.cell.value ≡ None) }
+    ensures number { result ≡ number_of (answer_of result) }
 {
     let Some(mut slot) = transmitter.open(alloc) else {
         return Refusal::Empty.number();
@@ -83,6 +86,7 @@ pub extern "C" fn s2_transmitter_ready(
     ensures empty { transmitter.old.cell.value ≡ None → (answer_of result ≡ Err Refusal.Empty) × (is_ready.new ≡ is_ready.old) }
     ensures full { (s : Slot) → transmitter.old.cell.value ≡ Some s → GivesReady (sender_in s) is_ready.old is_ready.new (answer_of result) }
     ensures kept { transmitter.new.cell.value ≡ transmitter.old.cell.value }
+    ensures number { result ≡ number_of (answer_of result) }
 {
     let Some(slot) = transmitter.open(alloc) else {
         return Refusal::Empty.number();
@@ -103,6 +107,7 @@ pub extern "C" fn s2_transmitter_take(
     ensures empty { transmitter.old.cell.value ≡ None → (answer_of result ≡ Err Refusal.Empty) × (out.new ≡ out.old) × (count.new ≡ count.old) }
     ensures full { (s t : Slot) → transmitter.old.cell.value ≡ Some s → transmitter.new.cell.value ≡ Some t → TakesFrameOf s t out.old out.new count.old count.new (answer_of result) }
     ensures kept { (transmitter.new.cell.value ≡ None) ↔ (transmitter.old.cell.value ≡ None) }
+    ensures number { result ≡ number_of (answer_of result) }
 {
     let Some(mut slot) = transmitter.open(alloc) else {
         return Refusal::Empty.number();
@@ -123,6 +128,7 @@ pub extern "C" fn s2_transmitter_symbols(
     ensures empty { transmitter.old.cell.value ≡ None → (answer_of result ≡ Err Refusal.Empty) × (out.new ≡ out.old) × (count.new ≡ count.old) }
     ensures full { (s : Slot) → transmitter.old.cell.value ≡ Some s → CopiesOf (listed (λ t. t.unit) (sender_in s)) out.old out.new count.old count.new (answer_of result) }
     ensures kept { transmitter.new.cell.value ≡ transmitter.old.cell.value }
+    ensures number { result ≡ number_of (answer_of result) }
 {
     let Some(slot) = transmitter.open(alloc) else {
         return Refusal::Empty.number();
@@ -143,6 +149,7 @@ pub extern "C" fn s2_transmitter_word(
     ensures empty { transmitter.old.cell.value ≡ None → (answer_of result ≡ Err Refusal.Empty) × (out.new ≡ out.old) × (count.new ≡ count.old) }
     ensures full { (s : Slot) → transmitter.old.cell.value ≡ Some s → CopiesOf (listed (λ t. digits_of t.codeword) (sender_in s)) out.old out.new count.old count.new (answer_of result) }
     ensures kept { transmitter.new.cell.value ≡ transmitter.old.cell.value }
+    ensures number { result ≡ number_of (answer_of result) }
 {
     let Some(slot) = transmitter.open(alloc) else {
         return Refusal::Empty.number();
@@ -163,6 +170,7 @@ pub extern "C" fn s2_transmitter_counts(
     ensures empty { transmitter.old.cell.value ≡ None → (answer_of result ≡ Err Refusal.Empty) × (packets.new ≡ packets.old) × (frames.new ≡ frames.old) }
     ensures full { (s : Slot) → transmitter.old.cell.value ≡ Some s → GivesCounts (sender_in s) packets.old packets.new frames.old frames.new (answer_of result) }
     ensures kept { transmitter.new.cell.value ≡ transmitter.old.cell.value }
+    ensures number { result ≡ number_of (answer_of result) }
 {
     let Some(slot) = transmitter.open(alloc) else {
         return Refusal::Empty.number();
@@ -178,6 +186,7 @@ pub extern "C" fn s2_transmitter_reset(alloc: Global, transmitter: &mut Handle) 
     ensures empty { transmitter.old.cell.value ≡ None → answer_of result ≡ Err Refusal.Empty }
     ensures full { (s t : Slot) → transmitter.old.cell.value ≡ Some s → transmitter.new.cell.value ≡ Some t → RestartsOf s t (answer_of result) }
     ensures kept { (transmitter.new.cell.value ≡ None) ↔ (transmitter.old.cell.value ≡ None) }
+    ensures number { result ≡ number_of (answer_of result) }
 {
     let Some(mut slot) = transmitter.open(alloc) else {
         return Refusal::Empty.number();

@@ -17,7 +17,7 @@ use Rattle.s2_commands.specs.declared.choices.Channel.{Channel}
 use Rattle.s2_commands.specs.Links.{Begins, Causes}
 
 -- All symbols that were read, each with its noise. After a failed read, or at the limit, those that came before. After
--- a failed write all that were read but the last, and a part of the last one's bytes
+-- a failed write those before the block that was read last, and a part of this one's
 abbrev pub IsNoisy : Channel → Streams → Streams → Result Exit Fault → Type 0
 IsNoisy channel old new (Ok exit) =
     (exit ≡ exits.Fine)

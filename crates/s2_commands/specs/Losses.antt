@@ -51,7 +51,7 @@ skipped_note t =
 
 -- the end of the note that no frame was found: whether the mode has pilot blocks, the number of symbols, and advice
 unfoldable pub no_sync_end : Bool → ℕ → List ℕ
-no_sync_end pilots symbols = ((if pilots then codes ", pilots in " else codes " in ") ++ decimal symbols) ++ codes " symbols: try s2 scan\n"
+no_sync_end pilots symbols = ((if pilots then codes ", pilots in " else codes " in ") ++ decimal symbols) ++ codes " symbols: try s2 scan, or tools/receive for floats and 8-bit samples\n"
 
 -- no frame of a mode in N symbols
 abbrev pub no_sync_note : Mode → ℕ → List ℕ
@@ -120,13 +120,15 @@ is_proposed tuned t = not tuned && has_lost t
 abbrev pub is_undecoded : Totals → Bool
 is_undecoded t = not (nat_eq t.frames 0) && nat_eq t.delivered 0 && nat_eq t.refused 0 && is_usual (header_amplitude t)
 
--- the note of headers without a decoded frame
-abbrev pub headers_note : List ℕ
-headers_note = codes "s2: note: headers are right but no frame is decoded: another scrambling number or other rows? try s2 scan\n"
+-- the note of headers without a decoded frame: an equalizer has removed what a phase or a carrier error does
+unfoldable pub headers_note : (equalize : Bool) → List ℕ
+headers_note equalize =
+    codes "s2: note: headers are right but no frame is decoded: another scrambling number"
+    ++ (if equalize then codes " or other rows? try s2 scan\n" else codes ", other rows, or a phase or carrier error: try --equalize, or s2 scan\n")
 
 -- what to try after frames were lost
-abbrev pub advice : (tuned : Bool) → Totals → List ℕ
-advice tuned t = if is_undecoded t then headers_note else note_if (is_proposed tuned t) (tuned_note t)
+abbrev pub advice : (equalize tuned : Bool) → Totals → List ℕ
+advice equalize tuned t = if is_undecoded t then headers_note equalize else note_if (is_proposed tuned t) (tuned_note t)
 
 -- the carrier may have slipped: a frame's length or more was skipped, and not all of it before the first frame
 abbrev pub is_slipped : (slips : Bool) → Mode → Totals → Bool
@@ -138,7 +140,7 @@ slip_note = codes "s2: note: a frame's length was skipped after a frame: try --t
 
 -- the notes of a stream that was received to its end
 abbrev pub notes_of : NoteArguments → Mode → Received → List ℕ
-notes_of words m r = loss_notes m r ++ frame_notes words.equalize r.totals ++ advice words.tuned r.totals ++ note_if (is_slipped words.slips m r.totals) slip_note
+notes_of words m r = loss_notes m r ++ frame_notes words.equalize r.totals ++ advice words.equalize words.tuned r.totals ++ note_if (is_slipped words.slips m r.totals) slip_note
 
 -- The end of a command that received this, and its notes. If their writer failed, that is its fault
 abbrev pub Answered : NoteArguments → Mode → Result Received Fault → Result Exit Fault → List ℕ → Screen → Screen → Type 0

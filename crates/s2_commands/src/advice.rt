@@ -71,30 +71,36 @@ fn write_proposal<W: CountedWrite>(
     write_full(out, tuned_note(totals).as_bytes())
 }
 
-/// Writes the note of headers without a decoded frame.
-fn write_headers_note<W: CountedWrite>(out: &mut W) -> Result<(), WriteFault>
-    requires { CanCount (W.count out.old) }
-    ensures bytes { OnOk result (Appends (W.contents out.old) (W.contents out.new) headers_note) }
-    ensures cause { CountsFault (W.count out.old) (W.count out.new) result }
+/// The note of headers without a decoded frame. `equalize` says whether an equalizer was tried already.
+#[tactic(auto, unfolding(crate::specs::Losses::headers_note))]
+fn headers_note(equalize: bool) -> Line
+    ensures { result ≡ headers_note equalize }
 {
-    let note =
-        "s2: note: headers are right but no frame is decoded: another scrambling number or other rows? try s2 scan\n";
-    write_full(out, note.as_bytes())
+    let mut line = Line::new();
+    line.push("s2: note: headers are right but no frame is decoded: another scrambling number");
+    line.push(if equalize {
+        " or other rows? try s2 scan\n"
+    } else {
+        ", other rows, or a phase or carrier error: try --equalize, or s2 scan\n"
+    });
+    line
 }
 
 /// Writes the note on what to try, if frames were lost.
+#[tactic(auto, unfolding(crate::specs::Losses::headers_note))]
 pub(crate) fn write_advice<W: CountedWrite>(
+    equalize: bool,
     tuned: bool,
     totals: Totals,
     out: &mut W,
 ) -> Result<(), WriteFault>
     requires { CanCount (W.count out.old) }
-    ensures bytes { OnOk result (Appends (W.contents out.old) (W.contents out.new) (advice tuned totals)) }
-    ensures none { advice tuned totals ≡ [] → out.new ≡ out.old }
+    ensures bytes { OnOk result (Appends (W.contents out.old) (W.contents out.new) (advice equalize tuned totals)) }
+    ensures none { advice equalize tuned totals ≡ [] → out.new ≡ out.old }
     ensures cause { CountsFault (W.count out.old) (W.count out.new) result }
 {
     if is_undecoded(totals) {
-        return write_headers_note(out);
+        return write_full(out, headers_note(equalize).as_bytes());
     }
     write_proposal(tuned, totals, out)
 }

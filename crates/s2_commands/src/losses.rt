@@ -103,7 +103,7 @@ fn no_sync_end(pilots: bool, symbols: u64) -> Line
 {
     let mut line = Line::new();
     line.push_number(if pilots { ", pilots in " } else { " in " }, symbols);
-    line.push(" symbols: try s2 scan\n");
+    line.push(" symbols: try s2 scan, or tools/receive for floats and 8-bit samples\n");
     line
 }
 
@@ -194,7 +194,7 @@ fn write_notes<W: CountedWrite>(
 {
     write_loss_notes(mode, received, out)?;
     write_frame_notes(words.equalize, received.totals, out)?;
-    write_advice(words.tuned, received.totals, out)?;
+    write_advice(words.equalize, words.tuned, received.totals, out)?;
     write_if_slipped(words.slips, mode, received.totals, out)
 }
 

@@ -164,7 +164,7 @@ unfolding weights
 next_weights at n = refl
 
 module _ (q g : ℕ) (xs : List Complex) (some : 0 < length xs) (each : (k : ℕ) → k < length xs → complex_at xs k ≡ axis q g) (even : (h : ℕ) × (g * g ≡ h * 128)) where
-  turn_is : turn xs ≡ no_turn
+  pub turn_is : turn xs ≡ no_turn
   unfolding turn_sum
   turn_is =
       let n = length xs - 1 in

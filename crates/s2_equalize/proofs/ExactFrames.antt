@@ -14,11 +14,11 @@ use Rattle.s2_plframe.specs.Frame.{frame_symbol, frame_symbols, pilot, slot_symb
 use Rattle.s2_plframe.specs.Header.{header_bit, header_symbol}
 use Rattle.s2_equalize.specs.declared.complex.Complex.{Complex}
 use Rattle.s2_equalize.specs.Complex.{complex, complex_at, nearest, number_of, over, plus, scaled, times}
-use Rattle.s2_equalize.specs.Equalizer.{digits, equalized, equalized_symbol, factor_at, factors_of, fineness, frame_gains, limited, multiplied, reciprocal, stretch}
-use Rattle.s2_equalize.specs.Gains.{gains_of, known_frame, smoothed}
+use Rattle.s2_equalize.specs.Equalizer.{digits, equalized, equalized_symbol, factor_at, factors_of, fineness, frame_gains, limited, multiplied, reciprocal, removed, stretch}
+use Rattle.s2_equalize.specs.Gains.{gains_of, known_frame, no_turn, smoothed, turn}
 use Rattle.s2_equalize.specs.Laws.{ExactLaw, IsModerate, arrived}
 use Rattle.s2_equalize.proofs.Axes.{arrived_number, axis, axis_back, factor_back, signed}
-use Rattle.s2_equalize.proofs.Arriving.{arrived_at, gain_is, gains_long, sent_at, signed_size, smoothed_is, smoothed_long}
+use Rattle.s2_equalize.proofs.Arriving.{arrived_at, gain_is, gains_long, sent_at, signed_size, smoothed_is, smoothed_long, turn_is}
 use Rattle.s2_equalize.proofs.Corners.{IsCorner, header_corner, pilot_corner}
 use Rattle.s2_equalize.proofs.Exact.{component_back, nearest_whole}
 use Rattle.s2_equalize.proofs.Inverse.{Inverts, axis_digits, near_itself, reciprocal_axis}
@@ -170,6 +170,16 @@ module _ (m : Mode) (number gain q : ℕ) (payload : List Symbol) (is : IsMode m
       let long : length sent ≡ symbols_in m = length-map-range_with_len (frame_symbol m number payload) 0 (symbols_in m) in
       sym (fill_by_all (equalized_symbol gains came) sent (symbols_in m) (symbol (pos 0) (pos 0)) long (λ i lt. sym (symbol_back i lt)))
 
+  -- nothing is taken out but the gain
+  pub frame_removed : removed m number came ≡ record { gain = axis q g; rotation = no_turn }
+  unfolding removed
+  frame_removed =
+      let xs = gains_of came (known_frame m number) (pilot_blocks_of m) in
+      let long = gains_long m number gain q payload is some few in
+      let rotation : turn xs ≡ no_turn = turn_is q g xs (omega (arith, long)) (λ j less. gain_is m number gain q payload is some few j (omega (arith, less, long))) (8192 * (gain * gain), omega arith) in
+      let first : complex_at gains 0 ≡ axis q g = gains_are 0 (omega (arith, long_is)) in
+      λ t. record { gain = first t; rotation = rotation t }
+
 pub exact : ExactLaw
 exact m number gain quarters payload is some few each = frame_back m number gain quarters payload is some few each
 
@@ -184,3 +194,8 @@ map_same f (x ∷ xs) same = ap₂ ◌∷◌ (same x) (map_same f xs same)
 pub sent_back : (m : Mode) (number : ℕ) (payload : List Symbol) → IsMode m → ((k : ℕ) → IsModerate 1 (symbol_at payload k)) → equalized m number (frame_symbols m number payload) ≡ frame_symbols m number payload
 sent_back m number payload is each =
     ap (equalized m number) (sym (map_same (arrived 1 0) (frame_symbols m number payload) one_arrives)) ∙ exact m number 1 0 payload is (omega arith) (omega arith) each
+
+-- of a frame as it was sent a gain of 1 is taken out, and no rotation
+pub sent_removed : (m : Mode) (number : ℕ) (payload : List Symbol) → IsMode m → ((k : ℕ) → IsModerate 1 (symbol_at payload k)) → removed m number (frame_symbols m number payload) ≡ record { gain = complex (pos 1024) (pos 0); rotation = no_turn }
+sent_removed m number payload is each =
+    ap (removed m number) (sym (map_same (arrived 1 0) (frame_symbols m number payload) one_arrives)) ∙ frame_removed m number 1 0 payload is (omega arith) (omega arith) each

@@ -4,7 +4,8 @@ use Rattle.std.proofs.lemmas.List.FromFn.{length-map-range_with_len}
 use Rattle.s2_mode.specs.declared.symbols.Symbol.{Symbol}
 use Rattle.s2_mode.specs.Mode.{Mode, symbols_in}
 use Rattle.s2_equalize.specs.Equalizer.{Equalizer, equalized, equalized_symbol, equalizer_of, frame_gains}
-use Rattle.s2_equalize.specs.Wanted.{equalizer_by, held_by, levelled}
+use Rattle.s2_equalize.specs.declared.equalizer.Removed.{Removed}
+use Rattle.s2_equalize.specs.Wanted.{equalizer_by, held_by, levelled, removed_by, removed_if}
 
 -- what holds of an equalizer holds of it where it is wanted
 pub if_equalized : (P : Equalizer → Type 0) (wanted : Bool) (e : Equalizer) → P e → IfSome (cond wanted (Some e) None) P
@@ -21,6 +22,14 @@ levelled_by m number wanted frame written result equalizer kept is same wrote he
         → held_by (cond w (Some (equalizer_of m number)) None) written frame ≡ cond w (equalized m number frame) frame
     by true wrote = wrote
     by false none = refl
+
+-- what is held to be taken out of a frame is taken out of it, if that is wanted
+pub removed_so : (m : Mode) (number : ℕ) (wanted : Bool) (frame : List Symbol) (equalizer : Option Equalizer) → equalizer ≡ equalizer_by wanted m number → removed_by equalizer frame ≡ removed_if m number wanted frame
+removed_so m number wanted frame equalizer is = ap (λ o. removed_by o frame) is ∙ by wanted
+  where
+    by : (w : Bool) → removed_by (cond w (Some (equalizer_of m number)) None) frame ≡ removed_if m number w frame
+    by true = refl
+    by false = refl
 
 -- as many as a frame has
 pub length_levelled : (m : Mode) (number : ℕ) (wanted : Bool) (frame : List Symbol) → length frame ≡ symbols_in m → length (levelled m number wanted frame) ≡ length frame

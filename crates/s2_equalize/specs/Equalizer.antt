@@ -10,7 +10,8 @@ use Rattle.s2_mode.specs.Mode.{Mode, pilot_blocks_of, symbols_in}
 use Rattle.s2_plframe.specs.Constants.{pilot_block}
 use Rattle.s2_equalize.specs.declared.complex.Complex.{Complex}
 use Rattle.s2_equalize.specs.Complex.{complex_at, conjugate, energy, number_of, over, plus, scaled, times}
-use Rattle.s2_equalize.specs.Gains.{known_frame, gains_of, smoothed}
+use Rattle.s2_equalize.specs.declared.equalizer.Removed.{Removed}
+use Rattle.s2_equalize.specs.Gains.{known_frame, gains_of, smoothed, turn}
 
 -- the number of binary digits of the larger part of a number
 unfoldable pub digits : Complex → ℕ
@@ -65,6 +66,11 @@ frame_gains m number symbols = smoothed (gains_of symbols (known_frame m number)
 -- the symbols of a received frame, each divided by the gain of the channel. A symbol with no signal in its frame is the origin
 unfoldable pub equalized : Mode → ℕ → List Symbol → List Symbol
 equalized m number symbols = map (equalized_symbol (frame_gains m number symbols) symbols) (range_with_len 0 (symbols_in m))
+
+-- the gain that is removed from a frame, the smoothed one of its header, and the rotation from block to block
+unfoldable pub removed : Mode → ℕ → List Symbol → Removed
+removed m number symbols =
+    record { gain = complex_at (frame_gains m number symbols) 0; rotation = turn (gains_of symbols (known_frame m number) (pilot_blocks_of m)) }
 
 -- what an equalizer is made for: frames of a mode, with a scrambling number
 pub record Equalizer : Type 0 where

@@ -3,6 +3,7 @@ ghost use Rattle.std.specs.Prelude.{◌≡◌, ◌+◌, ◌-◌, ◌*◌, ◌<�
 ghost use Rattle.std.specs.List.{range_with_len};
 ghost use Rattle.s2_mode.specs.Mode.{symbols_in};
 ghost use Rattle.s2_equalize.specs.Bounds.{AreSmall};
+ghost use Rattle.s2_equalize.specs.Complex.{complex_at};
 ghost use Rattle.s2_equalize.specs.Equalizer.{equalized_symbol};
 ghost use Rattle.s2_equalize.specs.Gains.{gains_of, known_frame};
 ghost use Rattle.s2_equalize.specs.Gains as by;
@@ -69,15 +70,23 @@ fn known_frame(
     Ok(known)
 }
 
-/// Writes the symbols of a frame, each divided by the gain of the channel. `gains` and `smoothed` are for the gains of
-/// its blocks.
+/// What an equalizer removes from a frame. `gain` is the gain of the channel at the header, in 1/1024, smoothed over the blocks
+/// near it. `rotation` is the rotation of the carrier from block to block, as a number of the size 32768.
+#[derive(Clone, Copy, Debug, PartialEq, Eq)]
+pub struct Removed {
+    pub gain: Complex,
+    pub rotation: Complex,
+}
+
+/// Writes the symbols of a frame, each divided by the gain of the channel, and returns the removed gain. `gains` and `smoothed`
+/// are for the gains of its blocks.
 fn equalize(
     known: &[Symbol],
     symbols: &[Symbol],
     gains: &mut [Complex],
     smoothed: &mut [Complex],
     out: &mut [Symbol],
-)
+) -> Removed
     requires small { AreSmall known.now }
     requires known { length known.now ≡ length symbols.now }
     requires whole { 90 + 1476 * (length gains.old - 1) ≤ length symbols.now }
@@ -85,17 +94,21 @@ fn equalize(
     requires some { 0 < length gains.old }
     requires blocks { length smoothed.old ≡ length gains.old + 1 }
     requires room { length out.old ≡ length symbols.now }
-    ensures { out.new ≡ map (equalized_symbol (by.smoothed (gains_of symbols.now known.now (length gains.old - 1))) symbols.now) (range_with_len 0 (length symbols.now)) }
+    ensures is { out.new ≡ map (equalized_symbol (by.smoothed (gains_of symbols.now known.now (length gains.old - 1))) symbols.now) (range_with_len 0 (length symbols.now)) }
+    ensures gain { result.gain ≡ complex_at (by.smoothed (gains_of symbols.now known.now (length gains.old - 1))) 0 }
+    ensures rotation { result.rotation ≡ by.turn (gains_of symbols.now known.now (length gains.old - 1)) }
 {
     find_gains(symbols, known, gains);
-    smooth_into(gains, smoothed);
+    let rotation = smooth_into(gains, smoothed);
+    let gain = smoothed[0];
     let fineness = fineness(smoothed);
     invert_each(fineness, smoothed);
     multiply_frame(smoothed, fineness, symbols, out);
+    Removed { gain, rotation }
 }
 
 impl Equalizer {
-    ghost use Rattle.s2_equalize.specs.Equalizer.{equalized, equalizer_of};
+    ghost use Rattle.s2_equalize.specs.Equalizer.{equalized, equalizer_of, removed};
 
     /// The equalizer of a mode and a scrambling number (EN 302 307-1, 5.5.4), with all the memory that it needs.
     /// `AllocError` only if it is out of memory.
@@ -112,14 +125,15 @@ impl Equalizer {
         })
     }
 
-    /// Writes the symbols of a received frame, each divided by the gain of the channel.
+    /// Writes the symbols of a received frame, each divided by the gain of the channel, and returns the removed gain.
     ///
     /// `symbols` has `mode.symbols()` received symbols, header and pilots among them, not rotated back by the
     /// scrambler. `out` has the same number. Each is written. It takes no memory.
-    pub fn equalize_into(&mut self, symbols: &[Symbol], out: &mut [Symbol])
+    pub fn equalize_into(&mut self, symbols: &[Symbol], out: &mut [Symbol]) -> Removed
         requires symbols { length symbols.now ≡ symbols_in self.old.mode }
         requires room { length out.old ≡ symbols_in self.old.mode }
         ensures is { out.new ≡ equalized self.old.mode self.old.number symbols.now }
+        ensures removed { result ≡ removed self.old.mode self.old.number symbols.now }
         ensures same { self.new ≡ self.old }
     {
         // the clauses of the mode are a part of this proof
@@ -130,6 +144,6 @@ impl Equalizer {
             &mut self.gains,
             &mut self.smoothed,
             out,
-        );
+        )
     }
 }

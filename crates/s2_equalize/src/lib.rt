@@ -3,7 +3,7 @@
 //! An [`Equalizer`] knows the symbols of the header and of the pilot blocks (EN 302 307-1, 5.5.2 and 5.5.3). From them
 //! [`Equalizer::equalize_into`] estimates the complex gain of a received frame: its amplitude, its phase and the rotation of
 //! the carrier from block to block. It returns exactly the symbols that `equalized` defines, each divided by the gain at
-//! its place. Only [`Equalizer::new`] takes memory. If a frame arrives without noise, times a whole gain and rotated by quarter
+//! its place, and the gain that it removed ([`Removed`]). Only [`Equalizer::new`] takes memory. If a frame arrives without noise, times a whole gain and rotated by quarter
 //! turns, it returns the frame that was sent ([`laws::exact`]). A [`FrameEqualizer`] has a buffer for a frame, if an equalizer is
 //! requested.
 //!
@@ -25,5 +25,5 @@ pub mod laws;
 mod smoothing;
 
 pub use complex::Complex;
-pub use equalizer::Equalizer;
+pub use equalizer::{Equalizer, Removed};
 pub use frame_equalizer::FrameEqualizer;

@@ -86,13 +86,14 @@ fn mean_gain(gains: &[Complex], turns: &[Complex; 5], k: usize) -> Complex
     over(32768 * near.weight, near.sum)
 }
 
-/// Writes the smoothed gains of all blocks, and of one after the last.
-pub(crate) fn smooth_into(gains: &[Complex], smoothed: &mut [Complex])
+/// Writes the smoothed gains of all blocks, and of one after the last. Returns the rotation from block to block.
+pub(crate) fn smooth_into(gains: &[Complex], smoothed: &mut [Complex]) -> Complex
     requires some { 0 < length gains.now }
     requires few { length gains.now ≤ 23 }
     requires room { length smoothed.old ≡ length gains.now + 1 }
     requires gains { AreWithin gain_bound gains.now }
     ensures is { smoothed.new ≡ gains_by.smoothed gains.now }
+    ensures turn { result ≡ gains_by.turn gains.now }
     ensures most { AreWithin smoothed_bound smoothed.new }
 {
     let turn = turn(gains);
@@ -101,4 +102,5 @@ pub(crate) fn smooth_into(gains: &[Complex], smoothed: &mut [Complex])
         smoothed[k] = mean_gain(gains, &turns, k);
     }
     smoothed[gains.len()] = turned_once(smoothed[gains.len() - 1], turn);
+    turn
 }

@@ -12,6 +12,7 @@ use Rattle.s2_certfile.specs.File.{File}
 use Rattle.s2_certfile.specs.Format.{file_of_bytes}
 use Rattle.s2_certfile.specs.FaultTexts.{certificate_fault_text}
 use Rattle.s2_certfile.specs.declared.fault.CertFault.{CertFault}
+use Rattle.s2_certfile.specs.declared.fault.CertFault.TheVariants as cert_faults
 use Rattle.s2_check.specs.declared.checker.Answer.{Answer}
 use Rattle.s2_check.specs.declared.checker.Answer.TheVariants as answers
 use Rattle.s2_check.specs.declared.checker.Examined.{Examined}
@@ -27,9 +28,14 @@ use Rattle.s2_evidence.specs.Lines.{answer_line, examined_line}
 
 -- ---- the input
 
+-- the words for a refused certificate: if bytes follow one, they name the option for several
+abbrev pub refusal_text : CertFault → List ℕ
+refusal_text cert_faults.Extra = codes "extra: several certificates need --each"
+refusal_text e = certificate_fault_text e
+
 abbrev pub certificate_said : Result File CertFault → Result File Fault
 certificate_said (Ok file) = Ok file
-certificate_said (Err e) = Err (faults.Refused (codes "certificate: " ++ certificate_fault_text e))
+certificate_said (Err e) = Err (faults.Refused (codes "certificate: " ++ refusal_text e))
 
 abbrev pub beside : File → Result Rows Fault → Result (Rows × File) Fault
 beside file (Ok rows) = Ok (rows, file)

@@ -1,17 +1,18 @@
 //! `check`: checks a certificate.
 ghost use Rattle.std.specs.Prelude.{◌≡◌, ◌≢◌, ◌+◌, Result, Err, IsOk};
 ghost use Rattle.s2_mode.specs.Counts.{CanCount};
+ghost use Rattle.s2_mode.specs.FaultTexts.{said};
 ghost use Rattle.s2_certfile.specs.Format.{file_of_bytes};
 ghost use Rattle.s2_io.specs.Screens.{CanShow};
 ghost use Rattle.s2_io.specs.Exits.{Follows, CommandAnswers, CommandRuns, CommandCounts};
-ghost use Rattle.s2_evidence.specs.Checking.{certificate_said, ArePartsIn, AreCheckInputs, answer_exit, SaysAnswer, IsAnswered, CheckExits};
+ghost use Rattle.s2_evidence.specs.Checking.{certificate_said, refusal_text, ArePartsIn, AreCheckInputs, answer_exit, SaysAnswer, IsAnswered, CheckExits};
 
 use crate::lines::{answer_line, examined_line};
 use s2_check::{Answer, CertFault, CertView, Certificate, Refusal, examine};
 use s2_inputs::{matrix_of, read_bytes};
 use s2_io::{Console, Exit, Fault, Printed};
 use s2_matrix::Matrix;
-use s2_mode::{CountedRead, CountedWrite};
+use s2_mode::{CountedRead, CountedWrite, FaultText};
 use std::alloc::Global;
 
 /// The exit of an answer.
@@ -48,6 +49,16 @@ pub(crate) fn answered(matrix: &Matrix, certificate: &Certificate) -> Printed
     }
 }
 
+/// The words for a refused certificate. If bytes follow one, they name the option for several.
+fn refusal_text(fault: CertFault) -> FaultText
+    ensures { said result ≡ refusal_text fault }
+{
+    match fault {
+        CertFault::Extra => FaultText::of("extra: several certificates need --each"),
+        _ => fault.text(),
+    }
+}
+
 /// The certificate of a file in memory.
 pub(crate) fn certificate_of(alloc: Global, bytes: &[u8]) -> Result<Certificate, Fault<'static>>
     ensures says { Follows (λ c. c) result (certificate_said (file_of_bytes bytes.now)) }
@@ -57,7 +68,7 @@ pub(crate) fn certificate_of(alloc: Global, bytes: &[u8]) -> Result<Certificate,
     match Certificate::read(alloc, bytes) {
         Ok(certificate) => Ok(certificate),
         Err(CertFault::NoMemory) => Err(Fault::NoMemory),
-        Err(fault) => Err(Fault::about("certificate: ", fault.text())),
+        Err(fault) => Err(Fault::about("certificate: ", refusal_text(fault))),
     }
 }
 

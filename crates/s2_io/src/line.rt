@@ -7,7 +7,7 @@ use itoa::{Buffer, Integer};
 use std::marker::Model;
 
 /// The maximum length of a line in bytes.
-pub const LINE_ROOM: usize = 512;
+pub const LINE_ROOM: usize = 640;
 
 /// A line that is being built. Its value is its bytes. It takes no memory, so a command that has done its work can
 /// always report it.

@@ -4,6 +4,7 @@ use Rattle.s2_mode.specs.Mode.{Mode, n_of, k_of, kbch_of, q_of, width_of, symbol
 use Rattle.s2_check.specs.declared.verdict.Verdict.{Verdict}
 use Rattle.s2_check.specs.declared.verdict.Verdict.TheVariants as verdicts
 use Rattle.s2_bbframe.specs.declared.header.HeaderFault.TheVariants as faults
+use Rattle.s2_equalize.specs.declared.equalizer.Removed.{Removed}
 use Rattle.s2_report.specs.declared.report.Outcome.{Outcome}
 use Rattle.s2_report.specs.declared.report.Outcome.TheVariants as outcomes
 use Rattle.s2_report.specs.declared.report.Report.{Report}
@@ -118,13 +119,18 @@ totals_fields t = record {
   reserved = replicate 4 0;
 }
 
--- the figures of a frame
+-- what the equalizer took out of a frame, or zeros if it was not used
+abbrev pub removed_or_zeros : Option Removed → Removed
+removed_or_zeros None = record { gain = record { re = pos 0; im = pos 0 }; rotation = record { re = pos 0; im = pos 0 } }
+removed_or_zeros (Some r) = r
+
+-- the figures of a frame, and what the equalizer took out of it
 abbrev pub figures_fields : Figures → FiguresFields
 figures_fields f = record {
-  size = 112;
+  size = 144;
   header = f.header;
   rounds = f.rounds;
-  reserved = 0;
+  equalized = flag_of (is_some f.removed);
   changed = f.changed.sum;
   changed_of = f.changed.of;
   known = f.known.sum;
@@ -137,15 +143,19 @@ figures_fields f = record {
   payload_power = f.payload_correlation.power;
   payload_along = f.payload_correlation.along;
   payload_across = f.payload_correlation.across;
+  gain_along = (removed_or_zeros f.removed).gain.re;
+  gain_across = (removed_or_zeros f.removed).gain.im;
+  rotation_along = (removed_or_zeros f.removed).rotation.re;
+  rotation_across = (removed_or_zeros f.removed).rotation.im;
 }
 
--- sums of figures; those of header, rounds and correlations are not kept
+-- sums of figures; those of header, rounds, correlations and the equalizer are not kept
 abbrev pub sums_fields : Sums → FiguresFields
 sums_fields s = record {
-  size = 112;
+  size = 144;
   header = 0;
   rounds = 0;
-  reserved = 0;
+  equalized = 0;
   changed = s.changed.sum;
   changed_of = s.changed.of;
   known = s.known.sum;
@@ -158,6 +168,10 @@ sums_fields s = record {
   payload_power = s.payload_power;
   payload_along = pos 0;
   payload_across = pos 0;
+  gain_along = pos 0;
+  gain_across = pos 0;
+  rotation_along = pos 0;
+  rotation_across = pos 0;
 }
 
 -- A kind of headers that a scanner has seen. Its form says in which way the symbols are changed

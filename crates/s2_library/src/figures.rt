@@ -2,10 +2,11 @@
 ghost use Rattle.std.specs.Prelude.{◌≡◌};
 ghost use Rattle.s2_library.specs.Fields as fields;
 
+use s2_equalize::{Complex, Removed};
 use s2_report::{Figures, Sums};
 
 /// The size of [`FiguresFields`] in bytes.
-pub(crate) const SIZE: u32 = 112;
+pub(crate) const SIZE: u32 = 144;
 
 /// The figures of a frame, or their sums.
 #[repr(C)]
@@ -14,7 +15,7 @@ pub struct FiguresFields {
     pub size: u32,
     pub header: u32,
     pub rounds: u32,
-    pub reserved: u32,
+    pub equalized: u32,
     pub changed: u64,
     pub changed_of: u64,
     pub known: u64,
@@ -27,17 +28,36 @@ pub struct FiguresFields {
     pub payload_power: u64,
     pub payload_along: i64,
     pub payload_across: i64,
+    pub gain_along: i64,
+    pub gain_across: i64,
+    pub rotation_along: i64,
+    pub rotation_across: i64,
+}
+
+/// What the equalizer took out of a frame, or zeros if it was not used.
+fn removed_or_zeros(removed: Option<Removed>) -> Removed
+    ensures { result ≡ fields.removed_or_zeros removed }
+{
+    let zero = Complex { re: 0, im: 0 };
+    match removed {
+        None => Removed {
+            gain: zero,
+            rotation: zero,
+        },
+        Some(removed) => removed,
+    }
 }
 
 /// The figures of a frame.
 pub(crate) fn figures_fields(figures: Figures) -> FiguresFields
     ensures { result ≡ fields.figures_fields figures }
 {
+    let removed = removed_or_zeros(figures.removed);
     FiguresFields {
         size: SIZE,
         header: figures.header,
         rounds: figures.rounds,
-        reserved: 0,
+        equalized: u32::from(figures.removed.is_some()),
         changed: figures.changed.sum,
         changed_of: figures.changed.of,
         known: figures.known.sum,
@@ -50,10 +70,14 @@ pub(crate) fn figures_fields(figures: Figures) -> FiguresFields
         payload_power: figures.payload_correlation.power,
         payload_along: figures.payload_correlation.along,
         payload_across: figures.payload_correlation.across,
+        gain_along: removed.gain.re,
+        gain_across: removed.gain.im,
+        rotation_along: removed.rotation.re,
+        rotation_across: removed.rotation.im,
     }
 }
 
-/// The sums of figures. Those of header, rounds and correlations are not kept, and are 0.
+/// The sums of figures. Those of header, rounds, correlations and the equalizer are not kept, and are 0.
 pub(crate) fn sums_fields(sums: Sums) -> FiguresFields
     ensures { result ≡ fields.sums_fields sums }
 {
@@ -61,7 +85,7 @@ pub(crate) fn sums_fields(sums: Sums) -> FiguresFields
         size: SIZE,
         header: 0,
         rounds: 0,
-        reserved: 0,
+        equalized: 0,
         changed: sums.changed.sum,
         changed_of: sums.changed.of,
         known: sums.known.sum,
@@ -74,5 +98,9 @@ pub(crate) fn sums_fields(sums: Sums) -> FiguresFields
         payload_power: sums.payload_power,
         payload_along: 0,
         payload_across: 0,
+        gain_along: 0,
+        gain_across: 0,
+        rotation_along: 0,
+        rotation_across: 0,
     }
 }

@@ -290,7 +290,7 @@ fn figures_in(step: Option<Step>) -> Option<Figures>
 
 /// Gives the figures of the last step.
 pub fn receiver_figures(slot: &Slot, out: &mut FiguresFields) -> Result<(), Refusal>
-    ensures { GivesFieldsIf fields.figures_fields (last_figures (reception_in slot.now)) (nat_eq out.old.size 112) out.old out.new result }
+    ensures { GivesFieldsIf fields.figures_fields (last_figures (reception_in slot.now)) (nat_eq out.old.size 144) out.old out.new result }
 {
     let Slot::Receiver(reception) = slot else {
         return Err(Refusal::OtherKind);
@@ -309,7 +309,7 @@ pub fn receiver_figures(slot: &Slot, out: &mut FiguresFields) -> Result<(), Refu
 
 /// Gives the sums of figures.
 pub fn receiver_sums(slot: &Slot, out: &mut FiguresFields) -> Result<(), Refusal>
-    ensures { GivesFieldsIf fields.sums_fields (sums_in (receiver_in slot.now)) (nat_eq out.old.size 112) out.old out.new result }
+    ensures { GivesFieldsIf fields.sums_fields (sums_in (receiver_in slot.now)) (nat_eq out.old.size 144) out.old out.new result }
 {
     let Slot::Receiver(reception) = slot else {
         return Err(Refusal::OtherKind);

@@ -19,7 +19,8 @@ use Rattle.s2_receive.specs.Receiving.{Decision}
 use Rattle.s2_report.specs.declared.figures.Figures.{Figures}
 use Rattle.s2_report.specs.declared.report.Outcome.{Outcome}
 use Rattle.s2_message.specs.declared.options.FrameOptions.{FrameOptions}
-use Rattle.s2_message.specs.Decisions.{upright_frame, quarters, received_word, message_of, header_in, outcome_by, delivered_by, word_decision, bits_decision, figures_with, measured, decision_with}
+use Rattle.s2_equalize.specs.declared.equalizer.Removed.{Removed}
+use Rattle.s2_message.specs.Decisions.{upright_frame, levelled_frame, removed_frame, quarters, received_word, message_of, header_in, outcome_by, delivered_by, word_decision, bits_decision, figures_with, measured, decision_with}
 use Rattle.s2_message.specs.Reading.{FindsWord, Reads, Derotating, upright, meter_by, figures_found}
 
 abbrev pub shown : Mode → List ℤ → List Bool → Verdict → Option View → List Bool → Outcome → Option (Header × List ℕ) → Decision
@@ -43,12 +44,12 @@ if_wanted P true f h = h
 if_wanted P false f h = tt
 
 -- what a finder finds are the figures of the frame
-pub figures_are : (m : Mode) (number : ℕ) (options : FrameOptions) (symbols held : List Symbol) (soft : List ℤ) (bits : List Bool) (rounds : ℕ) (meter : Option FigureMeter) (figures : Option Figures)
-    → figures ≡ figures_found meter held soft bits rounds → meter ≡ meter_by options.figures m number → held ≡ upright_frame m options symbols → figures ≡ figures_with m number options symbols soft bits rounds
-figures_are m number options symbols held soft bits rounds meter figures found wanted upright_is =
-    found ∙ ap (λ f. figures_found f held soft bits rounds) wanted ∙ by_want options.figures _ (ap (λ s. figures_of m number s soft bits rounds) upright_is)
+pub figures_are : (m : Mode) (number : ℕ) (options : FrameOptions) (symbols held : List Symbol) (removed : Option Removed) (soft : List ℤ) (bits : List Bool) (rounds : ℕ) (meter : Option FigureMeter) (figures : Option Figures)
+    → figures ≡ figures_found meter held removed soft bits rounds → meter ≡ meter_by options.figures m number → held ≡ levelled_frame m number options symbols → removed ≡ removed_frame m number options symbols → figures ≡ figures_with m number options symbols soft bits rounds
+figures_are m number options symbols held removed soft bits rounds meter figures found wanted levelled_is removed_is =
+    found ∙ ap (λ f. figures_found f held removed soft bits rounds) wanted ∙ by_want options.figures _ (λ i. figures_of m number (levelled_is i) (removed_is i) soft bits rounds)
   where
-    by_want : (wanted : Bool) (f : Figures) → figures_of m number held soft bits rounds ≡ f → figures_found (cond wanted (Some (meter_of m number)) None) held soft bits rounds ≡ cond wanted (Some f) None
+    by_want : (wanted : Bool) (f : Figures) → figures_of m number held removed soft bits rounds ≡ f → figures_found (cond wanted (Some (meter_of m number)) None) held removed soft bits rounds ≡ cond wanted (Some f) None
     by_want true f is = ap Some is
     by_want false f is = refl
 

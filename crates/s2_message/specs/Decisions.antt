@@ -12,7 +12,8 @@ use Rattle.s2_bbframe.specs.Headers.{header_of_bytes}
 use Rattle.s2_scramble.specs.Baseband.{scrambled}
 use Rattle.s2_plframe.specs.Payload.{received_payload}
 use Rattle.s2_plframe.specs.Turns.{derotated, turn_of}
-use Rattle.s2_equalize.specs.Wanted.{levelled}
+use Rattle.s2_equalize.specs.declared.equalizer.Removed.{Removed}
+use Rattle.s2_equalize.specs.Wanted.{levelled, removed_if}
 use Rattle.s2_soft.specs.Soft.{soft_values}
 use Rattle.s2_receive.specs.Receiving.{Decision}
 use Rattle.s2_report.specs.declared.figures.Figures.{Figures}
@@ -36,6 +37,10 @@ quarters m options symbols = if options.turns then turn_of m symbols else 0
 -- the symbols that are decided: these, each divided by the gain of the channel if the options say so
 abbrev pub levelled_frame : Mode → ℕ → FrameOptions → List Symbol → List Symbol
 levelled_frame m number options symbols = levelled m number options.equalize (upright_frame m options symbols)
+
+-- the gain and the rotation that the equalizer removed from them
+abbrev pub removed_frame : Mode → ℕ → FrameOptions → List Symbol → Option Removed
+removed_frame m number options symbols = removed_if m number options.equalize (upright_frame m options symbols)
 
 -- the soft values of a frame's codeword
 abbrev pub soft_frame : Mode → ℕ → FrameOptions → List Symbol → List ℤ
@@ -103,10 +108,10 @@ bits_decision m soft verdict bits certificate = word_decision m soft verdict bit
 
 -- ---- the whole frame
 
--- the figures of a frame's symbols, before the equalizer, and of its decided bits, if the options say so
+-- the figures of the symbols that were decided, and of the decided bits, if the options say so
 abbrev pub figures_with : Mode → ℕ → FrameOptions → List Symbol → List ℤ → List Bool → (rounds : ℕ) → Option Figures
 figures_with m number options symbols soft bits rounds =
-    if options.figures then Some (figures_of m number (upright_frame m options symbols) soft bits rounds) else None
+    if options.figures then Some (figures_of m number (levelled_frame m number options symbols) (removed_frame m number options symbols) soft bits rounds) else None
 
 -- a decision with these figures, this energy of its header, and this rotation
 abbrev pub measured : Decision → Option Figures → (energy turn : ℕ) → Decision

@@ -1,11 +1,12 @@
--- The figures of a decided frame (own). They compare the received symbols with the frame that carries the decided word,
+-- The figures of a decided frame (own). They compare the symbols that were decided with the frame that carries the decided word,
 -- and the decided word with the hard decision.
-use Rattle.std.specs.Prelude.{ℕ, Bool, ℤ, List, length}
+use Rattle.std.specs.Prelude.{ℕ, Bool, ℤ, List, Option, length}
 use Rattle.std.specs.List.{sum_by}
 use Rattle.s2_mode.specs.declared.symbols.Symbol.{Symbol}
 use Rattle.s2_mode.specs.Mode.{Mode, n_of}
 use Rattle.s2_bits.specs.Bits.{differences}
 use Rattle.s2_check.specs.Hard.{hard_decision}
+use Rattle.s2_equalize.specs.declared.equalizer.Removed.{Removed}
 use Rattle.s2_map.specs.Mapping.{payload_of}
 use Rattle.s2_plframe.specs.Frame.{frame_symbols}
 use Rattle.s2_report.specs.declared.figures.Figures.{Figures}
@@ -26,9 +27,10 @@ changed_bits m soft word = record { sum = differences (n_of m) (hard_decision so
 abbrev pub error_over : List ℕ → List Symbol → List Symbol → Tally
 error_over places received sent = record { sum = sum_by (error_at received sent) places; of = length places }
 
--- the figures of a frame, from its symbols, its soft values, its decided word and the rounds of min-sum that were run
-unfoldable pub figures_of : Mode → ℕ → List Symbol → List ℤ → List Bool → ℕ → Figures
-figures_of m number symbols soft word rounds =
+-- the figures of a frame, from the symbols that were decided, the gain that the equalizer removed from them, the soft values, the
+-- decided word and the rounds of min-sum that were run
+unfoldable pub figures_of : Mode → ℕ → List Symbol → Option Removed → List ℤ → List Bool → ℕ → Figures
+figures_of m number symbols removed soft word rounds =
     record {
       header = header_errors m symbols;
       rounds = rounds;
@@ -37,6 +39,7 @@ figures_of m number symbols soft word rounds =
       payload = error_over (payload_places m) symbols (sent_frame m number word);
       known_correlation = correlation_over (known_places m) symbols (sent_frame m number word);
       payload_correlation = correlation_over (payload_places m) symbols (sent_frame m number word);
+      removed = removed;
     }
 
 -- what figures are found for: frames of a mode, with a scrambling number

@@ -15,9 +15,10 @@ use Rattle.s2_report.specs.declared.figures.Figures.{Figures}
 use Rattle.s2_report.specs.declared.report.Outcome.{Outcome}
 use Rattle.s2_report.specs.declared.report.Outcome.TheVariants.{NoWord}
 use Rattle.s2_bch.specs.Decoding.{nearest}
-use Rattle.s2_equalize.specs.Wanted.{Equalizing, equalizer_by}
+use Rattle.s2_equalize.specs.declared.equalizer.Removed.{Removed}
+use Rattle.s2_equalize.specs.Wanted.{Equalizing, equalizer_by, held_by}
 use Rattle.s2_message.specs.Figures.{FigureMeter, figures_of, meter_of}
-use Rattle.s2_message.specs.Decisions.{message_of, header_in, outcome_by, delivered_by, upright_frame, quarters, decision_with}
+use Rattle.s2_message.specs.Decisions.{message_of, header_in, outcome_by, delivered_by, levelled_frame, removed_frame, quarters, decision_with}
 use Rattle.s2_message.specs.declared.options.FrameOptions.{FrameOptions}
 
 -- ---- the stages
@@ -64,21 +65,22 @@ upright d symbols = if d.turns then d.symbols else symbols
 abbrev pub meter_by : (wanted : Bool) → Mode → ℕ → Option FigureMeter
 meter_by wanted mode number = if wanted then Some (meter_of mode number) else None
 
--- what it finds of a frame, from symbols, soft values, decided bits and rounds of min-sum
-abbrev pub figures_found : Option FigureMeter → List Symbol → List ℤ → List Bool → ℕ → Option Figures
-figures_found None symbols soft bits rounds = None
-figures_found (Some f) symbols soft bits rounds = Some (figures_of f.mode f.number symbols soft bits rounds)
+-- the figures of a frame, from symbols, the gain removed from them, soft values, decided bits and rounds of min-sum
+abbrev pub figures_found : Option FigureMeter → List Symbol → Option Removed → List ℤ → List Bool → ℕ → Option Figures
+figures_found None symbols removed soft bits rounds = None
+figures_found (Some f) symbols removed soft bits rounds = Some (figures_of f.mode f.number symbols removed soft bits rounds)
 
 -- ---- the reader
 
--- A reader of frames: their mode, their scrambling number and its options. Then what rotates frames back, and the number of
--- quarters by which the last frame arrived rotated. Then the word that BCH decoding left last, and the data field that was
+-- A reader of frames: their mode, their scrambling number and its options. Then what rotates frames back, what equalizes them,
+-- and the number of quarters by which the last frame arrived rotated. Then the word that BCH decoding left last, and the data field that was
 -- taken out last
 pub record FrameReader : Type 0 where
   pub mode : Mode
   pub number : ℕ
   pub options : FrameOptions
   pub derotator : Derotating
+  pub equalizer : Equalizing
   pub turn : ℕ
   pub word : List Bool
   pub field : List ℕ
@@ -96,9 +98,11 @@ pub record IsFrameReader (mode : Mode) (options : FrameOptions) (demodulates : D
   pub equalizer : equalizes.equalizer ≡ equalizer_by options.equalize mode demodulates.number
   pub figures : meter ≡ meter_by options.figures mode demodulates.number
 
--- the soft values of this frame were found last: it holds its upright symbols, and its rotation
+-- the soft values of this frame were found last: it holds the symbols that were decided, the gain removed from them, and its
+-- rotation
 pub record HasFrame (r : FrameReader) (symbols : List Symbol) : Type 0 where
-  pub upright_is : upright r.derotator symbols ≡ upright_frame r.mode r.options symbols
+  pub levelled_is : held_by r.equalizer.equalizer r.equalizer.symbols (upright r.derotator symbols) ≡ levelled_frame r.mode r.number r.options symbols
+  pub removed_is : r.equalizer.removed ≡ removed_frame r.mode r.number r.options symbols
   pub turn_is : r.turn ≡ quarters r.mode r.options symbols
 
 -- it reads the same frames as before

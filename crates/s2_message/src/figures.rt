@@ -5,6 +5,7 @@ ghost use Rattle.s2_message.specs.Reading.{figures_found, meter_by};
 
 use crate::meter::FigureMeter;
 use s2_bits::Bits;
+use s2_equalize::Removed;
 use s2_mode::{Mode, Symbol};
 use s2_report::Figures;
 use s2_scramble::ScramblingNumber;
@@ -30,6 +31,7 @@ pub(crate) fn meter_for(
 pub(crate) fn find_figures(
     meter: &mut Option<FigureMeter>,
     symbols: &[Symbol],
+    removed: Option<Removed>,
     soft: &[i16],
     word: &Bits,
     rounds: u32,
@@ -37,11 +39,11 @@ pub(crate) fn find_figures(
     requires symbols { IfSome meter.old (λ f. length symbols.now ≡ symbols_in f.mode) }
     requires soft { IfSome meter.old (λ f. length soft.now ≡ n_of f.mode) }
     requires word { IfSome meter.old (λ f. length word.now ≡ n_of f.mode) }
-    ensures is { result ≡ figures_found meter.old symbols.now soft.now word.now rounds }
+    ensures is { result ≡ figures_found meter.old symbols.now removed soft.now word.now rounds }
     ensures same { meter.new ≡ meter.old }
 {
     match meter {
         None => None,
-        Some(meter) => Some(meter.find(symbols, soft, word, rounds)),
+        Some(meter) => Some(meter.find(symbols, removed, soft, word, rounds)),
     }
 }

@@ -13,6 +13,7 @@ use crate::correlations::correlations_of;
 use crate::errors::errors_of;
 use crate::header::header_errors;
 use s2_bits::Bits;
+use s2_equalize::Removed;
 use s2_map::map_into;
 use s2_mode::{Mode, Symbol};
 use s2_plframe::frame_into;
@@ -76,16 +77,24 @@ impl FigureMeter {
         })
     }
 
-    /// The figures of a frame, from its received symbols, its soft values, the decided word and the number of min-sum's
-    /// rounds that were run.
+    /// The figures of a frame, from the symbols that were decided, the gain that the equalizer removed from them, their soft
+    /// values, the decided word and the number of min-sum's rounds that were run.
     ///
-    /// `symbols` has `mode.symbols()` received symbols, not rotated back. `soft` has `mode.n()` values
-    /// in the order of the codeword, and `word` that many bits, which need not be a codeword. It takes no memory.
-    pub fn find(&mut self, symbols: &[Symbol], soft: &[i16], word: &Bits, rounds: u32) -> Figures
+    /// `symbols` has `mode.symbols()` symbols, rotated back and equalized like those of the soft values. `soft` has
+    /// `mode.n()` values in the order of the codeword, and `word` that many bits, which need not be a codeword. It takes no
+    /// memory.
+    pub fn find(
+        &mut self,
+        symbols: &[Symbol],
+        removed: Option<Removed>,
+        soft: &[i16],
+        word: &Bits,
+        rounds: u32,
+    ) -> Figures
         requires symbols { length symbols.now ≡ symbols_in self.old.mode }
         requires soft { length soft.now ≡ n_of self.old.mode }
         requires word { length word.now ≡ n_of self.old.mode }
-        ensures is { result ≡ figures_of self.old.mode self.old.number symbols.now soft.now word.now rounds }
+        ensures is { result ≡ figures_of self.old.mode self.old.number symbols.now removed soft.now word.now rounds }
         ensures same { self.new ≡ self.old }
     {
         map_into(self.mode, word, &mut self.payload);
@@ -100,6 +109,7 @@ impl FigureMeter {
             payload: errors.payload,
             known_correlation: correlations.known,
             payload_correlation: correlations.payload,
+            removed,
         }
     }
 }

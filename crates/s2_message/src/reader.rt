@@ -63,6 +63,7 @@ impl Model for FrameReader {
       number = r.demodulator.number;
       options = r.options;
       derotator = r.derotator;
+      equalizer = r.equalizer;
       turn = r.turn;
       word = r.corrector.word;
       field = r.messages.field;
@@ -139,7 +140,9 @@ impl FrameReader {
         let found = self.corrector.correct(word);
         let (outcome, header) = self.messages.read_outcome(found, self.corrector.word());
         let upright = self.derotator.upright(symbols);
-        let figures = find_figures(&mut self.meter, upright, soft, word, rounds);
+        let levelled = self.equalizer.levelled(upright);
+        let removed = self.equalizer.removed();
+        let figures = find_figures(&mut self.meter, levelled, removed, soft, word, rounds);
         Decided {
             verdict,
             outcome,

@@ -1,5 +1,5 @@
 -- The figures of a frame without noise: nothing is wrong.
-use Rattle.s2_modem.proofs.Names.{◌≡◌, ℕ, zero, suc, ◌+◌, ◌*◌, ◌%◌, ◌==◌, ◌<◌, Bool, true, false, cond, List, [], ◌∷◌, length, take, map, range_with_len, Some, None, refl, sym, ap, ap₂, subst, ◌∙◌, arith, ints, ℤ, pos, neg_ℤ, length-take, length-map-range_with_len, get_or-map-range_with_len, ext_get_or, sum_by-cons, Mode, IsMode, HasCodeSizes, n_of, symbols_in, Symbol, symbol, symbol_at, symbols_least, decision, differences, IsCodeword, code_of, hard_decision, header_bit, header_symbol, frame_symbol, frame_symbols, payload_of, IsDivisor, Link, Tuning, IsLinkOf, Decided, decided, rounds_run, clean_lem, codeword_satisfied, rounds_hard, Figures, squared_distance, error_at, known_places, payload_places, sent_frame, figures_of, symbol_energy, energy_of, header_errors, frame_soft, frame_decision, sent_symbols, clean_energy, clean_figures, clean_figures_by, decided_symbols, upright_symbols, received_payload, soft_values}
+use Rattle.s2_modem.proofs.Names.{◌≡◌, ℕ, zero, suc, ◌+◌, ◌*◌, ◌%◌, ◌==◌, ◌<◌, Bool, true, false, cond, List, [], ◌∷◌, length, take, map, range_with_len, Some, None, refl, sym, ap, ap₂, subst, ◌∙◌, arith, ints, ℤ, pos, neg_ℤ, length-take, length-map-range_with_len, get_or-map-range_with_len, ext_get_or, sum_by-cons, Mode, IsMode, HasCodeSizes, n_of, symbols_in, Symbol, symbol, symbol_at, symbols_least, decision, differences, IsCodeword, code_of, hard_decision, header_bit, header_symbol, frame_symbol, frame_symbols, payload_of, IsDivisor, Link, Tuning, IsLinkOf, Decided, decided, rounds_run, clean_lem, codeword_satisfied, rounds_hard, Figures, squared_distance, error_at, known_places, payload_places, sent_frame, figures_of, symbol_energy, energy_of, header_errors, frame_soft, frame_decision, sent_symbols, clean_energy, clean_figures, clean_figures_by, clean_removed, decided_symbols, upright_symbols, Removed, removed_if, removed_frame, options_of, sent_removed, IsModerate, Option, if◌then◌else◌, received_payload, soft_values}
 use Rattle.std.specs.Prelude.{negsuc, ◌+ℤ◌, ◌-ℤ◌, ◌*ℤ◌, unsigned_abs}
 use lib.IntN.{pos-*ℤ-pos, negsuc-*ℤ-negsuc, *ℤ_comm}
 use Rattle.std.specs.List.{sum_by}
@@ -9,6 +9,7 @@ use Rattle.s2_plframe.specs.Search.{mismatches}
 use Rattle.s2_plframe.specs.Header.{header_of}
 use Rattle.s2_plframe.proofs.HeaderFacts.{header_at, header_no_mismatch}
 use Rattle.s2_modem.proofs.DecisionLemmas.{code_is}
+use Rattle.s2_modem.proofs.Moderate.{payload_moderate}
 use Rattle.s2_modem.proofs.CleanFrames.{received, differences_none, is_mode, has_sizes, sent_straight, sent_upright, sent_unturned}
 
 -- ---- distances
@@ -78,9 +79,9 @@ header_energy m number payload is =
 
 -- ---- the frame
 
-all_clean : (m : Mode) (number : ℕ) (soft : List ℤ) (word : List Bool) → IsMode m → hard_decision soft ≡ word → figures_of m number (sent_frame m number word) soft word 0 ≡ clean_figures m number word
+all_clean : (m : Mode) (number : ℕ) (soft : List ℤ) (word : List Bool) → (equalize : Bool) → (removed : Option Removed) → removed ≡ (if equalize then Some clean_removed else None) → IsMode m → hard_decision soft ≡ word → figures_of m number (sent_frame m number word) removed soft word 0 ≡ clean_figures equalize m number word
 unfolding figures_of
-all_clean m number soft word is hard =
+all_clean m number soft word equalize removed taken is hard =
     let none : differences (n_of m) (hard_decision soft) word ≡ 0 = ap (λ (w : List Bool). differences (n_of m) w word) hard ∙ differences_none (n_of m) word in
     let sent = sent_frame m number word in
     λ i. record {
@@ -91,7 +92,14 @@ all_clean m number soft word is hard =
       payload = record { sum = none_over sent (payload_places m) i; of = length (payload_places m) };
       known_correlation = clean_over sent (known_places m) i;
       payload_correlation = clean_over sent (payload_places m) i;
+      removed = taken i;
     }
+
+-- what is taken out of a frame as it was sent
+sent_taken : (m : Mode) (number : ℕ) (equalize : Bool) (payload : List Symbol) → IsMode m → ((k : ℕ) → IsModerate 1 (symbol_at payload k))
+    → removed_if m number equalize (frame_symbols m number payload) ≡ (if equalize then Some clean_removed else None)
+sent_taken m number true payload is each = ap Some (sent_removed m number payload is each)
+sent_taken m number false payload is each = refl
 
 -- the figures of a codeword's frame without noise, if they are wanted, its header's energy, and its turn
 pub clean_measures : (m : Mode) → IsMode m → HasCodeSizes m → (link : Link) → IsLinkOf m link → (tuning : Tuning) → IsDivisor tuning.divisor → (codeword : List Bool) → IsCodeword (code_of link.rows) codeword
@@ -113,6 +121,8 @@ clean_measures m valid sizes link linked tuning known codeword in_code =
     let bits : (decided link.rows tuning soft).bits ≡ codeword = ap (λ (d : Decided). d.bits) sure.0 ∙ hard in
     let rounds : rounds_run link.rows tuning soft ≡ 0 = rounds_hard link.rows tuning soft (codeword_satisfied (code_of link.rows) (hard_decision soft) word) in
     let straight : upright_symbols link tuning symbols ≡ symbols = sent_straight m valid sizes link linked tuning codeword in
-    let figures : figures_of mode number (upright_symbols link tuning symbols) soft (decided link.rows tuning soft).bits (rounds_run link.rows tuning soft) ≡ clean_figures mode number codeword =
-    (λ i. figures_of mode number (straight i) soft (bits i) (rounds i)) ∙ all_clean mode number soft codeword is hard in
+    let taken : removed_frame mode number (options_of tuning) symbols ≡ (if tuning.equalize then Some clean_removed else None) =
+    ap (removed_if mode number tuning.equalize) straight ∙ sent_taken mode number tuning.equalize (payload_of mode codeword) is (payload_moderate mode codeword) in
+    let figures : figures_of mode number (decided_symbols link tuning symbols) (removed_frame mode number (options_of tuning) symbols) soft (decided link.rows tuning soft).bits (rounds_run link.rows tuning soft) ≡ clean_figures tuning.equalize mode number codeword =
+    (λ i. figures_of mode number (upright i) (removed_frame mode number (options_of tuning) symbols) soft (bits i) (rounds i)) ∙ all_clean mode number soft codeword tuning.equalize _ taken is hard in
     (ap (λ (f : Figures). cond tuning.figures (Some f) None) figures, header_energy mode number (payload_of mode codeword) is, sent_unturned m valid sizes link linked tuning codeword)

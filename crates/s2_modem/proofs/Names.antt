@@ -53,10 +53,11 @@ pub use Rattle.s2_plframe.specs.Search.{decision, found, found_behind}
 pub use Rattle.s2_plframe.specs.Turns.{behind_in, found_in, sides, sought_of}
 unfoldable pub use Rattle.s2_plframe.specs.Turns.{derotated, turn_of}
 pub use Rattle.s2_equalize.specs.Equalizer.{Equalizer, equalized, equalizer_of}
-pub use Rattle.s2_equalize.specs.Wanted.{levelled}
+pub use Rattle.s2_equalize.specs.declared.equalizer.Removed.{Removed}
+pub use Rattle.s2_equalize.specs.Wanted.{levelled, removed_if}
 pub use Rattle.s2_equalize.proofs.WantedLemmas.{if_equalized, length_levelled, levelled_by}
 pub use Rattle.s2_equalize.specs.Laws.{IsModerate}
-pub use Rattle.s2_equalize.proofs.ExactFrames.{sent_back}
+pub use Rattle.s2_equalize.proofs.ExactFrames.{sent_back, sent_removed}
 pub use Rattle.s2_plframe.specs.declared.receive.found.Found.{Found}
 pub use Rattle.s2_plframe.proofs.HeaderFacts.{clean_passes, dummy_found}
 pub use Rattle.s2_plframe.proofs.HeadersBehind.{clean_behind, dummy_behind}
@@ -119,10 +120,10 @@ unfoldable pub use Rattle.s2_message.specs.Figures.{figures_of}
 pub use Rattle.s2_message.specs.Header.{symbol_energy}
 unfoldable pub use Rattle.s2_message.specs.Header.{energy_of, header_errors}
 pub use Rattle.s2_modem.specs.Both.{AreBytes, FramePlace, IsByte, IsDelivered, IsDeliveredCertified, ReceivesAll, certified_lines, energy_over, run_places, sent_symbols, sums_over, totals_of}
-pub use Rattle.s2_modem.specs.Front.{IsCleanFrame, clean_energy, clean_figures, clean_figures_by}
+pub use Rattle.s2_modem.specs.Front.{IsCleanFrame, clean_energy, clean_figures, clean_figures_by, clean_removed}
 pub use Rattle.s2_modem.specs.Headline.{ArrivalLaw, BothCodesLaw, CorrectsWithin, IsSent, ReceivesAllLaw, ReceivesScattered, ScatteredFrameLaw, sent_places}
 pub use Rattle.s2_message.specs.declared.options.FrameOptions.{FrameOptions}
-pub use Rattle.s2_message.specs.Decisions.{bits_decision, decision_with, delivered_by, field_in, header_in, levelled_frame, measured, message_of, outcome_by, quarters, received_word, soft_frame, upright_frame, word_decision}
+pub use Rattle.s2_message.specs.Decisions.{bits_decision, decision_with, delivered_by, field_in, header_in, levelled_frame, measured, removed_frame, message_of, outcome_by, quarters, received_word, soft_frame, upright_frame, word_decision}
 pub use Rattle.s2_message.specs.Reading.{FrameReader, HasFrame, decision_held}
 pub use Rattle.s2_modem.specs.DeciderState.{DeciderState, decides}
 pub use Rattle.s2_modem.specs.Promise.{Arriving, CallsLaw, Headline, IsCutAt, IsHeadline, IsNext, IsReadable, FramePromises, IsFrameAt, KeepsHeadline, Place, report_at, RunsHeadline, closed_packets, decision_from, found_at, frame_from, is_delivered, passed_at, past, stands, wrong_bits}

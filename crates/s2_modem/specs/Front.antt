@@ -20,6 +20,9 @@ use Rattle.s2_message.specs.Header.{symbol_energy}
 use Rattle.s2_tuning.specs.Tuning.{Tuning}
 use Rattle.s2_report.specs.declared.figures.Correlation.{Correlation}
 use Rattle.s2_report.specs.declared.figures.Figures.{Figures}
+use Rattle.s2_equalize.specs.declared.equalizer.Removed.{Removed}
+use Rattle.s2_equalize.specs.Complex.{complex}
+use Rattle.s2_equalize.specs.Gains.{no_turn}
 
 -- the header of a codeword's frame is found, and the soft values of its payload by this divisor say the codeword; none
 -- of them is 0
@@ -40,9 +43,13 @@ energy_at places sent = sum_by (λ i. symbol_energy (symbol_at sent i)) places
 abbrev pub clean_correlation : List ℕ → List Symbol → Correlation
 clean_correlation places sent = record { power = energy_at places sent; along = pos (energy_at places sent); across = pos 0 }
 
--- the figures of a codeword's frame without noise: no wrong bit, no round, no error
-abbrev pub clean_figures : Mode → ℕ → List Bool → Figures
-clean_figures m number codeword =
+-- the equalizer removes from a frame without noise a gain of 1, and no rotation
+abbrev pub clean_removed : Removed
+clean_removed = record { gain = complex (pos 1024) (pos 0); rotation = no_turn }
+
+-- the figures of a codeword's frame without noise, equalized or not: no wrong bit, no round, no error
+abbrev pub clean_figures : (equalize : Bool) → Mode → ℕ → List Bool → Figures
+clean_figures equalize m number codeword =
     record {
       header = 0;
       rounds = 0;
@@ -51,11 +58,12 @@ clean_figures m number codeword =
       payload = record { sum = 0; of = length (payload_places m) };
       known_correlation = clean_correlation (known_places m) (sent_frame m number codeword);
       payload_correlation = clean_correlation (payload_places m) (sent_frame m number codeword);
+      removed = if equalize then Some clean_removed else None;
     }
 
 -- if the tuning asks for them
 abbrev pub clean_figures_by : Tuning → Mode → ℕ → List Bool → Option Figures
-clean_figures_by tuning m number codeword = if tuning.figures then Some (clean_figures m number codeword) else None
+clean_figures_by tuning m number codeword = if tuning.figures then Some (clean_figures tuning.equalize m number codeword) else None
 
 -- the energy of a header without noise: each of its symbols has 700 for I and Q, or -700
 abbrev pub clean_energy : ℕ

@@ -45,7 +45,7 @@ pub record IsUndecided (m : Mode) (d : Decision) : Type 0 where
 abbrev pub decision_on : Mode → List ℤ → Decided → Decision
 decision_on m soft d = bits_decision m soft d.verdict d.bits d.certificate
 
--- the figures of a frame's symbols, before the equalizer, and of its decided bits, if the tuning has figures
+-- the figures of the symbols that were decided, and of the decided bits, if the tuning has figures
 abbrev pub figures_by : Link → Tuning → List Symbol → Option Figures
 figures_by link tuning symbols =
     figures_with link.setup.mode link.setup.number (options_of tuning) symbols (frame_soft link tuning symbols) (decided link.rows tuning (frame_soft link tuning symbols)).bits (rounds_run link.rows tuning (frame_soft link tuning symbols))

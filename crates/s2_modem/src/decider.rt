@@ -133,7 +133,7 @@ impl<'a> Decide for Decider<'a> {
     ghost last = { λ d. d.last };
 
     /// Decides a frame, exactly as the definition says for its symbols, after rotating them back and equalizing them if the
-    /// tuning says so. The figures are those of the symbols before the equalizer.
+    /// tuning says so. The figures are those of the symbols that are decided.
     fn decide(&mut self, symbols: &[Symbol]) {
         self.reader.find_soft(symbols, self.judge.soft_mut());
         let verdict = self.judge.decide();

@@ -1,5 +1,5 @@
-//! The bytes of a packet file that `--resync` left out: the note on them, and the exit. And the note on a refused audit. This
-//! is plain code.
+//! The bytes of a packet file that `--resync` left out: the note on them, and the exit. And the notes on a refused audit and on
+//! numbers that are typed. This is plain code.
 ghost use Rattle.std.specs.Prelude.{◌≢◌, ◌+◌, ◌≤◌, length};
 ghost use Rattle.s2_io.specs.Lines.{line_room};
 
@@ -44,6 +44,13 @@ pub fn exit_after(left_out: LeftOut, exit: Exit) -> Exit
     } else {
         exit
     }
+}
+
+/// Notes which numbers the program without arguments waits for.
+pub fn note_typed<R: Disk>(terminal: &Terminal<'_, R>) {
+    let note =
+        "s2: note: reading 20 numbers from -511 to 511, then Ctrl-D; s2 --help lists the commands\n";
+    write_note(terminal, note.as_bytes());
 }
 
 /// Notes the likely causes of a refused audit.

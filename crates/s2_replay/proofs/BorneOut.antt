@@ -16,7 +16,7 @@ use Rattle.s2_report.specs.declared.report.Step.{Step}
 use Rattle.s2_receive.specs.Halves.{Follower}
 use Rattle.s2_receive.specs.Receiving.{Decision}
 use Rattle.s2_receive.specs.declared.window.Next.{Next}
-use Rattle.s2_message.specs.Decisions.{received_word, soft_frame, upright_frame, word_decision}
+use Rattle.s2_message.specs.Decisions.{levelled_frame, received_word, removed_frame, soft_frame, word_decision}
 use Rattle.s2_message.specs.Figures.{figures_of}
 use Rattle.s2_replay.specs.Certificates.{Certifies, IsParityVerdict, Shows, ShowsParsed}
 use Rattle.s2_replay.specs.Frames.{AuditsFrame, ComparesLine, HasRounds, SettlesBy, cost_of}
@@ -74,7 +74,7 @@ module _ (t : Terms) (symbols : List Symbol) (verdict : Verdict) (bits : List Bo
     unfolding figures_of
     rounds_is line is = by t.options.figures
       where
-        by : (b : Bool) → IfSome (if b then Some (figures_of t.mode t.number (upright_frame t.mode t.options symbols) soft bits rounds) else None) (λ f. f.rounds ≡ rounds_in (words_of line))
+        by : (b : Bool) → IfSome (if b then Some (figures_of t.mode t.number (levelled_frame t.mode t.number t.options symbols) (removed_frame t.mode t.number t.options symbols) soft bits rounds) else None) (λ f. f.rounds ≡ rounds_in (words_of line))
         by true = is
         by false = tt
 

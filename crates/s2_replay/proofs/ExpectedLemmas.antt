@@ -17,7 +17,7 @@ use Rattle.s2_receive.specs.Halves.{Follower, GoesOnFrom, IsRunBy, RunsBy, ahead
 use Rattle.s2_receive.specs.Receiving.{Decision, Standing}
 use Rattle.s2_receive.specs.declared.window.Next.{Next}
 use Rattle.s2_receive.specs.declared.window.Next.TheVariants as next
-use Rattle.s2_message.specs.Decisions.{bits_decision, figures_with, measured, quarters, soft_frame, upright_frame}
+use Rattle.s2_message.specs.Decisions.{bits_decision, figures_with, levelled_frame, measured, quarters, removed_frame, soft_frame}
 use Rattle.s2_message.specs.Figures.{figures_of}
 use Rattle.s2_message.specs.Header.{energy_of}
 use Rattle.s2_replay.specs.Certificates.{Certifies, IsCertifiedVerdict, IsParityVerdict, ShowsParsed, ShowsFile}
@@ -138,11 +138,11 @@ module _ (t : Terms) (symbols : List Symbol) where
   soft = soft_frame t.mode t.number t.options symbols
 
   -- the figures have the same rounds
-  same_figures : (b : Bool) (bits : List Bool) (r s n : ℕ) → IfSome (if b then Some (figures_of t.mode t.number (upright_frame t.mode t.options symbols) soft bits r) else None) (λ f. f.rounds ≡ n)
-      → IfSome (if b then Some (figures_of t.mode t.number (upright_frame t.mode t.options symbols) soft bits s) else None) (λ f. f.rounds ≡ n)
-      → (if b then Some (figures_of t.mode t.number (upright_frame t.mode t.options symbols) soft bits r) else None) ≡ (if b then Some (figures_of t.mode t.number (upright_frame t.mode t.options symbols) soft bits s) else None)
+  same_figures : (b : Bool) (bits : List Bool) (r s n : ℕ) → IfSome (if b then Some (figures_of t.mode t.number (levelled_frame t.mode t.number t.options symbols) (removed_frame t.mode t.number t.options symbols) soft bits r) else None) (λ f. f.rounds ≡ n)
+      → IfSome (if b then Some (figures_of t.mode t.number (levelled_frame t.mode t.number t.options symbols) (removed_frame t.mode t.number t.options symbols) soft bits s) else None) (λ f. f.rounds ≡ n)
+      → (if b then Some (figures_of t.mode t.number (levelled_frame t.mode t.number t.options symbols) (removed_frame t.mode t.number t.options symbols) soft bits r) else None) ≡ (if b then Some (figures_of t.mode t.number (levelled_frame t.mode t.number t.options symbols) (removed_frame t.mode t.number t.options symbols) soft bits s) else None)
   unfolding figures_of
-  same_figures true bits r s n h h' = ap (λ k. Some (figures_of t.mode t.number (upright_frame t.mode t.options symbols) soft bits k)) (h ∙ sym h')
+  same_figures true bits r s n h h' = ap (λ k. Some (figures_of t.mode t.number (levelled_frame t.mode t.number t.options symbols) (removed_frame t.mode t.number t.options symbols) soft bits k)) (h ∙ sym h')
   same_figures false bits r s n h h' = refl
 
   module _ (line : List ℕ) (d e : Decision) (has : HasRounds d line) (has' : HasRounds e line) where

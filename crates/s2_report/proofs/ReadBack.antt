@@ -14,10 +14,11 @@ use Rattle.s2_check.specs.declared.verdict.Verdict.{Verdict}
 use Rattle.s2_check.specs.declared.verdict.Verdict.TheVariants.{Sole, MostLikely, Parity, Broken}
 use Rattle.s2_report.specs.Entries.{IsLine, below_limit, IsReadAs, IsSmall, entry_of, entry_with, frame_of_report, frame_with, is_blank, number_in, verdict_in, words_of}
 use Rattle.s2_report.specs.Limits.{line_bytes}
-use Rattle.s2_report.specs.ReportLines.{correlation_words, cut_bytes_line, cut_line, decoding_words, delivered_words, end_line, figures_words, frame_line, frames_words, outcome_words, packets_words, sums_words, tally_words, turn_words}
+use Rattle.s2_report.specs.ReportLines.{correlation_words, cut_bytes_line, cut_line, decoding_words, delivered_words, end_line, figures_words, frame_line, frames_words, outcome_words, packets_words, parts_words, removed_words, sums_words, tally_words, turn_words}
 use Rattle.s2_report.specs.declared.entry.Entry.{Entry}
 use Rattle.s2_report.specs.declared.entry.Entry.TheVariants as entries
 use Rattle.s2_report.specs.declared.figures.Figures.{Figures}
+use Rattle.s2_equalize.specs.declared.equalizer.Removed.{Removed}
 use Rattle.s2_report.specs.declared.figures.Sums.{Sums}
 use Rattle.s2_report.specs.declared.report.Report.{Report}
 use Rattle.s2_report.specs.declared.totals.Totals.{Totals}
@@ -116,7 +117,7 @@ word [] text h = refl
 word (b ∷ w) text h = cond-false _ _ _ h.0 ∙ ap (in_front b) (word w text h.1)
 
 -- a line that is no longer than the longest
-pub reads : (text : List ℕ) (entry : Entry) → IsLine text → length (text ++ 10 ∷ []) ≤ 512 → entry_of (words_of text) ≡ Some entry → IsReadAs (text ++ 10 ∷ []) entry
+pub reads : (text : List ℕ) (entry : Entry) → IsLine text → length (text ++ 10 ∷ []) ≤ 640 → entry_of (words_of text) ≡ Some entry → IsReadAs (text ++ 10 ∷ []) entry
 reads text entry whole short says = record {
   text = text;
   is = refl;
@@ -200,7 +201,7 @@ module _ (r : Report) where
       (append_line (codes "frame ") (decimal r.number) (known_line (codes "frame ") refl) number) refl at) refl (verdict_line r.verdict))
       (known_line (codes " ") refl)
 
-  pub frame_back : IsLine (decimal r.number) → IsLine (decimal r.at) → IsLine (outcome_words r.outcome) → IsLine (figures_words r.figures) → IsLine (turn_words r.turn) → length (frame_line r) ≤ 512
+  pub frame_back : IsLine (decimal r.number) → IsLine (decimal r.at) → IsLine (outcome_words r.outcome) → IsLine (figures_words r.figures) → IsLine (turn_words r.turn) → length (frame_line r) ≤ 640
       → IsSmall (frame_of_report r) → IsReadAs (frame_line r) (entries.Frame (frame_of_report r))
   unfolding frame_line
   frame_back number at outcome figures turn short small =
@@ -212,12 +213,18 @@ module _ (r : Report) where
 -- ---- the figures
 
 pub figures_line : (f : Figures) → IsLine (decoding_words f) → IsLine (decimal f.known.sum) → IsLine (correlation_words f.known_correlation) → IsLine (decimal f.payload.sum) → IsLine (correlation_words f.payload_correlation)
-    → IsLine (figures_words (Some f))
-figures_line f decoding known known_correlation payload payload_correlation =
-    append_line (decoding_words f ++ codes " known " ++ decimal f.known.sum ++ correlation_words f.known_correlation ++ codes " payload " ++ decimal f.payload.sum) (correlation_words f.payload_correlation)
+    → IsLine (removed_words f.removed) → IsLine (figures_words (Some f))
+figures_line f decoding known known_correlation payload payload_correlation removed =
+    append_line (decoding_words f ++ codes " known " ++ decimal f.known.sum ++ correlation_words f.known_correlation ++ codes " payload " ++ decimal f.payload.sum ++ correlation_words f.payload_correlation) (removed_words f.removed)
+    (append_line (decoding_words f ++ codes " known " ++ decimal f.known.sum ++ correlation_words f.known_correlation ++ codes " payload " ++ decimal f.payload.sum) (correlation_words f.payload_correlation)
     (more_line (decoding_words f ++ codes " known " ++ decimal f.known.sum ++ correlation_words f.known_correlation) (codes " payload ") (decimal f.payload.sum)
     (append_line (decoding_words f ++ codes " known " ++ decimal f.known.sum) (correlation_words f.known_correlation)
-    (more_line (decoding_words f) (codes " known ") (decimal f.known.sum) decoding refl known) known_correlation) refl payload) payload_correlation
+    (more_line (decoding_words f) (codes " known ") (decimal f.known.sum) decoding refl known) known_correlation) refl payload) payload_correlation) removed
+
+pub removed_line : (r : Removed) → IsLine (parts_words r.gain) → IsLine (parts_words r.rotation) → IsLine (removed_words (Some r))
+removed_line r gain rotation =
+    append_line (codes " gain" ++ parts_words r.gain ++ codes " rotation") (parts_words r.rotation)
+    (append_line (codes " gain" ++ parts_words r.gain) (codes " rotation") (append_line (codes " gain") (parts_words r.gain) (known_line (codes " gain") refl) gain) (known_line (codes " rotation") refl)) rotation
 
 pub sums_line : (s : Sums) → IsLine (tally_words s.changed) → IsLine (tally_words s.known) → IsLine (decimal s.known_power) → IsLine (tally_words s.payload) → IsLine (decimal s.payload_power) → IsLine (sums_words (Some s))
 sums_line s changed known known_power payload payload_power =
@@ -236,21 +243,21 @@ cut_says rest = ap entry_of (word (codes "cut") rest (known is_blank (codes "cut
 end_says : (rest : List ℕ) → entry_of (words_of (codes "end" ++ 32 ∷ rest)) ≡ Some entries.Other
 end_says rest = ap entry_of (word (codes "end") rest (known is_blank (codes "end") refl))
 
-pub cut_back : (at count : ℕ) → IsLine (decimal at) → IsLine (decimal count) → length (cut_line at count) ≤ 512 → IsReadAs (cut_line at count) entries.Other
+pub cut_back : (at count : ℕ) → IsLine (decimal at) → IsLine (decimal count) → length (cut_line at count) ≤ 640 → IsReadAs (cut_line at count) entries.Other
 unfolding cut_line
 cut_back at count a b short =
     reads (codes "cut at " ++ decimal at ++ codes " symbols " ++ decimal count) entries.Other
     (more_line (codes "cut at " ++ decimal at) (codes " symbols ") (decimal count) (append_line (codes "cut at ") (decimal at) (known_line (codes "cut at ") refl) a) refl b)
     short (cut_says (codes "at " ++ decimal at ++ codes " symbols " ++ decimal count))
 
-pub cut_bytes_back : (at count : ℕ) → IsLine (decimal at) → IsLine (decimal count) → length (cut_bytes_line at count) ≤ 512 → IsReadAs (cut_bytes_line at count) entries.Other
+pub cut_bytes_back : (at count : ℕ) → IsLine (decimal at) → IsLine (decimal count) → length (cut_bytes_line at count) ≤ 640 → IsReadAs (cut_bytes_line at count) entries.Other
 unfolding cut_bytes_line
 cut_bytes_back at count a b short =
     reads (codes "cut at " ++ decimal at ++ codes " bytes " ++ decimal count) entries.Other
     (more_line (codes "cut at " ++ decimal at) (codes " bytes ") (decimal count) (append_line (codes "cut at ") (decimal at) (known_line (codes "cut at ") refl) a) refl b)
     short (cut_says (codes "at " ++ decimal at ++ codes " bytes " ++ decimal count))
 
-pub end_back : (t : Totals) → IsLine (frames_words t) → IsLine (delivered_words t) → IsLine (packets_words t) → IsLine (sums_words t.sums) → length (end_line t) ≤ 512 → IsReadAs (end_line t) entries.Other
+pub end_back : (t : Totals) → IsLine (frames_words t) → IsLine (delivered_words t) → IsLine (packets_words t) → IsLine (sums_words t.sums) → length (end_line t) ≤ 640 → IsReadAs (end_line t) entries.Other
 unfolding end_line frames_words
 end_back t frames delivered packets sums short =
     reads (frames_words t ++ delivered_words t ++ packets_words t ++ sums_words t.sums) entries.Other

@@ -85,7 +85,7 @@ entry_of (word ∷ words) =
     else if is_text word (codes "cut") || is_text word (codes "end") then Some entries.Other
     else None
 
--- parses a line; a readable line has at most 511 bytes
+-- parses a line; a readable line has at most 639 bytes
 abbrev pub entry_in : List ℕ → Option Entry
 entry_in line = if nat_le (length line) line_bytes then entry_of (words_of line) else None
 

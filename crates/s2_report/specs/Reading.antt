@@ -20,7 +20,7 @@ GivesLine old new line false = IsLine line × Consumes old new line × (IsAtEnd 
 abbrev pub line_fault : ℕ → Fault
 line_fault number = faults.Refused (codes "report: " ++ (codes "line " ++ decimal number))
 
--- the next line of a report, without its LF, or its end; the line of this number is refused if it has no LF, at the end or after 511
+-- the next line of a report, without its LF, or its end; the line of this number is refused if it has no LF, at the end or after 639
 -- bytes
 abbrev pub NextLine : (number : ℕ) → (old new : Option (List ℕ)) → (line : List ℕ) → Result Bool Fault → Type 0
 NextLine number old new line (Ok true) = IsLine line × Consumes old new (line ++ 10 ∷ [])

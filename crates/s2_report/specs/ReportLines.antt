@@ -2,6 +2,8 @@
 use Rattle.std.specs.Prelude.{ℕ, List, [], ◌++◌, Option, Some, None, codes, decimal, nat_eq, if◌then◌else◌}
 use Rattle.std.specs.Fmt.{signed_decimal}
 use Rattle.s2_check.specs.Verdicts.{verdict_word}
+use Rattle.s2_equalize.specs.declared.complex.Complex.{Complex}
+use Rattle.s2_equalize.specs.declared.equalizer.Removed.{Removed}
 use Rattle.s2_report.specs.declared.figures.Correlation.{Correlation}
 use Rattle.s2_report.specs.declared.figures.Figures.{Figures}
 use Rattle.s2_report.specs.declared.figures.Sums.{Sums}
@@ -27,12 +29,22 @@ correlation_words c = codes " power " ++ decimal c.power ++ codes " along " ++ s
 unfoldable pub decoding_words : Figures → List ℕ
 decoding_words f = codes " header " ++ decimal f.header ++ codes " changed " ++ decimal f.changed.sum ++ codes " rounds " ++ decimal f.rounds
 
--- header H changed B rounds K known E power W along A across C payload E power W along A across C, for a frame with figures
+-- along A across C, for a complex number
+unfoldable pub parts_words : Complex → List ℕ
+parts_words a = codes " along " ++ signed_decimal a.re ++ codes " across " ++ signed_decimal a.im
+
+-- gain along A across C rotation along A across C, for a frame that was equalized
+abbrev pub removed_words : Option Removed → List ℕ
+removed_words None = []
+removed_words (Some r) = codes " gain" ++ parts_words r.gain ++ codes " rotation" ++ parts_words r.rotation
+
+-- header H changed B rounds K known E power W along A across C payload E power W along A across C, for a frame with figures; and
+-- the gain that the equalizer removed
 abbrev pub figures_words : Option Figures → List ℕ
 figures_words None = []
 figures_words (Some f) =
     decoding_words f ++ codes " known " ++ decimal f.known.sum ++ correlation_words f.known_correlation
-    ++ codes " payload " ++ decimal f.payload.sum ++ correlation_words f.payload_correlation
+    ++ codes " payload " ++ decimal f.payload.sum ++ correlation_words f.payload_correlation ++ removed_words f.removed
 
 -- turn T, for a frame that arrived rotated by T quarters
 abbrev pub turn_words : ℕ → List ℕ

@@ -2,6 +2,8 @@
 ghost use Rattle.std.specs.Prelude.{◌≡◌};
 ghost use Rattle.s2_report.specs.Figures.{saturated, sums_after, sums_of, sums_of_both, sums_plus, tally_sum};
 
+use s2_equalize::Removed;
+
 /// A sum, and over how many bits or symbols it goes.
 #[derive(Clone, Copy, Debug, PartialEq, Eq)]
 pub struct Tally {
@@ -35,7 +37,8 @@ pub struct Correlation {
 
 /// The figures of a decided frame. A frame has them only if its decider was asked for them.
 ///
-/// A distance is between a received symbol and what was sent there, in the units of [`s2_mode::Symbol`], squared.
+/// A distance is between a received symbol and what was sent there, in the units of [`s2_mode::Symbol`], squared. If frames are
+/// equalized, the symbols of all figures are those after the equalizer.
 #[derive(Clone, Copy, Debug, PartialEq, Eq)]
 pub struct Figures {
     /// How many of the 90 symbols of the PLHEADER were decided wrongly. They are compared with the header of the mode
@@ -53,6 +56,8 @@ pub struct Figures {
     pub known_correlation: Correlation,
     /// The same of the payload's symbols.
     pub payload_correlation: Correlation,
+    /// The gain and the rotation that the equalizer removed, if it was used.
+    pub removed: Option<Removed>,
 }
 
 /// The sums of figures over the frames that have them. Each number stops at 2^64 - 1.

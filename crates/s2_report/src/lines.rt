@@ -4,11 +4,12 @@ ghost use Rattle.std.specs.Fmt.{signed_decimal};
 ghost use Rattle.s2_io.specs.Lines.{line_room};
 ghost use Rattle.s2_report.specs.Entries.{IsLine, IsReadAs, IsSmall, IsSmallEntry, entry_of_step, frame_of_report};
 ghost use Rattle.s2_report.specs.declared.entry.Entry.TheVariants as entries;
-ghost use Rattle.s2_report.specs.ReportLines.{cut_bytes_line, outcome_words, correlation_words, decoding_words, figures_words, turn_words, frame_line, cut_line, frames_words, delivered_words, packets_words, tally_words, sums_words, end_line, step_line};
+ghost use Rattle.s2_report.specs.ReportLines.{cut_bytes_line, outcome_words, correlation_words, decoding_words, figures_words, turn_words, frame_line, cut_line, frames_words, delivered_words, packets_words, parts_words, removed_words, tally_words, sums_words, end_line, step_line};
 
 use crate::figures::{Correlation, Figures, Sums, Tally};
 use crate::report::{Outcome, Report, Step};
 use crate::totals::Totals;
+use s2_equalize::{Complex, Removed};
 use s2_io::Line;
 
 /// Appends words and a count, in at most 20 digits.
@@ -77,11 +78,38 @@ fn push_decoding(line: &mut Line, figures: Figures)
     push_small(line, " rounds ", figures.rounds);
 }
 
+/// Appends the two parts of a complex number.
+#[tactic(auto, unfolding(crate::specs::ReportLines::parts_words))]
+fn push_parts(line: &mut Line, number: Complex)
+    requires { length line.old + 75 ≤ line_room }
+    ensures bytes { line.new ≡ line.old ++ parts_words number }
+    ensures line { IsLine (parts_words number) }
+    ensures room { length line.new ≤ length line.old + 55 }
+{
+    push_signed(line, " along ", number.re);
+    push_signed(line, " across ", number.im);
+}
+
+fn push_removed(line: &mut Line, removed: Option<Removed>)
+    requires { length line.old + 144 ≤ line_room }
+    ensures bytes { line.new ≡ line.old ++ removed_words removed }
+    ensures line { IsLine (removed_words removed) }
+    ensures room { length line.new ≤ length line.old + 124 }
+{
+    let Some(removed) = removed else {
+        return;
+    };
+    line.push(" gain");
+    push_parts(line, removed.gain);
+    line.push(" rotation");
+    push_parts(line, removed.rotation);
+}
+
 fn push_figures(line: &mut Line, figures: Option<Figures>)
-    requires { length line.old + 326 ≤ line_room }
+    requires { length line.old + 450 ≤ line_room }
     ensures bytes { line.new ≡ line.old ++ figures_words figures }
     ensures line { IsLine (figures_words figures) }
-    ensures room { length line.new ≤ length line.old + 306 }
+    ensures room { length line.new ≤ length line.old + 430 }
 {
     let Some(figures) = figures else {
         return;
@@ -91,6 +119,7 @@ fn push_figures(line: &mut Line, figures: Option<Figures>)
     push_correlation(line, figures.known_correlation);
     push_count(line, " payload ", figures.payload.sum);
     push_correlation(line, figures.payload_correlation);
+    push_removed(line, figures.removed);
 }
 
 fn push_turn(line: &mut Line, turn: u8)

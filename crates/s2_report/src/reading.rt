@@ -9,7 +9,7 @@ use s2_io::Fault;
 use s2_mode::{CountedRead, FaultText, ReadFault, read_full};
 
 /// The bytes of a line, with room for one too many.
-pub type LineBytes = ArrayVec<u8, 512>;
+pub type LineBytes = ArrayVec<u8, 640>;
 
 /// The next byte of a reader, or `None` at its end.
 pub fn read_byte<R: CountedRead>(reader: &mut R) -> Result<Option<u8>, ReadFault>
@@ -24,7 +24,7 @@ pub fn read_byte<R: CountedRead>(reader: &mut R) -> Result<Option<u8>, ReadFault
     Ok(Some(byte[0]))
 }
 
-/// Reads a line into an empty buffer, without its LF. False if no LF came, before the end or among 512 bytes.
+/// Reads a line into an empty buffer, without its LF. False if no LF came, before the end or among 640 bytes.
 fn read_line<R: CountedRead>(reader: &mut R, line: &mut LineBytes) -> Result<bool, ReadFault>
     requires reader { CanCount (R.count reader.old) }
     requires empty { line.old.items ≡ [] }

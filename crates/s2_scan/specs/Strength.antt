@@ -50,6 +50,6 @@ strength_line little bytes =
     (codes "symbols " ++ decimal (symbols_in bytes))
     ++ ((codes " rms " ++ decimal (rms_of little bytes)) ++ ((codes " clipped " ++ decimal (clipped_in little bytes)) ++ (if little then codes " bytes little\n" else codes " bytes big\n")))
 
--- what is printed if no header is found: how strong the symbols are in both byte orders
+-- the text if no header is found: how strong the symbols are in both byte orders, and the tool that reads other forms
 unfoldable pub nothing_text : List ℕ → List ℕ
-nothing_text bytes = codes "nothing found\n" ++ (strength_line false bytes ++ strength_line true bytes)
+nothing_text bytes = codes "nothing found\n" ++ (strength_line false bytes ++ (strength_line true bytes ++ codes "try tools/receive for floats and 8-bit samples\n"))

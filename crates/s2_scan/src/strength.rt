@@ -93,5 +93,6 @@ pub(crate) fn push_nothing(text: &mut Vec<u8>, bytes: &[u8]) -> Result<(), Alloc
 {
     push(text, "nothing found\n")?;
     push_strength(text, false, bytes)?;
-    push_strength(text, true, bytes)
+    push_strength(text, true, bytes)?;
+    push(text, "try tools/receive for floats and 8-bit samples\n")
 }

@@ -16,8 +16,9 @@ use Rattle.s2_check.specs.declared.verdict.Verdict.{Verdict}
 use Rattle.s2_check.specs.declared.verdict.Verdict.TheVariants.{Parity, Broken}
 use Rattle.s2_judge.specs.Deciding.{Decided, by_min_sum, by_repair, certified, decided, decoded_bits, first_codeword, min_sum_view, or_else, repair_view, rounds_run, satisfies, uncertified, view_for, with_made}
 use Rattle.s2_link.specs.Link.{Link}
-use Rattle.s2_message.specs.Decisions.{bits_decision, decision_with, measured, quarters, received_word, upright_frame, word_decision}
+use Rattle.s2_message.specs.Decisions.{bits_decision, decision_with, levelled_frame, measured, quarters, received_word, removed_frame, word_decision}
 use Rattle.s2_message.specs.Figures.{figures_of}
+use Rattle.s2_message.specs.declared.options.FrameOptions.{FrameOptions}
 use Rattle.s2_message.specs.Header.{energy_of}
 use Rattle.s2_bch.specs.Decoding.{nearest}
 use Rattle.s2_receive.specs.Receiving.{Decision}
@@ -119,11 +120,11 @@ certificate_again : (r : Rows) (c : Option View) → IsReadBack true c → IsFil
 certificate_again r None back filed = ap (certificate_of r) no_file
 certificate_again r (Some v) back filed = ap (λ f. certificate_of r (file_in f)) back ∙ ap (λ x. Some x) filed
 
-rounds_again : (b : Bool) (m : Mode) (number : ℕ) (symbols : List Symbol) (soft : List ℤ) (bits : List Bool) (own : ℕ)
-    → (if b then Some (figures_of m number symbols soft bits (rounds_of (if b then Some (figures_of m number symbols soft bits own) else None))) else None) ≡ (if b then Some (figures_of m number symbols soft bits own) else None)
+rounds_again : (b : Bool) (m : Mode) (number : ℕ) (options : FrameOptions) (symbols : List Symbol) (soft : List ℤ) (bits : List Bool) (own : ℕ)
+    → (if b then Some (figures_of m number (levelled_frame m number options symbols) (removed_frame m number options symbols) soft bits (rounds_of (if b then Some (figures_of m number (levelled_frame m number options symbols) (removed_frame m number options symbols) soft bits own) else None))) else None) ≡ (if b then Some (figures_of m number (levelled_frame m number options symbols) (removed_frame m number options symbols) soft bits own) else None)
 unfolding figures_of
-rounds_again true m number symbols soft bits own = refl
-rounds_again false m number symbols soft bits own = refl
+rounds_again true m number options symbols soft bits own = refl
+rounds_again false m number options symbols soft bits own = refl
 
 module _ (link : Link) (tuning : Tuning) (seed : ℕ) (recording : List Symbol) (at : ℕ) where
   abbrev m : Mode
@@ -155,7 +156,7 @@ module _ (link : Link) (tuning : Tuning) (seed : ℕ) (recording : List Symbol) 
       let parts = kept m soft d.verdict d.bits d.certificate (nearest m (received_word m d.bits)) in
       let one : decision_by t symbols (made d.certificate own).verdict r ≡ made certificate r.rounds =
       λ i. decision_with m t.number t.options symbols soft (parts.0 i) (parts.1 i) (again i) r.rounds in
-      let two = rounds_again t.options.figures m t.number (upright_frame m t.options symbols) soft d.bits own in
+      let two = rounds_again t.options.figures m t.number t.options symbols soft d.bits own in
       one ∙ ap (λ f. measured (bits_decision m soft d.verdict d.bits certificate) f (energy_of (take header_symbols symbols)) (quarters m t.options symbols)) two
 
   by : (certified : Bool) → IsReadBack certified (made d.certificate own).certificate

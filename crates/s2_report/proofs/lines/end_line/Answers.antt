@@ -15,7 +15,7 @@ returns-clause-read_back c =
     let packets = c.push_packets.ensures.bytes ∙ ap (λ l. l ++ packets_words t) delivered in
     let sums = c.push_sums.ensures.bytes ∙ ap (λ l. l ++ sums_words t.sums) packets in
     let is : c.push.new.self ≡ end_line t = c.push.ensures ∙ ap (λ l. l ++ codes "\n") sums in
-    let short : length c.push.new.self ≤ 512 =
+    let short : length c.push.new.self ≤ 640 =
     omega (arith, pushed c.push_sums.new.line c.push.new.self (codes "\n") c.push.ensures, c.push_sums.ensures.room, c.push_packets.ensures.room, c.push_delivered.ensures.room, c.push_frames.ensures.room, ap length c.new-line.ensures) in
     subst (λ l. IsReadAs l entries.Other) (sym is)
-    (end_back t c.push_frames.ensures.line c.push_delivered.ensures.line c.push_packets.ensures.line c.push_sums.ensures.line (subst (λ l. length l ≤ 512) is short))
+    (end_back t c.push_frames.ensures.line c.push_delivered.ensures.line c.push_packets.ensures.line c.push_sums.ensures.line (subst (λ l. length l ≤ 640) is short))

@@ -19,7 +19,7 @@ returns-clause-read_back c = λ small.
     let figures = c.push_figures.ensures.bytes ∙ ap (λ l. l ++ figures_words r.figures) outcome in
     let turn = c.push_turn.ensures.bytes ∙ ap (λ l. l ++ turn_words r.turn) figures in
     let is : c.push-4.new.self ≡ frame_line r = c.push-4.ensures ∙ ap (λ l. l ++ codes "\n") turn in
-    let short : length c.push-4.new.self ≤ 512 =
+    let short : length c.push-4.new.self ≤ 640 =
     omega (
       arith,
       pushed c.push_turn.new.line c.push-4.new.self (codes "\n") c.push-4.ensures,
@@ -35,4 +35,4 @@ returns-clause-read_back c = λ small.
       ap length c.new-line.ensures,
     ) in
     subst (λ l. IsReadAs l (entries.Frame (frame_of_report r))) (sym is)
-    (frame_back r c.push_count.ensures.line c.push_count-2.ensures.line c.push_outcome.ensures.line c.push_figures.ensures.line c.push_turn.ensures.line (subst (λ l. length l ≤ 512) is short) small)
+    (frame_back r c.push_count.ensures.line c.push_count-2.ensures.line c.push_outcome.ensures.line c.push_figures.ensures.line c.push_turn.ensures.line (subst (λ l. length l ≤ 640) is short) small)

@@ -32,8 +32,9 @@ returns-clause-is c =
       payload = c.errors_of-errors.result.payload;
       known_correlation = c.correlations_of-correlations.result.known;
       payload_correlation = c.correlations_of-correlations.result.payload;
+      removed = c.args.removed;
     } in
-    let all : got ≡ figures_of s.mode s.gold symbols c.args.soft.now word c.args.rounds =
+    let all : got ≡ figures_of s.mode s.gold symbols c.args.removed c.args.soft.now word c.args.rounds =
     λ t. record {
       header = c.header_errors.ensures t;
       rounds = c.args.rounds;
@@ -42,5 +43,6 @@ returns-clause-is c =
       payload = payload t;
       known_correlation = known_correlation t;
       payload_correlation = payload_correlation t;
+      removed = c.args.removed;
     } in
-    all ∙ ap (λ (v : MeterValue). figures_of v.mode v.number symbols c.args.soft.now word c.args.rounds) c.self.view_is
+    all ∙ ap (λ (v : MeterValue). figures_of v.mode v.number symbols c.args.removed c.args.soft.now word c.args.rounds) c.self.view_is

@@ -4,10 +4,10 @@ use Rattle.s2_plframe.specs.Payload.{received_payload}
 use Rattle.s2_plframe.specs.Turns.{turn_of}
 use Rattle.s2_soft.specs.Soft.{soft_values}
 use Rattle.s2_equalize.specs.Equalizer.{Equalizer, equalizer_of}
-use Rattle.s2_equalize.specs.Wanted.{levelled}
-use Rattle.s2_equalize.proofs.WantedLemmas.{if_equalized, length_levelled, levelled_by}
+use Rattle.s2_equalize.specs.Wanted.{held_by, levelled, removed_if}
+use Rattle.s2_equalize.proofs.WantedLemmas.{if_equalized, length_levelled, levelled_by, removed_so}
 use Rattle.s2_receive.proofs.StepLemmas.{symbols_least}
-use Rattle.s2_message.specs.Decisions.{levelled_frame, soft_frame, upright_frame}
+use Rattle.s2_message.specs.Decisions.{levelled_frame, removed_frame, soft_frame, upright_frame}
 use Rattle.s2_message.specs.Reading.{Demodulating, FrameReader}
 use Rattle.s2_message.proofs.ReaderLemmas.{length_upright, upright_so}
 use Rattle.s2_message.proofs.reader.FrameReader.find_soft.Goals as goal
@@ -61,7 +61,11 @@ returns c =
           ∙ ap (λ (r : FrameReader). soft_frame r.mode r.number r.options c.args.symbols.now) view;
       range = c.find_soft.ensures.range;
       frame = record {
-        upright_is = sym c.upright-upright.ensures ∙ upright;
+        levelled_is = ap (held_by c.equalize.new.self.equalizer c.equalize.new.self.symbols) (sym c.upright-upright.ensures) ∙ sym c.levelled-levelled.ensures ∙ levelled_is
+            ∙ ap (λ (d : Demodulating). levelled_frame inside.mode d.number inside.options c.args.symbols.now) (sym c.find_soft.ensures.same);
+        removed_is = c.equalize.ensures.removed ∙ removed_so inside.mode inside.demodulator.number inside.options.equalize c.upright-upright.result.now inside.equalizer.equalizer so.equalizer
+            ∙ ap (removed_if inside.mode inside.demodulator.number inside.options.equalize) upright
+            ∙ ap (λ (d : Demodulating). removed_frame inside.mode d.number inside.options c.args.symbols.now) (sym c.find_soft.ensures.same);
         turn_is = turned.ensures.turn ∙ (λ i. if so.turns i then turn_of (so.derotator i) c.args.symbols.now else 0);
       };
       same = record {
