@@ -4,7 +4,7 @@ ghost use Rattle.s2_tuning.specs.Tuning.{IsTuning};
 ghost use Rattle.s2_tuning.specs.Wanted.{tuning_by};
 ghost use Rattle.s2_options.specs.Options.{not_given, number_of, receiver_of, wanted_of};
 
-use s2_minsum::DEFAULT_FACTOR;
+use s2_minsum::{DEFAULT_CORRECTION, DEFAULT_FACTOR};
 use s2_mode::Mode;
 use s2_tuning::{DEFAULT_ROUNDS, Number, Tuning, Wanted, tuning_by};
 use s2_words::{AuditArguments, NumberArguments, TuningArguments};
@@ -29,6 +29,7 @@ pub fn tuning_of(mode: &Mode, words: TuningArguments) -> Option<Tuning>
         passes: number_of(words.passes),
         divisor: number_of(words.divisor),
         factor: number_of(words.factor),
+        correction: number_of(not_given(DEFAULT_CORRECTION)),
         max_header_errors: number_of(words.max_header_errors),
         tuned: words.tuned,
         uncertified: words.uncertified,
