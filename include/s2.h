@@ -129,7 +129,8 @@ enum s2_given { /* which numbers of s2_options count: the others have their defa
     S2_GIVEN_PASSES = 2,
     S2_GIVEN_DIVISOR = 4,
     S2_GIVEN_FACTOR = 8,
-    S2_GIVEN_MAX_HEADER_ERRORS = 16
+    S2_GIVEN_MAX_HEADER_ERRORS = 16,
+    S2_GIVEN_CORRECTION = 32
 };
 
 typedef struct s2_options {
@@ -152,7 +153,8 @@ typedef struct s2_options {
     uint32_t turns;             /* 1: also frames whose symbols are rotated by quarter turns */
     uint32_t equalize;          /* 1: the gain of the channel is taken out of each frame before it is decided */
     uint32_t resync;            /* 1: a frame may also begin in a lost one; frames come after 90 symbols more */
-    uint32_t reserved[13];
+    uint32_t correction;        /* of min-sum, in 1/64 of the mean size of soft values, 0 to 63; default 0 */
+    uint32_t reserved[12];
 } s2_options;
 
 /* ---- Receiver --------------------------------------------------------------------------------------------------- */
@@ -304,8 +306,8 @@ int32_t s2_transmitter_reset(s2_handle *transmitter);
 
 /* ---- Judge: the decision on soft values, without symbols -------------------------------------------------------- */
 
-/* A judge on a code. Of the options rounds, passes, factor, tuned and uncertified count, and the mode. modcod 0: no mode;
- * then the code may have any shape, and only passes, factor and uncertified count. Codes as those of s2_receiver_new, without
+/* A judge on a code. Of the options rounds, passes, factor, correction, tuned and uncertified count, and the mode. modcod 0: no mode;
+ * then the code may have any shape, and only passes, factor, correction and uncertified count. Codes as those of s2_receiver_new, without
  * S2_BAD_SCRAMBLING and S2_BAD_ROLL_OFF. */
 int32_t s2_judge_new(s2_handle *code, const s2_options *options, s2_handle *judge);
 

@@ -73,8 +73,8 @@ class Options(Sized):
 
     _fields_ = [
         *_of(c_uint32, "size modcod is_short has_pilots roll_off scrambling dummy_every given rounds passes divisor factor max_header_errors"),
-        *_of(c_uint32, "tuned uncertified figures turns equalize resync"),
-        ("reserved", c_uint32 * 13),
+        *_of(c_uint32, "tuned uncertified figures turns equalize resync correction"),
+        ("reserved", c_uint32 * 12),
     ]
 
 

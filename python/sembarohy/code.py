@@ -17,7 +17,7 @@ NAMES = (
 ).split()
 """The names of MODCOD 0 to 28 (EN 302 307-1, table 12), as `s2` prints them."""
 
-GIVEN = ("rounds", "passes", "divisor", "factor", "max_header_errors")
+GIVEN = ("rounds", "passes", "divisor", "factor", "max_header_errors", "correction")
 """The numbers of a tuning, in the order of the bits of `given`."""
 
 

@@ -39,10 +39,12 @@ class Judge(Held):
         rounds: int | None = None,
         passes: int | None = None,
         factor: int | None = None,
+        correction: int | None = None,
     ):
         super().__init__()
-        numbers = {"tuned": int(tuned), "uncertified": int(uncertified), "rounds": rounds, "passes": passes, "factor": factor}
-        self._make("judge_new", code, options_of(code, 0 if mode is None else mode, short, **numbers))
+        flags = {"tuned": int(tuned), "uncertified": int(uncertified)}
+        numbers = {"rounds": rounds, "passes": passes, "factor": factor, "correction": correction}
+        self._make("judge_new", code, options_of(code, 0 if mode is None else mode, short, **flags, **numbers))
         self._n = code.n
 
     def decide(self, soft: Any) -> Judgement:

@@ -156,7 +156,7 @@ class Receiver(Held):
     """Receives the frames of a stream of symbols, one sample per symbol, amplitude 990 or so.
 
     The options are those of `s2 demod` (`docs/formats.md`). `mode` is a MODCOD or a name. `tuned` selects the numbers that were measured
-    to be best for the mode; `rounds`, `passes`, `divisor`, `factor` and `max_header_errors` (`--lock`) win over them. `uncertified` skips
+    to be best for the mode; `rounds`, `passes`, `divisor`, `factor`, `correction` and `max_header_errors` (`--lock`) win over them. `uncertified` skips
     the search for certificates, and `figures` measures each frame. With `turns` frames are also received whose symbols are rotated by quarter
     turns. With `resync` a frame may also begin in a lost one; then a frame comes after 90 symbols more, those of the next header, or from
     `close`. `tuned` includes both. `equalize` takes the gain of the channel out of each frame before it is decided. `scrambling` is the number
@@ -190,6 +190,7 @@ class Receiver(Held):
         passes: int | None = None,
         divisor: int | None = None,
         factor: int | None = None,
+        correction: int | None = None,
         max_header_errors: int | None = None,
         keep: Iterable[str] = (),
     ):
@@ -197,7 +198,7 @@ class Receiver(Held):
         self.keep = tuple(keep)
         if unknown := [name for name in self.keep if name not in RECORDS]:
             raise ValueError(f"no record {unknown[0]!r}: records are {', '.join(RECORDS)}")
-        tuning = {"rounds": rounds, "passes": passes, "divisor": divisor, "factor": factor, "max_header_errors": max_header_errors}
+        tuning = {"rounds": rounds, "passes": passes, "divisor": divisor, "factor": factor, "correction": correction, "max_header_errors": max_header_errors}
         flags = {"has_pilots": pilots, "tuned": tuned, "uncertified": uncertified, "figures": figures, "turns": turns, "equalize": equalize, "resync": resync}
         self._make("receiver_new", code, options_of(code, mode, short, scrambling=scrambling, **tuning, **{name: int(it) for name, it in flags.items()}))
         # the bytes that are kept, the last step, and how many steps and new streams there were

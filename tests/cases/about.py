@@ -8,10 +8,10 @@ from cases.common import LINK, NO, PACKET, TWO, WANTED, Case, Rule, fault, noted
 DIVISOR = 4096
 MODE = {"modcod": 1, "short": True, "pilots": False, "number": 0}
 FOUND = {"divisor": DIVISOR, "turns": False, "resync": False, "equalize": False}
-DECODING = {"factor": 12, "rounds": 50, "passes": 0, "uncertified": False, "lock": 12, "figures": False}
+DECODING = {"factor": 12, "correction": 0, "rounds": 50, "passes": 0, "uncertified": False, "lock": 12, "figures": False}
 REPORTING = {"every": 1, "exit-by": "certainty", "strict": False}
 # What --tuned sets for the mode of LINK.
-TUNED = {"divisor": 16384, "turns": True, "resync": True, "factor": 14, "rounds": 100, "passes": 96, "lock": 30}
+TUNED = {"divisor": 32768, "turns": True, "resync": True, "factor": 16, "correction": 27, "rounds": 100, "passes": 96, "lock": 30}
 RECEIVING = MODE | FOUND | DECODING | REPORTING
 SENDING = {"ro": 0, "dummy": 0, "resync-packets": False}
 # A number of hundredths, with both decimals.
@@ -58,7 +58,7 @@ def demod_cases(two, made):
 
     yield case("", {})
     yield case("--tuned", TUNED)
-    yield case("--tuned --factor 12 --divisor 4096 --rounds 7 --passes 0 --lock 12", {"turns": True, "resync": True, "rounds": 7})
+    yield case("--tuned --factor 12 --correction 0 --divisor 4096 --rounds 7 --passes 0 --lock 12", {"turns": True, "resync": True, "rounds": 7})
     yield case("--turns --resync --equalize --lock 40", {"turns": True, "resync": True, "equalize": True, "lock": 40})
     yield case("--exit-by delivery --strict --ro 2", {"exit-by": "delivery", "strict": True})
     first, second, last = TWO.splitlines(True)

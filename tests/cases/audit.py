@@ -420,7 +420,7 @@ def likely_cases(made):
 def tuned_cases(made):
     """Of a reception with --tuned."""
     fine, other = made.shown() + last(made.report), failed(made.frames()[0], "other values")
-    for options, is_fine in (("--tuned", True), ("--divisor 16384", True), ("--tuned --divisor 16384", True), ("", False), ("--tuned --divisor 4096", False), ("--divisor 4096", False)):
+    for options, is_fine in (("--tuned", True), ("--divisor 32768", True), ("--tuned --divisor 32768", True), ("", False), ("--tuned --divisor 4096", False), ("--divisor 4096", False)):
         yield from both(made, 0 if is_fine else NO, fine if is_fine else other, options)
 
 

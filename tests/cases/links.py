@@ -364,25 +364,28 @@ TURNED = (8, 600)
 GAUSSIAN = (1, 2.5)
 # By each of these factors it leaves another count, too.
 FACTORS = (12, 13, 14, 16)
-# The options that --tuned sets for QPSK 1/4, short, and those that override them, also with their defaults: the divisor and the factor.
+# The options that --tuned sets for QPSK 1/4, short, and those that override them, also with their defaults: divisor, factor and correction.
 TUNED = [
-    ("--tuned", 16384, 14),
-    ("--tuned --divisor 4096", 4096, 14),
-    ("--factor 12 --tuned", 16384, 12),
-    ("--divisor 4096 --factor 13 --tuned", 4096, 13),
-    ("--tuned --factor 12 --divisor 4096", 4096, 12),
+    ("--tuned", 32768, 16, 27),
+    ("--tuned --divisor 4096", 4096, 16, 27),
+    ("--factor 12 --tuned", 32768, 12, 27),
+    ("--correction 10 --tuned", 32768, 16, 10),
+    ("--divisor 4096 --factor 13 --tuned", 4096, 13, 27),
+    ("--tuned --factor 12 --divisor 4096 --correction 0", 4096, 12, 0),
 ]
+# By each of these corrections two rounds leave another count than without.
+CORRECTIONS = (10, 27, 63)
 
 
 def reporting(two, rows):
-    """Returns a function that computes the report of the two packets with that noise after two rounds, for a divisor and a factor."""
+    """Returns a function that computes the report of the two packets with that noise after two rounds, for divisor, factor and correction."""
     checks, noisy = checks_of(rows), spoilt(two, *NOISY)
-    return functools.cache(lambda divisor, factor: broken(checks, two, noisy, divisor, 2, factor))
+    return functools.cache(lambda divisor, factor, correction=0: broken(checks, two, noisy, divisor, 2, factor, correction=correction))
 
 
 def divided(two, report_by):
     """The cases of divisors over the symbols of the two packets: with noise, without, and so weak that a large divisor makes all values
-    zero, which is the word of zeros. With noise, also the cases of factors, and of --tuned."""
+    zero, which is the word of zeros. With noise, also the cases of factors, of corrections, and of --tuned."""
     noisy, noise = spoilt(two, *NOISY), "--rounds 2 --seed {} --level {}".format(*NOISY)
     lost = TWO.replace("sole fixed 0", "most-likely lost").replace("delivered 2 packets 2", "delivered 0 packets 0")
     usual, note = report_by(DIVISORS[0], 12), noted(refused_headers(2, 2))
@@ -401,8 +404,10 @@ def divided(two, report_by):
         for component in WEAK:
             ends = (0, TWO, 2 * PACKET, f"{words} made") if soft_value((component, component), 0, divisor) else (NO, lost, b"", f"{words} made", note)
             cases.append(received(weakened(two, component), *ends))
-    for words, divisor, factor in [*((f"--factor {factor}", DIVISORS[0], factor) for factor in FACTORS), *TUNED]:
-        report = report_by(divisor, factor)
+    by_factor = [(f"--factor {factor}", DIVISORS[0], factor, 0) for factor in FACTORS]
+    by_correction = [(f"--correction {correction}", DIVISORS[0], 12, correction) for correction in CORRECTIONS]
+    for words, *values in [*by_factor, *by_correction, *TUNED]:
+        report = report_by(*values)
         cases += [
             received(noisy, NO, report, 2 * PACKET, f"{LINK} {words} --rounds 2 made"),
             run(f"{LINK} {words} {noise} made", NO, report, 2 * PACKET),

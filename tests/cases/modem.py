@@ -252,7 +252,7 @@ def main():
         got = try_received(modcod, is_short, has_pilots, tuned=True)
         try_forms(modcod, is_short, has_pilots, got["lines"])
         try_received(modcod, is_short, has_pilots, tuned=True, figures=True, rounds=30, max_header_errors=20)
-        try_received(modcod, is_short, has_pilots, uncertified=True, figures=True, divisor=8192, factor=13, turns=True, equalize=True, resync=True)
+        try_received(modcod, is_short, has_pilots, uncertified=True, figures=True, divisor=8192, factor=13, correction=9, turns=True, equalize=True, resync=True)
         try_evidence(modcod, is_short)
     prepare(*MODES[0])
     try_threads(*MODES[0][:3])

@@ -3,7 +3,7 @@
 import re
 from dataclasses import dataclass, field
 
-from cases import about, audit, comparing, equalized, figured, links, listing, pieces, progress, records, rotations, slips
+from cases import about, audit, comparing, corrected, equalized, figured, links, listing, pieces, progress, records, rotations, slips
 from cases.common import (
     ANY, FINE, LINK, NO, ONE, PACKET, PAIR, SLIPPED, STORED, STORED_CERTIFICATE, STORED_MOVED, TOY, TWO, UNDECODED, WANTED, Case, Rule, digest, ending, noted, unfound,
 )  # fmt: skip
@@ -98,6 +98,10 @@ def judge_effects():
     yield Effect("--uncertified", f"judge {PAIR} {{}} pair values", {"": ended("most-likely cost -2\n"), "--uncertified": parity}, values)
     broken, likely = ended("broken cost -5 check 0\n", NO), ended("most-likely cost 0\n")
     yield Effect("--factor", f"judge {PAIR} {{}} pair odd", by_default("--factor", 12, 13, broken, likely))
+    soft = {"reads": {"rows": corrected.ROWS, "values": corrected.TEXT}}
+    plain, best = (ended("".join(corrected.said(16, correction)), NO) for correction in (0, 63))
+    words = f"judge {corrected.SHAPE} --each --uncertified --factor 16 {{}} rows values"
+    yield Effect("--correction", words, by_default("--correction", 0, 63, plain, best), soft)
 
 
 def compare_effects(certificates, bbframes):
@@ -272,20 +276,24 @@ def both(option, words, ends, channel, more):
 
 
 def tuning_effects(two, report):
-    """`report` returns the report of the noisy symbols after two rounds, for a divisor and a factor."""
+    """`report` returns the report of the noisy symbols after two rounds, for a divisor, a factor and a correction."""
     noisy = {"reads": {"in": spoilt(two, *NOISY)}}
-    by = {pair: received(report(*pair), NO) for pair in ((4096, 12), (8192, 12), (4096, 13), (16384, 14), (4096, 14), (16384, 12))}
-    usual, words = by[4096, 12], f"{LINK} --rounds 2 {{}}"
-    yield from both("--divisor", words, by_default("--divisor", 4096, 8192, usual, by[8192, 12]), NOISY, noisy)
-    yield from both("--factor", words, by_default("--factor", 12, 13, usual, by[4096, 13]), NOISY, noisy)
-    yield from both("--tuned", words, {"": usual, "--tuned": by[16384, 14]}, NOISY, noisy)
+    usual, best = (4096, 12, 0), (32768, 16, 27)
+    others = [(8192, 12, 0), (4096, 13, 0), (4096, 12, 27), (4096, 16, 27), (32768, 12, 27), (32768, 16, 0)]
+    by = {values: received(report(*values), NO) for values in (usual, best, *others)}
+    words = f"{LINK} --rounds 2 {{}}"
+    yield from both("--divisor", words, by_default("--divisor", 4096, 8192, by[usual], by[8192, 12, 0]), NOISY, noisy)
+    yield from both("--factor", words, by_default("--factor", 12, 13, by[usual], by[4096, 13, 0]), NOISY, noisy)
+    yield from both("--correction", words, by_default("--correction", 0, 27, by[usual], by[4096, 12, 27]), NOISY, noisy)
+    yield from both("--tuned", words, {"": by[usual], "--tuned": by[best]}, NOISY, noisy)
     # beside --tuned each option that it sets wins
     words = f"{LINK} --rounds 2 --tuned {{}}"
-    yield from both("--divisor", words, by_default("--divisor", 16384, 4096, by[16384, 14], by[4096, 14]), NOISY, noisy)
-    yield from both("--factor", words, by_default("--factor", 14, 12, by[16384, 14], by[16384, 12]), NOISY, noisy)
+    yield from both("--divisor", words, by_default("--divisor", 32768, 4096, by[best], by[4096, 16, 27]), NOISY, noisy)
+    yield from both("--factor", words, by_default("--factor", 16, 12, by[best], by[32768, 12, 27]), NOISY, noisy)
+    yield from both("--correction", words, by_default("--correction", 27, 0, by[best], by[32768, 16, 0]), NOISY, noisy)
     # the result of fifty rounds, the default, is only known to differ from those of one and two
     many, one = ({"code": ANY, "out": ANY, "errors": errors, "writes": {"out": ANY}} for errors in ("", ANY))
-    ends = {"": many, "--rounds 50": many, "--rounds 2": usual, "--rounds 1": one}
+    ends = {"": many, "--rounds 50": many, "--rounds 2": by[usual], "--rounds 1": one}
     yield from both("--rounds", f"{LINK} {{}}", ends, NOISY, noisy)
     # with another scrambling number no frame is decoded, so all rounds are run
     best, usual = (received(Rule(f"{it} rounds each", lambda got, it=it: got.count(b" rounds %d " % it) == 2), NO, b"", [UNDECODED]) for it in (100, 50))

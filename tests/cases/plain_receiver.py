@@ -62,24 +62,34 @@ def repaired(checks, word):
     return [bit ^ (count >= 2 and count == of) for bit, count, of in zip(word, odds, alls)]
 
 
-def messages(inputs, factor):
-    """To each member the message from the inputs of the others: the factor in sixteenths of their least size, rounded up."""
-    sent = []
-    for own in range(len(inputs)):
+def box(one, other, peak):
+    """Box-plus of two sizes with a linear correction: at least half of the lesser one, rounded up."""
+    low, high = sorted((one, other))
+    return max(low - max(0, peak - (high - low) // 4), low - low // 2)
+
+
+def messages(inputs, factor, peak=0):
+    """To each member the message from the inputs: their three least sizes by box-plus, and the factor in sixteenths of it, rounded up. Without
+    a correction the size is the least one of the others."""
+    sent, (first, second, third) = [], sorted([CAP, CAP, CAP, *map(abs, inputs)])[:3]
+    for own, value in enumerate(inputs):
+        high = box(second, third, peak)
+        size = high if abs(value) == first else box(first, high, peak)
         others = inputs[:own] + inputs[own + 1 :]
-        least = min([CAP] + [abs(value) for value in others])
-        size = -(-least * factor // 16)
+        assert peak or size == min([CAP, *map(abs, others)])
+        size = -(-size * factor // 16)
         sent.append(-size if sum(value < 0 for value in others) % 2 else size)
     return sent
 
 
-def decisions(checks, soft, rounds, factor):
-    """The hard decision after each round of min-sum."""
+def decisions(checks, soft, rounds, factor, correction=0, layers=Q):
+    """The hard decision after each round of min-sum. The correction is in sixty-fourths of the soft values' mean size."""
     posteriors, sent = list(soft), [[0] * len(members) for members in checks]
+    peak = correction * sum(map(abs, soft)) // (64 * len(soft))
     for _ in range(rounds):
-        for layer in range(Q):
-            own = range(layer, len(checks), Q)
-            made = [messages([posteriors[i] - was for i, was in zip(checks[j], sent[j])], factor) for j in own]
+        for layer in range(layers):
+            own = range(layer, len(checks), layers)
+            made = [messages([posteriors[i] - was for i, was in zip(checks[j], sent[j])], factor, peak) for j in own]
             for j, now in zip(own, made):
                 for i, was, message in zip(checks[j], sent[j], now):
                     posteriors[i] += message - was
@@ -87,19 +97,19 @@ def decisions(checks, soft, rounds, factor):
         yield [value < 0 for value in posteriors]
 
 
-def decided(checks, noisy, divisor, rounds, factor=12, number=0):
+def decided(checks, noisy, divisor, rounds, factor=12, number=0, correction=0):
     """Of each frame its soft values, and its words in the order in which they are tried: hard decision, repaired word, those of min-sum."""
     for payload in payloads(noisy, number):
         soft = soft_values(payload, divisor)
         hard = [value < 0 for value in soft]
-        yield soft, [hard, repaired(checks, hard), *decisions(checks, soft, rounds, factor)]
+        yield soft, [hard, repaired(checks, hard), *decisions(checks, soft, rounds, factor, correction)]
 
 
-def broken(checks, sent, noisy, divisor, rounds, factor=12, number=0):
+def broken(checks, sent, noisy, divisor, rounds, factor=12, number=0, correction=0):
     """The report of frames in which no step finds a codeword, and outer coding corrects all: the number of the first bits of
     min-sum's last decision that differ from the sent ones."""
     lines = []
-    for at, (clean, (_, words)) in enumerate(zip(payloads(sent, number), decided(checks, noisy, divisor, rounds, factor, number))):
+    for at, (clean, (_, words)) in enumerate(zip(payloads(sent, number), decided(checks, noisy, divisor, rounds, factor, number, correction))):
         fixed = sum((value < 0) != bit for value, bit in list(zip(soft_values(clean, 1), words[-1]))[: GROUP * GROUPS])
         assert all(odd(checks, word) for word in words) and fixed <= MAX_FIXED
         lines.append(f"frame {at + 1} at {FRAME * at} broken fixed {fixed}\n")

@@ -232,7 +232,7 @@ def cases(two, dummy):
 
 
 # The receptions for the laws: options of `demod`, and the same for `judge`.
-TUNINGS = [("", ""), ("--passes 96", "--passes 96"), ("--uncertified", "--uncertified"), ("--tuned", "--passes 96 --factor 14"), ("--factor 13", "--factor 13")]
+TUNINGS = [("", ""), ("--passes 96", "--passes 96"), ("--uncertified", "--uncertified"), ("--tuned", "--passes 96 --factor 16 --correction 27"), ("--factor 13", "--factor 13")]
 
 
 def heard(two, dummy):

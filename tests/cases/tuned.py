@@ -5,17 +5,17 @@ from cases.listing import NAMES, frame, kbch
 from cases.modes import MODES
 
 LOCK, PASSES = 30, 96
-FACTORS, DIVISORS, ROUNDS = range(8, 17), (4096, 8192, 16384, 32768, 65536), (50, 100, 200)
-# Factor, divisor and rounds of MODCOD 1 to 17: normal frames, then short ones (none for 11 and 17).
+FACTORS, CORRECTIONS, DIVISORS, ROUNDS = range(8, 17), range(64), (4096, 8192, 16384, 32768, 65536), (50, 100, 200)
+# Factor, correction, divisor and rounds of MODCOD 1 to 17: normal frames, then short ones (none for 11 and 17).
 NORMAL = [
-    (15, 16384, 200), (14, 16384, 200), (13, 16384, 100), (13, 8192, 100), (11, 32768, 50), (14, 8192, 100), (13, 8192, 100),
-    (13, 8192, 100), (13, 8192, 100), (13, 8192, 100), (13, 8192, 100), (13, 4096, 100), (13, 4096, 100), (12, 4096, 100), (12, 4096, 100),
-    (13, 4096, 100), (13, 4096, 100),
+    (16, 22, 32768, 100), (16, 20, 32768, 100), (16, 19, 32768, 100), (15, 13, 16384, 100), (14, 12, 16384, 50), (15, 8, 16384, 50),
+    (15, 7, 8192, 50), (15, 6, 8192, 50), (15, 6, 8192, 50), (14, 4, 8192, 50), (14, 4, 4096, 50), (16, 11, 8192, 50), (15, 8, 4096, 50),
+    (15, 6, 4096, 50), (15, 5, 4096, 50), (15, 3, 4096, 50), (15, 3, 4096, 50),
 ]  # fmt: skip
 SHORT = [
-    (14, 16384, 100), (14, 16384, 200), (13, 16384, 100), (14, 16384, 100), (11, 8192, 50), (14, 8192, 100), (14, 8192, 100),
-    (13, 8192, 100), (13, 8192, 100), (13, 8192, 100), (13, 8192, 100), (13, 4096, 100), (13, 4096, 100), (13, 4096, 100), (13, 4096, 100),
-    (13, 4096, 100), (13, 4096, 100),
+    (16, 27, 32768, 100), (16, 21, 32768, 100), (16, 19, 32768, 100), (16, 15, 16384, 100), (14, 11, 16384, 50), (16, 10, 16384, 50),
+    (15, 6, 8192, 50), (15, 6, 8192, 50), (15, 5, 8192, 50), (15, 5, 4096, 50), (15, 5, 4096, 50), (16, 11, 8192, 50), (15, 8, 4096, 50),
+    (15, 6, 4096, 50), (15, 4, 4096, 50), (15, 3, 4096, 50), (15, 3, 4096, 50),
 ]  # fmt: skip
 
 # Numbers of the rules, those of settling as bench/settle/shares.py has them, and the definitions to which the code's constants are proved
@@ -40,13 +40,13 @@ def best(modcod, short):
 
 
 def words(best, passes=PASSES):
-    factor, divisor, rounds = best
-    return f"--turns --resync --lock {LOCK} --divisor {divisor} --rounds {rounds} --passes {passes} --factor {factor}"
+    factor, correction, divisor, rounds = best
+    return f"--turns --resync --lock {LOCK} --divisor {divisor} --rounds {rounds} --passes {passes} --factor {factor} --correction {correction}"
 
 
 def neighbours(best):
     """Settings with one value that is not the best, but the next."""
-    for place, values in enumerate((FACTORS, DIVISORS, ROUNDS)):
+    for place, values in enumerate((FACTORS, CORRECTIONS, DIVISORS, ROUNDS)):
         at = values.index(best[place])
         for other in values[max(0, at - 1) : at + 2]:
             if other != best[place]:
@@ -54,7 +54,7 @@ def neighbours(best):
 
 
 def lines():
-    """The best settings of MODCOD 1 to 17, of normal frames and then of short ones: factor, divisor, rounds and passes."""
+    """The best settings of MODCOD 1 to 17, of normal frames and then of short ones: factor, correction, divisor, rounds and passes."""
     return [(*line, PASSES) for line in NORMAL + SHORT]
 
 

@@ -149,7 +149,7 @@ def try_options():
     judge("defaults", {"modcod": 7}, options_given(sembarohy.Receiver(code, 7)))
     judge("the code's length", {"modcod": 7, "is_short": 1}, options_given(sembarohy.Receiver(short, 7)))
     judge("another length", {"modcod": 7}, options_given(sembarohy.Receiver(short, 7, short=False)))
-    tuning = {"rounds": 9, "passes": 0, "divisor": 8192, "factor": 13, "max_header_errors": 30}
+    tuning = {"rounds": 9, "passes": 0, "divisor": 8192, "factor": 13, "max_header_errors": 30, "correction": 9}
     for place, (name, number) in enumerate(tuning.items()):
         wanted = {"modcod": 7, "given": 1 << place, name: number}
         judge(name, {it: value for it, value in wanted.items() if value}, options_given(sembarohy.Receiver(code, 7, **{name: number})))

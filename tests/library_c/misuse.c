@@ -86,8 +86,8 @@ static void wrong_options(s2_handle *code) {
     REFUSES(o.uncertified = 2, S2_BAD_OPTION);
     REFUSES(o.figures = 2, S2_BAD_OPTION);
     REFUSES(o.dummy_every = 65536, S2_BAD_OPTION);
-    REFUSES(o.given = 32, S2_BAD_OPTION);
-    REFUSES(o.reserved[12] = 1, S2_BAD_OPTION);
+    REFUSES(o.given = 64, S2_BAD_OPTION);
+    REFUSES(o.reserved[11] = 1, S2_BAD_OPTION);
     REFUSES(o.turns = 2, S2_BAD_OPTION);
     REFUSES(o.equalize = 2, S2_BAD_OPTION);
     REFUSES(o.resync = 2, S2_BAD_OPTION);
@@ -100,6 +100,7 @@ static void wrong_options(s2_handle *code) {
     REFUSES((o.given = S2_GIVEN_PASSES, o.passes = 1001), S2_BAD_TUNING);
     REFUSES((o.given = S2_GIVEN_DIVISOR, o.divisor = 4097), S2_BAD_TUNING);
     REFUSES((o.given = S2_GIVEN_FACTOR, o.factor = 17), S2_BAD_TUNING);
+    REFUSES((o.given = S2_GIVEN_CORRECTION, o.correction = 64), S2_BAD_TUNING);
     REFUSES((o.given = S2_GIVEN_MAX_HEADER_ERRORS, o.max_header_errors = 41), S2_BAD_TUNING);
     /* of several causes the first counts */
     REFUSES((o.size = 4, o.tuned = 2), S2_BAD_SIZE);

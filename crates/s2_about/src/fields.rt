@@ -72,11 +72,15 @@ pub fn demodulation_fields(
 }
 
 /// How a receiver decides.
-pub fn decoding_fields(tuning: &Tuning) -> [Field; 4] {
+pub fn decoding_fields(tuning: &Tuning) -> [Field; 5] {
     [
         Field {
             key: "factor",
             value: Value::Number(u64::from(tuning.factor().get())),
+        },
+        Field {
+            key: "correction",
+            value: Value::Number(u64::from(tuning.correction().get())),
         },
         Field {
             key: "rounds",

@@ -2,8 +2,8 @@
 use clap::builder::ValueParser;
 use s2_mode::{MAX_BITS, MAX_GROUP};
 use s2_words::limits::{
-    LEAST_FACTOR, LEAST_LOCK, MAX_ADDRESSES, MAX_FACTOR, MAX_LOCK, MAX_NUMBER, MAX_PASSES,
-    MAX_ROUNDS,
+    LEAST_FACTOR, LEAST_LOCK, MAX_ADDRESSES, MAX_CORRECTION, MAX_FACTOR, MAX_LOCK, MAX_NUMBER,
+    MAX_PASSES, MAX_ROUNDS,
 };
 
 /// The decimal digits of the default rounds.
@@ -17,6 +17,9 @@ pub(crate) const DEFAULT_DIVISOR_TEXT: &str = "4096";
 
 /// The decimal digits of the default factor.
 pub(crate) const DEFAULT_FACTOR_TEXT: &str = "12";
+
+/// The decimal digits of the default correction.
+pub(crate) const DEFAULT_CORRECTION_TEXT: &str = "0";
 
 /// The decimal digits of the default lock.
 pub(crate) const DEFAULT_LOCK_TEXT: &str = "12";
@@ -283,6 +286,17 @@ pub(crate) const FACTOR: Argument = Argument {
     help: "Min-sum normalization factor in sixteenths, 8 to 16: larger for low code rates",
 };
 
+pub(crate) const CORRECTION: Argument = Argument {
+    name: "correction",
+    form: ArgumentKind::Valued(Value {
+        name: "M",
+        allowed: ValueParser::Signed(0, MAX_CORRECTION as i64),
+        default: Some(DEFAULT_CORRECTION_TEXT),
+        ..FILE
+    }),
+    help: "Min-sum correction in 1/64 of the mean size of the soft values, 0 to 63 (corrected min-sum): larger for low code rates, 0 for none",
+};
+
 pub(crate) const LOCK: Argument = Argument {
     name: "lock",
     form: ArgumentKind::Valued(Value {
@@ -309,7 +323,7 @@ pub(crate) const UNCERTIFIED: Argument = Argument {
 pub(crate) const TUNED: Argument = Argument {
     name: "tuned",
     form: ArgumentKind::Flag,
-    help: "Use the best factor, divisor and rounds for the mode, --lock 30, --passes 96, --turns, and --resync for lost frames; options given explicitly override it",
+    help: "Use the best factor, correction, divisor and rounds for the mode, --lock 30, --passes 96, --turns, and --resync for lost frames; options given explicitly override it",
 };
 
 pub(crate) const TURNS: Argument = Argument {

@@ -14,6 +14,7 @@ use Rattle.s2_check.proofs.Strictness.{strictness_lem}
 use Rattle.s2_check.proofs.UnsplitSplits.{unsplit_accepted_lem}
 use Rattle.s2_check.proofs.UnsplitStrict.{unsplit_strict_lem}
 use Rattle.s2_split.specs.Scattered.{repaired}
+use Rattle.s2_tuning.specs.Tuning.{rule_of}
 use Rattle.s2_judge.specs.Deciding.{Decided, is_strict, verdict_by, certified, uncertified, satisfies, decoded_bits, first_codeword, with_made, decoded_view, min_sum_view, decided, CleanLaw, LikelyLaw, SoleLaw, IsCertificateOf, IsShown, CertifiedLaw, BrokenLaw}
 use Rattle.s2_check.specs.declared.verdict.Verdict.{Verdict}
 use Rattle.s2_check.specs.declared.verdict.Verdict.TheVariants.{Sole, Parity, Broken}
@@ -77,15 +78,15 @@ looked_for false o view e = e
 
 pub certified_lem : CertifiedLaw
 certified_lem r tuning soft long =
-    by_ways r tuning soft (IsShown r soft) (λ even. by_certificate r soft (hard_decision soft) _ (unsplit_shown r soft (hard_codeword r soft long even))) (λ view even is. by_certificate r soft (repaired (code_of r) soft) view (found_shown r tuning.passes soft (repaired (code_of r) soft) view (repaired_codeword r soft even) is)) (λ bits none is. with_view bits (found_codeword r tuning.factor tuning.rounds soft bits is) (min_sum_view r tuning soft bits) refl) (λ none is. either (satisfies (code_of r) (repaired (code_of r) soft)))
+    by_ways r tuning soft (IsShown r soft) (λ even. by_certificate r soft (hard_decision soft) _ (unsplit_shown r soft (hard_codeword r soft long even))) (λ view even is. by_certificate r soft (repaired (code_of r) soft) view (found_shown r tuning.passes soft (repaired (code_of r) soft) view (repaired_codeword r soft even) is)) (λ bits none is. with_view bits (found_codeword r (rule_of tuning) tuning.rounds soft bits is) (min_sum_view r tuning soft bits) refl) (λ none is. either (satisfies (code_of r) (repaired (code_of r) soft)))
   where
     with_view : (bits : List Bool) → IsCodeword (code_of r) bits → (o : Option View) → min_sum_view r tuning soft bits ≡ o → IsShown r soft (with_made r bits o)
     with_view bits codeword (Some view) e = by_certificate r soft bits view (decoded_shown r tuning.passes soft bits view codeword (looked_for tuning.uncertified (decoded_view r tuning.passes soft bits) view e))
     with_view bits codeword None e = without r soft Parity bits (λ e. cc)
 
-    either : (b : Bool) → IsShown r soft (cond b (uncertified Parity (repaired (code_of r) soft)) (uncertified Broken (decoded_bits r tuning.factor soft tuning.rounds)))
+    either : (b : Bool) → IsShown r soft (cond b (uncertified Parity (repaired (code_of r) soft)) (uncertified Broken (decoded_bits r (rule_of tuning) soft tuning.rounds)))
     either true = without r soft Parity (repaired (code_of r) soft) (λ e. cc)
-    either false = without r soft Broken (decoded_bits r tuning.factor soft tuning.rounds) (λ e. cc)
+    either false = without r soft Broken (decoded_bits r (rule_of tuning) soft tuning.rounds) (λ e. cc)
 
 pub likely_lem : LikelyLaw
 likely_lem r tuning soft long e =
@@ -120,14 +121,14 @@ says_yes r verdict bits view other codeword = (λ _. codeword, λ e. absurd (oth
 pub broken_lem : BrokenLaw
 unfolding Says
 broken_lem r tuning soft long some =
-    by_ways r tuning soft (Says r) (λ even. says_yes r (verdict_by (is_strict r (unsplit_view r soft (hard_decision soft)))) (hard_decision soft) (Some (unsplit_view r soft (hard_decision soft))) (not_broken (is_strict r (unsplit_view r soft (hard_decision soft)))) (hard_codeword r soft long even)) (λ view even is. says_yes r (verdict_by (is_strict r view)) (repaired (code_of r) soft) (Some view) (not_broken (is_strict r view)) (repaired_codeword r soft even)) (λ bits none is. with_view bits (found_codeword r tuning.factor tuning.rounds soft bits is) (min_sum_view r tuning soft bits)) (λ none is. either (satisfies (code_of r) (repaired (code_of r) soft)) refl is)
+    by_ways r tuning soft (Says r) (λ even. says_yes r (verdict_by (is_strict r (unsplit_view r soft (hard_decision soft)))) (hard_decision soft) (Some (unsplit_view r soft (hard_decision soft))) (not_broken (is_strict r (unsplit_view r soft (hard_decision soft)))) (hard_codeword r soft long even)) (λ view even is. says_yes r (verdict_by (is_strict r view)) (repaired (code_of r) soft) (Some view) (not_broken (is_strict r view)) (repaired_codeword r soft even)) (λ bits none is. with_view bits (found_codeword r (rule_of tuning) tuning.rounds soft bits is) (min_sum_view r tuning soft bits)) (λ none is. either (satisfies (code_of r) (repaired (code_of r) soft)) refl is)
   where
     with_view : (bits : List Bool) → IsCodeword (code_of r) bits → (o : Option View) → Says r (with_made r bits o)
     with_view bits codeword (Some view) = says_yes r (verdict_by (is_strict r view)) bits (Some view) (not_broken (is_strict r view)) codeword
     with_view bits codeword None = says_yes r Parity bits None (λ e. cc) codeword
 
-    either : (b : Bool) → satisfies (code_of r) (repaired (code_of r) soft) ≡ b → first_codeword r tuning.factor tuning.rounds soft ≡ None → Says r (cond b (uncertified Parity (repaired (code_of r) soft)) (uncertified Broken (decoded_bits r tuning.factor soft tuning.rounds)))
+    either : (b : Bool) → satisfies (code_of r) (repaired (code_of r) soft) ≡ b → first_codeword r (rule_of tuning) tuning.rounds soft ≡ None → Says r (cond b (uncertified Parity (repaired (code_of r) soft)) (uncertified Broken (decoded_bits r (rule_of tuning) soft tuning.rounds)))
     either true even is = says_yes r Parity (repaired (code_of r) soft) None (λ e. cc) (repaired_codeword r soft even)
-    either false odd is = (λ other. absurd (other refl), λ e. not_codeword (code_of r) (decoded_bits r tuning.factor soft tuning.rounds) (last_odd r tuning.factor tuning.rounds soft some is))
+    either false odd is = (λ other. absurd (other refl), λ e. not_codeword (code_of r) (decoded_bits r (rule_of tuning) soft tuning.rounds) (last_odd r (rule_of tuning) tuning.rounds soft some is))
 
 -- ---- scattered values: see Scattering

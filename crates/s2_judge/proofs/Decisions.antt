@@ -19,8 +19,9 @@ use Rattle.s2_check.specs.Checking.{split_in}
 use Rattle.s2_check.specs.Strict.{AreStrict}
 use Rattle.s2_check.specs.Verdicts.{is_certified}
 use Rattle.s2_split.specs.Scattered.{repaired}
+use Rattle.s2_minsum.specs.Plain.{Rule}
 use Rattle.s2_judge.specs.Deciding.{Decided, is_strict, verdict_by, certified, satisfies, decoded_bits, first_codeword, without_certificate, with_made, min_sum_view, by_min_sum, repair_view, by_repair, decided, view_for, rounds_by, rounds_run}
-use Rattle.s2_tuning.specs.Tuning.{Tuning}
+use Rattle.s2_tuning.specs.Tuning.{Tuning, rule_of}
 
 -- ---- a word that is copied
 
@@ -92,49 +93,49 @@ none_passes p f a (suc n) k is low =
         ap (λ i. p (f i)) here ∙ later k s (omega arith)
 
 -- of those from round a on, the first that satisfies every check
-abbrev pub first_from : Rows → ℕ → List ℤ → ℕ → ℕ → Option (List Bool)
-first_from r factor soft a n =
-    find (satisfies (code_of r)) (map (λ k. decoded_bits r factor soft (k + 1)) (range_with_len a n))
+abbrev pub first_from : Rows → Rule → List ℤ → ℕ → ℕ → Option (List Bool)
+first_from r rule soft a n =
+    find (satisfies (code_of r)) (map (λ k. decoded_bits r rule soft (k + 1)) (range_with_len a n))
 
-pub first_now : (r : Rows) (factor : ℕ) (soft : List ℤ) (a n : ℕ) → satisfies (code_of r) (decoded_bits r factor soft (a + 1)) ≡ true → first_from r factor soft a (suc n) ≡ Some (decoded_bits r factor soft (a + 1))
-first_now r factor soft a n e =
-    ap (λ b. cond b (Some (decoded_bits r factor soft (a + 1))) (first_from r factor soft (a + 1) n)) e
+pub first_now : (r : Rows) (rule : Rule) (soft : List ℤ) (a n : ℕ) → satisfies (code_of r) (decoded_bits r rule soft (a + 1)) ≡ true → first_from r rule soft a (suc n) ≡ Some (decoded_bits r rule soft (a + 1))
+first_now r rule soft a n e =
+    ap (λ b. cond b (Some (decoded_bits r rule soft (a + 1))) (first_from r rule soft (a + 1) n)) e
 
-pub first_later : (r : Rows) (factor : ℕ) (soft : List ℤ) (a n : ℕ) → satisfies (code_of r) (decoded_bits r factor soft (a + 1)) ≡ false → first_from r factor soft a (suc n) ≡ first_from r factor soft (a + 1) n
-first_later r factor soft a n e =
-    ap (λ b. cond b (Some (decoded_bits r factor soft (a + 1))) (first_from r factor soft (a + 1) n)) e
+pub first_later : (r : Rows) (rule : Rule) (soft : List ℤ) (a n : ℕ) → satisfies (code_of r) (decoded_bits r rule soft (a + 1)) ≡ false → first_from r rule soft a (suc n) ≡ first_from r rule soft (a + 1) n
+first_later r rule soft a n e =
+    ap (λ b. cond b (Some (decoded_bits r rule soft (a + 1))) (first_from r rule soft (a + 1) n)) e
 
 -- the first round from a + 1 on after which every check is satisfied, or all rounds
-abbrev pub until_from : Rows → ℕ → List ℤ → ℕ → ℕ → ℕ → ℕ
-until_from r factor soft rounds a n =
-    unwrap_or (find (λ k. satisfies (code_of r) (decoded_bits r factor soft k)) (range_with_len (a + 1) n)) rounds
+abbrev pub until_from : Rows → Rule → List ℤ → ℕ → ℕ → ℕ → ℕ
+until_from r rule soft rounds a n =
+    unwrap_or (find (λ k. satisfies (code_of r) (decoded_bits r rule soft k)) (range_with_len (a + 1) n)) rounds
 
-pub until_now : (r : Rows) (factor : ℕ) (soft : List ℤ) (rounds a n : ℕ) → satisfies (code_of r) (decoded_bits r factor soft (a + 1)) ≡ true → until_from r factor soft rounds a (suc n) ≡ a + 1
-until_now r factor soft rounds a n e =
-    ap (λ b. unwrap_or (cond b (Some (a + 1)) (find (λ k. satisfies (code_of r) (decoded_bits r factor soft k)) (range_with_len (a + 1 + 1) n))) rounds) e
+pub until_now : (r : Rows) (rule : Rule) (soft : List ℤ) (rounds a n : ℕ) → satisfies (code_of r) (decoded_bits r rule soft (a + 1)) ≡ true → until_from r rule soft rounds a (suc n) ≡ a + 1
+until_now r rule soft rounds a n e =
+    ap (λ b. unwrap_or (cond b (Some (a + 1)) (find (λ k. satisfies (code_of r) (decoded_bits r rule soft k)) (range_with_len (a + 1 + 1) n))) rounds) e
 
-pub until_later : (r : Rows) (factor : ℕ) (soft : List ℤ) (rounds a n : ℕ) → satisfies (code_of r) (decoded_bits r factor soft (a + 1)) ≡ false → until_from r factor soft rounds a (suc n) ≡ until_from r factor soft rounds (a + 1) n
-until_later r factor soft rounds a n e =
-    ap (λ b. unwrap_or (cond b (Some (a + 1)) (find (λ k. satisfies (code_of r) (decoded_bits r factor soft k)) (range_with_len (a + 1 + 1) n))) rounds) e
+pub until_later : (r : Rows) (rule : Rule) (soft : List ℤ) (rounds a n : ℕ) → satisfies (code_of r) (decoded_bits r rule soft (a + 1)) ≡ false → until_from r rule soft rounds a (suc n) ≡ until_from r rule soft rounds (a + 1) n
+until_later r rule soft rounds a n e =
+    ap (λ b. unwrap_or (cond b (Some (a + 1)) (find (λ k. satisfies (code_of r) (decoded_bits r rule soft k)) (range_with_len (a + 1 + 1) n))) rounds) e
 
-pub length-decoded : (r : Rows) (factor : ℕ) (soft : List ℤ) (k : ℕ) → length (decoded_bits r factor soft k) ≡ (code_of r).bits
+pub length-decoded : (r : Rows) (rule : Rule) (soft : List ℤ) (k : ℕ) → length (decoded_bits r rule soft k) ≡ (code_of r).bits
 unfolding decoded_bits
-length-decoded r factor soft k = length-map-range_with_len _ 0 (code_of r).bits
+length-decoded r rule soft k = length-map-range_with_len _ 0 (code_of r).bits
 
 -- what min-sum finds is a codeword
-pub found_codeword : (r : Rows) (factor rounds : ℕ) (soft : List ℤ) (bits : List Bool) → first_codeword r factor rounds soft ≡ Some bits → IsCodeword (code_of r) bits
-found_codeword r factor rounds soft bits is =
+pub found_codeword : (r : Rows) (rule : Rule) (rounds : ℕ) (soft : List ℤ) (bits : List Bool) → first_codeword r rule rounds soft ≡ Some bits → IsCodeword (code_of r) bits
+found_codeword r rule rounds soft bits is =
     let code = code_of r in
-    let at = found_passes (satisfies code) (λ k. decoded_bits r factor soft (k + 1)) (λ (w : List Bool). length w ≡ code.bits) (upto rounds) bits (λ k. length-decoded r factor soft (k + 1)) is in
+    let at = found_passes (satisfies code) (λ k. decoded_bits r rule soft (k + 1)) (λ (w : List Bool). length w ≡ code.bits) (upto rounds) bits (λ k. length-decoded r rule soft (k + 1)) is in
     satisfied_codeword code bits at.0 at.1
 
 -- where it finds none, its last decision has an odd check
-pub last_odd : (r : Rows) (factor rounds : ℕ) (soft : List ℤ) → 1 ≤ rounds → first_codeword r factor rounds soft ≡ None → satisfies (code_of r) (decoded_bits r factor soft rounds) ≡ false
-last_odd r factor zero soft some is = absurd (omega arith)
-last_odd r factor (suc k) soft some is =
-    let at = none_passes (satisfies (code_of r)) (λ i. decoded_bits r factor soft (i + 1)) 0 (suc k) k is (omega arith) in
+pub last_odd : (r : Rows) (rule : Rule) (rounds : ℕ) (soft : List ℤ) → 1 ≤ rounds → first_codeword r rule rounds soft ≡ None → satisfies (code_of r) (decoded_bits r rule soft rounds) ≡ false
+last_odd r rule zero soft some is = absurd (omega arith)
+last_odd r rule (suc k) soft some is =
+    let at = none_passes (satisfies (code_of r)) (λ i. decoded_bits r rule soft (i + 1)) 0 (suc k) k is (omega arith) in
     let here : 0 + k + 1 ≡ suc k = omega arith in
-    sym (ap (λ i. satisfies (code_of r) (decoded_bits r factor soft i)) here) ∙ at
+    sym (ap (λ i. satisfies (code_of r) (decoded_bits r rule soft i)) here) ∙ at
 
 -- ---- the ways in which is decided
 
@@ -165,7 +166,7 @@ module _ (r : Rows) (tuning : Tuning) (soft : List ℤ) where
   repair_odd e = ap (λ b. cond b (view_for r tuning.passes soft (repaired (code_of r) soft)) None) e
 
   -- a proof for each way is a proof for what is decided
-  pub by_ways : (P : Decided → Type 0) → (satisfies (code_of r) (hard_decision soft) ≡ true → P (certified r (hard_decision soft) (unsplit_view r soft (hard_decision soft)))) → ((view : View) → satisfies (code_of r) (repaired (code_of r) soft) ≡ true → view_for r tuning.passes soft (repaired (code_of r) soft) ≡ Some view → P (certified r (repaired (code_of r) soft) view)) → ((bits : List Bool) → repair_view r tuning.passes soft ≡ None → first_codeword r tuning.factor tuning.rounds soft ≡ Some bits → P (with_made r bits (min_sum_view r tuning soft bits))) → (repair_view r tuning.passes soft ≡ None → first_codeword r tuning.factor tuning.rounds soft ≡ None → P (without_certificate r tuning soft)) → P (decided r tuning soft)
+  pub by_ways : (P : Decided → Type 0) → (satisfies (code_of r) (hard_decision soft) ≡ true → P (certified r (hard_decision soft) (unsplit_view r soft (hard_decision soft)))) → ((view : View) → satisfies (code_of r) (repaired (code_of r) soft) ≡ true → view_for r tuning.passes soft (repaired (code_of r) soft) ≡ Some view → P (certified r (repaired (code_of r) soft) view)) → ((bits : List Bool) → repair_view r tuning.passes soft ≡ None → first_codeword r (rule_of tuning) tuning.rounds soft ≡ Some bits → P (with_made r bits (min_sum_view r tuning soft bits))) → (repair_view r tuning.passes soft ≡ None → first_codeword r (rule_of tuning) tuning.rounds soft ≡ None → P (without_certificate r tuning soft)) → P (decided r tuning soft)
   by_ways P hard repair found left =
       elim (cases_Bool (satisfies (code_of r) (hard_decision soft))) [
         | inl even ↦ subst P (sym (by_hard even)) (hard even)
@@ -176,7 +177,7 @@ module _ (r : Rows) (tuning : Tuning) (soft : List ℤ) where
       both true o view e = (refl, e)
       both false o view e = cc
 
-      at_min_sum : repair_view r tuning.passes soft ≡ None → (o : Option (List Bool)) → first_codeword r tuning.factor tuning.rounds soft ≡ o → P (by_min_sum r tuning soft o)
+      at_min_sum : repair_view r tuning.passes soft ≡ None → (o : Option (List Bool)) → first_codeword r (rule_of tuning) tuning.rounds soft ≡ o → P (by_min_sum r tuning soft o)
       at_min_sum none (Some bits) e = found bits none e
       at_min_sum none None e = left none e
 
@@ -184,4 +185,4 @@ module _ (r : Rows) (tuning : Tuning) (soft : List ℤ) where
       at_repair (Some view) e =
           let is = both (satisfies (code_of r) (repaired (code_of r) soft)) (view_for r tuning.passes soft (repaired (code_of r) soft)) view e in
           repair view is.0 is.1
-      at_repair None e = at_min_sum e (first_codeword r tuning.factor tuning.rounds soft) refl
+      at_repair None e = at_min_sum e (first_codeword r (rule_of tuning) tuning.rounds soft) refl

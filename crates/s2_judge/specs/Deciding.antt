@@ -18,8 +18,8 @@ use Rattle.s2_split.specs.Scattered.{repaired, IsScattered}
 use Rattle.s2_split.specs.Making.{made_view, greedy_view}
 use Rattle.s2_settle.specs.Settled.{settled}
 unfoldable pub use Rattle.s2_settle.specs.Settled.{is_strict}
-use Rattle.s2_minsum.specs.Plain.{State, start, round, decision}
-use Rattle.s2_tuning.specs.Tuning.{Tuning}
+use Rattle.s2_minsum.specs.Plain.{State, Rule, start, round, decision}
+use Rattle.s2_tuning.specs.Tuning.{Tuning, rule_of}
 use Rattle.s2_check.specs.declared.verdict.Verdict.{Verdict}
 use Rattle.s2_check.specs.declared.verdict.Verdict.TheVariants.{Sole, MostLikely, Parity, Broken}
 
@@ -48,19 +48,19 @@ satisfies code bits = list_all (λ j. ones_in code bits j % 2 == 0) (upto code.c
 
 -- ---- min-sum
 
--- min-sum's state after n rounds with a factor
-abbrev pub after_rounds : Rows → ℕ → List ℤ → ℕ → State
-after_rounds r factor soft rounds =
-    fold (λ before _. round (code_of r) r.shape.q factor before) (start soft) (upto rounds)
+-- min-sum's state after n rounds by a rule
+abbrev pub after_rounds : Rows → Rule → List ℤ → ℕ → State
+after_rounds r rule soft rounds =
+    fold (λ before _. round (code_of r) r.shape.q rule before) (start soft) (upto rounds)
 
 -- its hard decision after n rounds
-unfoldable pub decoded_bits : Rows → ℕ → List ℤ → ℕ → List Bool
-decoded_bits r factor soft rounds = decision (code_of r) (after_rounds r factor soft rounds)
+unfoldable pub decoded_bits : Rows → Rule → List ℤ → ℕ → List Bool
+decoded_bits r rule soft rounds = decision (code_of r) (after_rounds r rule soft rounds)
 
 -- of its hard decisions after 1, 2, .. rounds the first that satisfies every check
-abbrev pub first_codeword : Rows → ℕ → ℕ → List ℤ → Option (List Bool)
-first_codeword r factor rounds soft =
-    find (satisfies (code_of r)) (map (λ k. decoded_bits r factor soft (k + 1)) (upto rounds))
+abbrev pub first_codeword : Rows → Rule → ℕ → List ℤ → Option (List Bool)
+first_codeword r rule rounds soft =
+    find (satisfies (code_of r)) (map (λ k. decoded_bits r rule soft (k + 1)) (upto rounds))
 
 -- ---- certificates of codewords
 
@@ -84,7 +84,7 @@ decoded_view r passes soft bits =
 -- step 4: the repair if it satisfies every check, else min-sum's last hard decision
 abbrev pub without_certificate : Rows → Tuning → List ℤ → Decided
 without_certificate r tuning soft =
-    if satisfies (code_of r) (repaired (code_of r) soft) then uncertified Parity (repaired (code_of r) soft) else uncertified Broken (decoded_bits r tuning.factor soft tuning.rounds)
+    if satisfies (code_of r) (repaired (code_of r) soft) then uncertified Parity (repaired (code_of r) soft) else uncertified Broken (decoded_bits r (rule_of tuning) soft tuning.rounds)
 
 -- a codeword that min-sum found, with the certificate that is made for it, or with none
 abbrev pub with_made : Rows → List Bool → Option View → Decided
@@ -109,7 +109,7 @@ repair_view r passes soft =
 -- step 2: the repair with its certificate
 abbrev pub by_repair : Rows → Tuning → List ℤ → Option View → Decided
 by_repair r tuning soft (Some view) = certified r (repaired (code_of r) soft) view
-by_repair r tuning soft None = by_min_sum r tuning soft (first_codeword r tuning.factor tuning.rounds soft)
+by_repair r tuning soft None = by_min_sum r tuning soft (first_codeword r (rule_of tuning) tuning.rounds soft)
 
 -- the decision on soft values, in four steps: the hard decision; its repair with a certificate; the first codeword of
 -- min-sum, with or without a certificate; the repair without one, else min-sum's last hard decision
@@ -120,14 +120,14 @@ decided r tuning soft =
 -- ---- rounds
 
 -- the rounds of min-sum until its hard decision satisfies every check, or all of them if it never does
-abbrev pub rounds_until : Rows → ℕ → ℕ → List ℤ → ℕ
-rounds_until r factor rounds soft =
-    unwrap_or (find (λ k. satisfies (code_of r) (decoded_bits r factor soft k)) (range_with_len 1 rounds)) rounds
+abbrev pub rounds_until : Rows → Rule → ℕ → List ℤ → ℕ
+rounds_until r rule rounds soft =
+    unwrap_or (find (λ k. satisfies (code_of r) (decoded_bits r rule soft k)) (range_with_len 1 rounds)) rounds
 
 -- none if the repair has a certificate
 abbrev pub rounds_by : Rows → Tuning → List ℤ → Option View → ℕ
 rounds_by r tuning soft (Some view) = 0
-rounds_by r tuning soft None = rounds_until r tuning.factor tuning.rounds soft
+rounds_by r tuning soft None = rounds_until r (rule_of tuning) tuning.rounds soft
 
 -- the rounds of min-sum that the decision runs: none if one of the first two steps decides
 unfoldable pub rounds_run : Rows → Tuning → List ℤ → ℕ

@@ -7,6 +7,7 @@ ghost use Rattle.s2_check.specs.Hard.{hard_decision};
 ghost use Rattle.s2_check.specs.Views.{IsSoft};
 ghost use Rattle.s2_split.specs.Making.{shared_view, shared_views};
 ghost use Rattle.s2_split.specs.Scattered.{repaired};
+ghost use Rattle.s2_tuning.specs.Tuning.{rule_of};
 ghost use Rattle.s2_judge.specs.Deciding.{is_strict, satisfies, decoded_bits, first_codeword, repair_view, by_min_sum, decided, rounds_until, rounds_run};
 ghost use Rattle.s2_judge.specs.Judging.{shown_by, IsEvidence};
 
@@ -17,7 +18,7 @@ use crate::evidence::Evidence;
 use s2_bits::Bits;
 use s2_check::{judge_unsplit, none_is_zero};
 use s2_matrix::Matrix;
-use s2_minsum::{Decoder, Factor};
+use s2_minsum::{Decoder, Rule};
 use s2_tuning::Tuning;
 
 /// Looks for a certificate of the repair. Returns whether it found one, and whether the repair satisfies every check.
@@ -69,14 +70,14 @@ fn is_decoded(matrix: &Matrix, decoder: &Decoder<'_>, bits: &mut Bits) -> bool
     matrix.satisfied(bits)
 }
 
-/// Runs at most `rounds` rounds of min-sum with a factor, until its hard decision satisfies every check. Returns
+/// Runs at most `rounds` rounds of min-sum by a rule, until its hard decision satisfies every check. Returns
 /// whether it does, and how many rounds were run. The bits are its last hard decision.
 fn decode(
     matrix: &Matrix,
     decoder: &mut Decoder<'_>,
     soft: &[i16],
     rounds: u32,
-    factor: Factor,
+    rule: Rule,
     bits: &mut Bits,
 ) -> (bool, u32)
     requires decoder { decoder.old.rows ≡ matrix.now }
@@ -85,14 +86,14 @@ fn decode(
     requires rounds { 1 ≤ rounds }
     requires bits { length bits.old ≡ (code_of matrix.now).bits }
     ensures rows { decoder.new.rows ≡ matrix.now }
-    ensures first { first_codeword matrix.now factor rounds soft.now ≡ (if result.0 then Some bits.new else None) }
-    ensures last { result.0 ≡ false → bits.new ≡ decoded_bits matrix.now factor soft.now rounds }
-    ensures rounds { rounds_until matrix.now factor rounds soft.now ≡ result.1 }
+    ensures first { first_codeword matrix.now rule rounds soft.now ≡ (if result.0 then Some bits.new else None) }
+    ensures last { result.0 ≡ false → bits.new ≡ decoded_bits matrix.now rule soft.now rounds }
+    ensures rounds { rounds_until matrix.now rule rounds soft.now ≡ result.1 }
     ensures long { length bits.new ≡ (code_of matrix.now).bits }
 {
     decoder.load(soft);
     'decoding: for round in 0..rounds {
-        decoder.round(factor);
+        decoder.round(rule);
         if is_decoded(matrix, decoder, bits) {
             return (true, round + 1);
         }
@@ -124,11 +125,11 @@ fn decide_by_min_sum(
     ensures decoder { decoder.new.rows ≡ certifier.old.rows }
     ensures long { length bits.new ≡ (code_of certifier.old.rows).bits }
     ensures evidence { IsEvidence soft.now result.0 }
-    ensures decided { by_min_sum certifier.old.rows tuning soft.now (first_codeword certifier.old.rows tuning.factor tuning.rounds soft.now) ≡ shown_by certifier.old.rows soft.now bits.new certifier.new.found result.0 }
-    ensures rounds { rounds_until certifier.old.rows tuning.factor tuning.rounds soft.now ≡ result.1 }
+    ensures decided { by_min_sum certifier.old.rows tuning soft.now (first_codeword certifier.old.rows (rule_of tuning) tuning.rounds soft.now) ≡ shown_by certifier.old.rows soft.now bits.new certifier.new.found result.0 }
+    ensures rounds { rounds_until certifier.old.rows (rule_of tuning) tuning.rounds soft.now ≡ result.1 }
 {
-    let (rounds, factor) = (tuning.rounds(), tuning.factor());
-    let (is_codeword, run) = decode(certifier.matrix(), decoder, soft, rounds, factor, bits);
+    let (rounds, rule) = (tuning.rounds(), tuning.rule());
+    let (is_codeword, run) = decode(certifier.matrix(), decoder, soft, rounds, rule, bits);
     if is_codeword {
         if tuning.is_uncertified() {
             return (Evidence::Checks, run);

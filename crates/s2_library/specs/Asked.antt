@@ -6,6 +6,7 @@ use Rattle.s2_link.specs.Link.{Link, link_of}
 use Rattle.s2_link.specs.declared.setup.Setup.{Setup}
 use Rattle.s2_soft.specs.Divisors.{default_divisor}
 use Rattle.s2_minsum.specs.Factors.{default_factor}
+use Rattle.s2_minsum.specs.Corrections.{default_correction}
 use Rattle.s2_plframe.specs.Constants.{header_threshold}
 use Rattle.s2_tuning.specs.Limits.{default_rounds}
 use Rattle.s2_tuning.specs.Tuning.{Tuning}
@@ -51,6 +52,7 @@ wanted_by flags o = record {
   divisor = number_by (nat_eq (o.given / 4 % 2) 1) o.divisor default_divisor;
   factor = number_by (nat_eq (o.given / 8 % 2) 1) o.factor default_factor;
   max_header_errors = number_by (nat_eq (o.given / 16 % 2) 1) o.max_header_errors header_threshold;
+  correction = number_by (nat_eq (o.given / 32 % 2) 1) o.correction default_correction;
   tuned = flags.tuned;
   uncertified = flags.uncertified;
   figures = flags.figures;
@@ -86,10 +88,10 @@ IsSenderOf o rows (slots.Transmitter s) =
     (s.link ≡ link_in o rows) × (s.dummy_every ≡ o.dummy_every) × (s.stream ≡ at_first (field_bytes (mode_in o)) max_packets)
 IsSenderOf o rows slot = ⊥
 
--- the tuning of a judge: that of the mode of options, or without a mode that of their passes and factor
+-- the tuning of a judge: that of the mode of options, or without a mode that of their passes, factor and correction
 abbrev pub judging_in : Options → Tuning
 judging_in o =
-    if nat_eq o.modcod 0 then judging_by (wanted_by (flags_of o) o).passes.value (wanted_by (flags_of o) o).factor.value (is_set o.uncertified) else tuning_in o
+    if nat_eq o.modcod 0 then judging_by (wanted_by (flags_of o) o).passes.value (wanted_by (flags_of o) o).factor.value (wanted_by (flags_of o) o).correction.value (is_set o.uncertified) else tuning_in o
 
 -- a judge of these rows, with the tuning of options
 abbrev pub IsJudgeOf : Options → Rows → Slot → Type 0

@@ -76,9 +76,9 @@ pub record HaveValues (o : Options) : Type 0 where
   pub turns : o.turns ≤ 1
   pub equalize : o.equalize ≤ 1
   pub resync : o.resync ≤ 1
-  pub given : o.given ≤ 31
+  pub given : o.given ≤ 63
   pub dummy_every : o.dummy_every ≤ 65535
-  pub reserved : o.reserved ≡ replicate 13 0
+  pub reserved : o.reserved ≡ replicate 12 0
 
 -- options of their size, with such values
 abbrev pub AreOptions : Options → Type 0

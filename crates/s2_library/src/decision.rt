@@ -45,7 +45,8 @@ fn plain_tuning(flags: Flags, options: &Options) -> Result<Tuning, Refusal>
     ensures refused { IfErr result (λ refusal. (refusal ≡ Refusal.BadTuning) × (IsTuning (judging_in options.now) → ⊥)) }
 {
     let wanted = wanted_by(flags, options);
-    match judging_by(wanted.passes.value, wanted.factor.value, flags.uncertified) {
+    let (passes, factor) = (wanted.passes.value, wanted.factor.value);
+    match judging_by(passes, factor, wanted.correction.value, flags.uncertified) {
         Some(tuning) => Ok(tuning),
         None => Err(Refusal::BadTuning),
     }

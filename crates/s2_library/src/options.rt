@@ -6,7 +6,7 @@ ghost use Rattle.s2_library.specs.Refusals.{AreOptions, HaveValues, NameMode, Re
 
 use crate::refusal::Refusal;
 use s2_link::Setup;
-use s2_minsum::DEFAULT_FACTOR;
+use s2_minsum::{DEFAULT_CORRECTION, DEFAULT_FACTOR};
 use s2_mode::Mode;
 use s2_plframe::HEADER_THRESHOLD;
 use s2_soft::DEFAULT_DIVISOR;
@@ -16,7 +16,7 @@ use s2_tuning::{DEFAULT_ROUNDS, Number, Wanted};
 const SIZE: u32 = 128;
 
 /// The largest sum of flags for given numbers.
-const MOST_GIVEN: u32 = 31;
+const MOST_GIVEN: u32 = 63;
 
 /// The most frames between dummy frames.
 const MAX_DUMMY_EVERY: u32 = 65535;
@@ -47,7 +47,8 @@ pub struct Options {
     pub turns: u32,
     pub equalize: u32,
     pub resync: u32,
-    pub reserved: [u32; 13],
+    pub correction: u32,
+    pub reserved: [u32; 12],
 }
 
 /// Options whose members are values that they can have. The mode is not tested yet, nor are the numbers of the link and of
@@ -66,10 +67,10 @@ pub(crate) struct Flags {
 }
 
 /// Whether the reserved members are 0.
-fn are_unused(reserved: &[u32; 13]) -> bool
-    ensures { IsTrue result ↔ (reserved.now ≡ replicate 13 0) }
+fn are_unused(reserved: &[u32; 12]) -> bool
+    ensures { IsTrue result ↔ (reserved.now ≡ replicate 12 0) }
 {
-    *reserved == [0; 13]
+    *reserved == [0; 12]
 }
 
 /// Whether the members that have few values have one of theirs.
@@ -174,6 +175,7 @@ pub(crate) fn wanted_by(flags: Flags, options: &Options) -> Wanted
             options.max_header_errors,
             HEADER_THRESHOLD,
         ),
+        correction: number_by(given / 32 % 2 == 1, options.correction, DEFAULT_CORRECTION),
         tuned: flags.tuned,
         uncertified: flags.uncertified,
         figures: flags.figures,

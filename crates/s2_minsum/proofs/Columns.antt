@@ -1,5 +1,5 @@
 -- The bits that a lane of a layer's entries shows are the members of its check.
-use Rattle.std.proofs.Common.{◌≡◌, ◌≢◌, ℕ, suc, ◌+◌, ◌-◌, ◌*◌, ◌<◌, ◌≤◌, ◌==◌, ◌&&◌, ◌%◌, Bool, true, false, cond, not, min, eqb, List, [], ◌∷◌, length, get_or, map, filter, fold, count_by, All, ℤ, pos, int_lt, unsigned_abs, refl, ap, sym, ◌∙◌, inl, inr, arith, eq-eqb, ne_eqb}
+use Rattle.std.proofs.Common.{◌≡◌, ◌≢◌, ℕ, suc, ◌+◌, ◌-◌, ◌*◌, ◌<◌, ◌≤◌, ◌==◌, ◌&&◌, ◌%◌, Bool, true, false, cond, not, eqb, List, [], ◌∷◌, length, get_or, map, filter, count_by, All, ℤ, pos, int_lt, unsigned_abs, refl, ap, sym, ◌∙◌, inl, inr, arith, eq-eqb, ne_eqb}
 use Rattle.std.specs.List.{AllPairs, list_any, position_or_len}
 use Rattle.std.proofs.lemmas.Bool.{cases_Bool, cases_eq, eqb-true, and_parts}
 use Rattle.std.proofs.lemmas.List.{get_or-map, length-map}
@@ -13,14 +13,16 @@ use Rattle.s2_rows.specs.Rows.{Rows}
 use Rattle.s2_matrix.specs.Total.{upto}
 use Rattle.s2_matrix.specs.Code.{Code, code_of, members}
 use Rattle.s2_matrix.proofs.Members.{members_rising, members_below, place_in_members, place_of_upto}
-use Rattle.s2_minsum.specs.Plain.{max_magnitude, State, input, others, reduced, with_sign, made}
+use Rattle.s2_minsum.specs.Plain.{max_magnitude, State, input, sizes, reduced, with_sign, made}
 use Rattle.s2_minsum.specs.Nodes.{sent}
+use Rattle.s2_minsum.specs.Plain.{FrameRule}
 use Rattle.s2_minsum.specs.Rows.{is_lacking}
 use Rattle.s2_minsum.specs.Layout.{row_of_bit, lane_of_bit, last_check, forth, back, entry_of, lacked_row}
 use Rattle.s2_minsum.proofs.Places
 use Rattle.s2_minsum.proofs.RotationFacts
-use Rattle.s2_minsum.proofs.Others.{made_is}
-use Rattle.s2_minsum.proofs.Orders.{Within, in_filter, made_same}
+use Rattle.s2_minsum.proofs.Orders.{Within, in_filter}
+use Rattle.s2_minsum.proofs.Least.{at_most, none_at_most, below, corrected_same}
+use Rattle.s2_minsum.proofs.Others.{made_is, made_same}
 
 -- the place of a number that has one
 pub found : (xs : List ℕ) (i : ℕ) → position_or_len (λ m. m == i) xs < length xs → get_or xs (position_or_len (λ m. m == i) xs) 0 ≡ i
@@ -48,21 +50,16 @@ members_apart code j a b d less inside same =
 -- ---- inputs of the cap change nothing
 
 module _ (h : ℕ → Bool) (g : ℕ → ℤ) (capped : (x : ℕ) → h x ≡ false → g x ≡ pos max_magnitude) where
-  least_capped : (p : ℕ → Bool) (a : ℕ) (xs : List ℕ) → a ≤ max_magnitude → fold (λ least k. min least (unsigned_abs (g k))) a (filter p xs) ≡ fold (λ least k. min least (unsigned_abs (g k))) a (filter p (filter h xs))
-  least_capped p a [] small = refl
-  least_capped p a (x ∷ xs) small = elim (cases_Bool (h x)) [
-    | inl has ↦ elim (cases_Bool (p x)) [
-      | inl keeps ↦ rw has (rw keeps (least_capped p (min a (unsigned_abs (g x))) xs (omega arith)))
-      | inr drops ↦ rw has (rw drops (least_capped p a xs small))
-    ]
-    | inr lacks ↦ elim (cases_Bool (p x)) [
-      | inl keeps ↦ (
-          let same : min a (unsigned_abs (g x)) ≡ a = (let e = ap unsigned_abs (capped x lacks) in omega arith) in
-          rw lacks (rw keeps (ap (λ v. fold (λ least k. min least (unsigned_abs (g k))) v (filter p xs)) same ∙ least_capped p a xs small))
-          )
-      | inr drops ↦ rw lacks (rw drops (least_capped p a xs small))
-    ]
-  ]
+  sizes_capped : (v : ℕ) → v < max_magnitude → (xs : List ℕ) → below v (sizes g xs) ≡ below v (sizes g (filter h xs))
+  sizes_capped v low [] = refl
+  sizes_capped v low (x ∷ xs) =
+      let rest = sizes_capped v low xs in
+      let own = unsigned_abs (g x) in
+      let whole = sum_by-cons (at_most v) own (sizes g xs) in
+      elim (cases_Bool (h x)) [
+        | inl has ↦ rw has (omega (arith, rest, whole, sum_by-cons (at_most v) own (sizes g (filter h xs))))
+        | inr lacks ↦ rw lacks (omega (arith, rest, whole, ap (λ z. at_most v (unsigned_abs z)) (capped x lacks), none_at_most v max_magnitude low))
+      ]
 
   count_capped : (p : ℕ → Bool) (xs : List ℕ) → count_by (λ k. int_lt (g k) (pos 0)) (filter p xs) ≡ count_by (λ k. int_lt (g k) (pos 0)) (filter p (filter h xs))
   count_capped p [] = refl
@@ -84,17 +81,16 @@ module _ (h : ℕ → Bool) (g : ℕ → ℤ) (capped : (x : ℕ) → h x ≡ fa
         ]
       ]
 
-  pub made_capped : (factor : ℕ) (xs : List ℕ) (i : ℕ) → made factor g (others xs i) ≡ made factor g (others (filter h xs) i)
-  made_capped factor xs i =
-      let p = λ (k : ℕ). not (k == i) in
-      let least = least_capped p max_magnitude xs (omega arith) in
-      let count = count_capped p xs in
-      λ x. with_sign (count x % 2 == 1) (reduced factor (least x))
+  pub made_capped : (rule : FrameRule) (xs : List ℕ) (i : ℕ) → made rule g xs i ≡ made rule g (filter h xs) i
+  made_capped rule xs i =
+      let size = corrected_same rule.peak (sizes g xs) (sizes g (filter h xs)) (unsigned_abs (g i)) (λ v low. sizes_capped v low xs) in
+      let count = count_capped (λ k. not (k == i)) xs in
+      λ x. with_sign (count x % 2 == 1) (reduced rule.factor (size x))
 
 -- the message depends on the inputs of the members alone
-made_congr : (factor : ℕ) (g g' : ℕ → ℤ) (xs : List ℕ) (e : ℕ) → AllPairs (λ a b. a ≢ b) xs → e < length xs → ((k : ℕ) → k < length xs → g (get_or xs k 0) ≡ g' (get_or xs k 0)) → made factor g (others xs (get_or xs e 0)) ≡ made factor g' (others xs (get_or xs e 0))
-made_congr factor g g' xs e apart within same =
-    made_is factor g (λ k. g (get_or xs k 0)) xs e apart within (λ k lt. refl) ∙ sym (made_is factor g' (λ k. g (get_or xs k 0)) xs e apart within same)
+made_congr : (rule : FrameRule) (g g' : ℕ → ℤ) (xs : List ℕ) (e : ℕ) → AllPairs (λ a b. a ≢ b) xs → e < length xs → ((k : ℕ) → k < length xs → g (get_or xs k 0) ≡ g' (get_or xs k 0)) → made rule g xs (get_or xs e 0) ≡ made rule g' xs (get_or xs e 0)
+made_congr rule g g' xs e apart within same =
+    made_is rule g (λ k. g (get_or xs k 0)) xs e apart within (λ k lt. refl) ∙ sym (made_is rule g' (λ k. g (get_or xs k 0)) xs e apart within same)
 
 choose : (l h : Bool) (a b : ℤ) → (l ≡ true → h ≡ false) → (l ≡ false → h ≡ true) → cond l a b ≡ cond h b a
 choose true h a b one two = sym (ap (λ t. cond t b a) (one refl))
@@ -161,10 +157,10 @@ module _ (rows : Rows) (shaped : IsShape rows.shape) (r : ℕ) (layer : r < rows
         let again = λ (k : ℕ) (lt : k < length ms). Places.back_forth s shaped c (get_or ms k 0) small (member_below k lt) in
         members_apart (code_of rows) (last_check s r) a b 0 less lb (sym (again a la) ∙ ap (back s c) (sym one ∙ same ∙ two) ∙ again b lb)
 
-    pub lane_sent : (factor : ℕ) (state : State) (f : ℕ → ℤ) (x : ℕ) → x < code_bits rows.shape → is_member rows (r + c * rows.shape.q) x ≡ true
+    pub lane_sent : (rule : FrameRule) (state : State) (f : ℕ → ℤ) (x : ℕ) → x < code_bits rows.shape → is_member rows (r + c * rows.shape.q) x ≡ true
         → ((k : ℕ) → k < length (members (code_of rows) (last_check rows.shape r)) → f k ≡ cond (is_lacking (lacked_row rows.shape r) (entry_of rows.shape (get_or (members (code_of rows) (last_check rows.shape r)) k 0)) c) (pos max_magnitude) (input (code_of rows) state (r + c * rows.shape.q) (forth rows.shape c (get_or (members (code_of rows) (last_check rows.shape r)) k 0))))
-        → sent factor f (length (members (code_of rows) (last_check rows.shape r))) (position_or_len (λ m. m == back rows.shape c x) (members (code_of rows) (last_check rows.shape r))) ≡ made factor (input (code_of rows) state (r + c * rows.shape.q)) (others (members (code_of rows) (r + c * rows.shape.q)) x)
-    lane_sent factor state f x low has gives =
+        → sent rule f (length (members (code_of rows) (last_check rows.shape r))) (position_or_len (λ m. m == back rows.shape c x) (members (code_of rows) (last_check rows.shape r))) ≡ made rule (input (code_of rows) state (r + c * rows.shape.q)) (members (code_of rows) (r + c * rows.shape.q)) x
+    lane_sent rule state f x low has gives =
         let s = rows.shape in
         let code = code_of rows in
         let j = r + c * s.q in
@@ -205,11 +201,11 @@ module _ (rows : Rows) (shaped : IsShape rows.shape) (r : ℕ) (layer : r < rows
         let z_is : get_or bits p 0 ≡ z = at p z_place ∙ ap (forth s c) (found ms (back s c z) z_place) ∙ Places.forth_back s shaped c z small z_low in
         in_filter h z z_has bits (list_any_at (λ m. m == z) bits p 0 (omega arith) (eq-eqb (get_or bits p 0) z z_is))
         in
-        ap (λ n. sent factor f n e) (sym long)
-        ∙ sym (made_is factor g' f bits e bits_apart within' gives')
-        ∙ ap (λ b. made factor g' (others bits b)) shows
-        ∙ made_capped h g' (λ z lacks'. ap (λ t. cond t (g z) (pos max_magnitude)) lacks') factor bits x
-        ∙ made_same factor g' (filter h bits) ys x (AllPairs-filter (λ a b. a ≢ b) h bits bits_apart) (members_apart code j) bits_in ys_in
-        ∙ ap (λ b. made factor g' (others ys b)) (sym shown)
-        ∙ made_congr factor g' g ys y (members_apart code j) place (λ k lt. ap (λ t. cond t (g (get_or ys k 0)) (pos max_magnitude)) (filter_passes h (upto code.bits) k 0 lt))
-        ∙ ap (λ b. made factor g (others ys b)) shown
+        ap (λ n. sent rule f n e) (sym long)
+        ∙ sym (made_is rule g' f bits e bits_apart within' gives')
+        ∙ ap (λ b. made rule g' bits b) shows
+        ∙ made_capped h g' (λ z lacks'. ap (λ t. cond t (g z) (pos max_magnitude)) lacks') rule bits x
+        ∙ made_same rule g' (filter h bits) ys x (AllPairs-filter (λ a b. a ≢ b) h bits bits_apart) (members_apart code j) bits_in ys_in
+        ∙ ap (λ b. made rule g' ys b) (sym shown)
+        ∙ made_congr rule g' g ys y (members_apart code j) place (λ k lt. ap (λ t. cond t (g (get_or ys k 0)) (pos max_magnitude)) (filter_passes h (upto code.bits) k 0 lt))
+        ∙ ap (λ b. made rule g ys b) shown

@@ -8,8 +8,9 @@ use Rattle.s2_bits.specs.Lanes16.{minus16, magnitude16}
 use Rattle.s2_bits.proofs.RowParts.{row_before, row_room}
 use Rattle.s2_minsum.specs.Plain.{max_magnitude}
 use Rattle.s2_minsum.specs.Rows.{cell, reduced16}
+use Rattle.s2_minsum.specs.Plain.{FrameRule}
 use Rattle.s2_minsum.specs.Exchange.{renewed, AreSent, AreExchanged}
-use Rattle.s2_minsum.proofs.Sames.{least_from-same, next_from-same, signs_of-same}
+use Rattle.s2_minsum.proofs.Sames.{least_from-same, next_from-same, third_from-same, signs_of-same}
 
 -- ---- lanes of one entry that are written
 
@@ -91,15 +92,16 @@ sent_more n count at w e new inputs messages inputs' messages' xs ys inside lt s
 
 -- ---- checks that are exchanged
 
-renewed-same : (factor n count : ℕ) (xs ys : List ℕ) (e c : ℕ) → e < count → ((x : ℕ) → x < count → cell xs n x c ≡ cell ys n x c) → renewed factor n count xs e c ≡ renewed factor n count ys e c
-renewed-same factor n count xs ys e c lt same =
+renewed-same : (rule : FrameRule) (n count : ℕ) (xs ys : List ℕ) (e c : ℕ) → e < count → ((x : ℕ) → x < count → cell xs n x c ≡ cell ys n x c) → renewed rule n count xs e c ≡ renewed rule n count ys e c
+renewed-same rule n count xs ys e c lt same =
     let first = least_from-same max_magnitude (λ x. magnitude16 (cell xs n x c)) (λ x. magnitude16 (cell ys n x c)) count count (omega arith) (λ x l. ap magnitude16 (same x l)) in
     let second = next_from-same max_magnitude (λ x. magnitude16 (cell xs n x c)) (λ x. magnitude16 (cell ys n x c)) count count (omega arith) (λ x l. ap magnitude16 (same x l)) in
+    let third = third_from-same max_magnitude (λ x. magnitude16 (cell xs n x c)) (λ x. magnitude16 (cell ys n x c)) count count (omega arith) (λ x l. ap magnitude16 (same x l)) in
     let signs = signs_of-same (λ x. cell xs n x c) (λ x. cell ys n x c) count count (omega arith) same in
-    λ i. reduced16 factor (same e lt i) (first i) (second i) (signs i)
+    λ i. reduced16 rule (same e lt i) (first i) (second i) (third i) (signs i)
 
-pub exchanged_none : (factor n count : ℕ) (inputs messages : List ℕ) → AreExchanged factor n count 0 0 inputs messages inputs messages
-exchanged_none factor n count inputs messages = record {
+pub exchanged_none : (rule : FrameRule) (n count : ℕ) (inputs messages : List ℕ) → AreExchanged rule n count 0 0 inputs messages inputs messages
+exchanged_none rule n count inputs messages = record {
   sent = λ e c lt le below. absurd (omega (arith, below));
   changes = λ e c lt le below. absurd (omega (arith, below));
   inputs_left = λ e c lt low off. refl;
@@ -107,31 +109,31 @@ exchanged_none factor n count inputs messages = record {
 }
 
 -- the lanes that are sent are exchanged, where what is sent is what the inputs make
-pub exchanged_by : (factor n count at w : ℕ) (new : ℕ → ℕ → ℕ) (inputs messages inputs' messages' : List ℕ) → ((e k : ℕ) → e < count → k < w → new e k ≡ renewed factor n count inputs e (at + k)) → AreSent n count at w new inputs messages inputs' messages' → AreExchanged factor n count at (at + w) inputs messages inputs' messages'
-exchanged_by factor n count at w new inputs messages inputs' messages' is s = record {
+pub exchanged_by : (rule : FrameRule) (n count at w : ℕ) (new : ℕ → ℕ → ℕ) (inputs messages inputs' messages' : List ℕ) → ((e k : ℕ) → e < count → k < w → new e k ≡ renewed rule n count inputs e (at + k)) → AreSent n count at w new inputs messages inputs' messages' → AreExchanged rule n count at (at + w) inputs messages inputs' messages'
+exchanged_by rule n count at w new inputs messages inputs' messages' is s = record {
   sent = λ e c lt le below.
       let place : at + (c - at) ≡ c = omega arith in
       let low : c - at < w = omega arith in
-      ap (λ x. cell messages' n e x) (sym place) ∙ s.sent e (c - at) lt low ∙ is e (c - at) lt low ∙ ap (λ x. renewed factor n count inputs e x) place;
+      ap (λ x. cell messages' n e x) (sym place) ∙ s.sent e (c - at) lt low ∙ is e (c - at) lt low ∙ ap (λ x. renewed rule n count inputs e x) place;
   changes = λ e c lt le below.
       let place : at + (c - at) ≡ c = omega arith in
       let low : c - at < w = omega arith in
-      ap (λ x. cell inputs' n e x) (sym place) ∙ s.changes e (c - at) lt low ∙ ap (λ v. minus16 v (cell messages n e (at + (c - at)))) (is e (c - at) lt low) ∙ ap (λ x. minus16 (renewed factor n count inputs e x) (cell messages n e x)) place;
+      ap (λ x. cell inputs' n e x) (sym place) ∙ s.changes e (c - at) lt low ∙ ap (λ v. minus16 v (cell messages n e (at + (c - at)))) (is e (c - at) lt low) ∙ ap (λ x. minus16 (renewed rule n count inputs e x) (cell messages n e x)) place;
   inputs_left = s.inputs_left;
   messages_left = s.messages_left;
 }
 
 -- some lanes more
-pub exchanged_more : (factor n count mid to : ℕ) (inputs messages inputs' messages' xs ys : List ℕ) → mid ≤ to → to ≤ n → AreExchanged factor n count 0 mid inputs messages inputs' messages' → AreExchanged factor n count mid to inputs' messages' xs ys → AreExchanged factor n count 0 to inputs messages xs ys
-exchanged_more factor n count mid to inputs messages inputs' messages' xs ys rise end first second = record {
+pub exchanged_more : (rule : FrameRule) (n count mid to : ℕ) (inputs messages inputs' messages' xs ys : List ℕ) → mid ≤ to → to ≤ n → AreExchanged rule n count 0 mid inputs messages inputs' messages' → AreExchanged rule n count mid to inputs' messages' xs ys → AreExchanged rule n count 0 to inputs messages xs ys
+exchanged_more rule n count mid to inputs messages inputs' messages' xs ys rise end first second = record {
   sent = λ e c lt le below. elim (cases_lt c mid) [
     | inl less ↦ second.messages_left e c lt (omega arith) (λ le' _. omega arith) ∙ first.sent e c lt le less
-    | inr le' ↦ second.sent e c lt le' below ∙ renewed-same factor n count inputs' inputs e c lt (λ x l. first.inputs_left x c l (omega arith) (λ _ less. omega arith))
+    | inr le' ↦ second.sent e c lt le' below ∙ renewed-same rule n count inputs' inputs e c lt (λ x l. first.inputs_left x c l (omega arith) (λ _ less. omega arith))
   ];
   changes = λ e c lt le below. elim (cases_lt c mid) [
     | inl less ↦ second.inputs_left e c lt (omega arith) (λ le' _. omega arith) ∙ first.changes e c lt le less
     | inr le' ↦ (
-        let same = renewed-same factor n count inputs' inputs e c lt (λ x l. first.inputs_left x c l (omega arith) (λ _ less. omega arith)) in
+        let same = renewed-same rule n count inputs' inputs e c lt (λ x l. first.inputs_left x c l (omega arith) (λ _ less. omega arith)) in
         second.changes e c lt le' below ∙ (λ i. minus16 (same i) (first.messages_left e c lt (omega arith) (λ _ less. omega arith) i))
         )
   ];

@@ -10,8 +10,9 @@ use Rattle.s2_minsum.proofs.Places
 use Rattle.s2_minsum.proofs.Columns.{member_below}
 use Rattle.s2_matrix.specs.Code.{code_of, members}
 use Rattle.s2_minsum.specs.declared.kernels.Circulant.{Circulant}
-use Rattle.s2_minsum.specs.Plain.{layer as after_layer}
-use Rattle.s2_minsum.specs.Nodes.{min1_of, min2_of, signs_of}
+use Rattle.s2_minsum.specs.Plain.{layer_by as after_layer}
+use Rattle.s2_minsum.specs.Nodes.{min1_of, min2_of, min3_of, signs_of}
+use Rattle.s2_minsum.specs.Plain.{FrameRule}
 use Rattle.s2_bits.specs.Lanes16.{magnitude16}
 use Rattle.s2_minsum.specs.Rows.{cell, no_entry, entry_at, AreIn, reduced16, received, change_of, changed}
 use Rattle.s2_minsum.specs.Layout.{row_of_bit, last_check, entry_of, entries_of, entry_count, first_row, kept_of, state_of, lacked_row}
@@ -34,20 +35,20 @@ pub length-entries : (rows : Rows) (r : ℕ) → length (entries_of rows r) ≡ 
 length-entries rows r = length-map (members (code_of rows) (last_check rows.shape r)) (entry_of rows.shape)
 
 -- what the rows' layer ensures
-pub record Ran (factor : ℕ) (es : List Circulant) (messages posteriors ys posteriors' : List ℕ) (n start count last m : ℕ) : Type 0 where
+pub record Ran (rule : FrameRule) (es : List Circulant) (messages posteriors ys posteriors' : List ℕ) (n start count last m : ℕ) : Type 0 where
   pub long : length ys ≡ length (rows_part messages n start count)
   pub posteriors_long : length posteriors' ≡ length posteriors
   pub fits : (k : ℕ) → get_or (rows_put messages ys n start count) k 0 < 65536
   pub posteriors_fit : (k : ℕ) → get_or posteriors' k 0 < 65536
-  pub sends : (e c : ℕ) → e < m → c < n → cell ys n e c ≡ reduced16 factor (received n es last posteriors (rows_part messages n start count) e c) (min1_of (λ k. magnitude16 (received n es last posteriors (rows_part messages n start count) k c)) m) (min2_of (λ k. magnitude16 (received n es last posteriors (rows_part messages n start count) k c)) m) (signs_of (λ k. received n es last posteriors (rows_part messages n start count) k c) m)
+  pub sends : (e c : ℕ) → e < m → c < n → cell ys n e c ≡ reduced16 rule (received n es last posteriors (rows_part messages n start count) e c) (min1_of (λ k. magnitude16 (received n es last posteriors (rows_part messages n start count) k c)) m) (min2_of (λ k. magnitude16 (received n es last posteriors (rows_part messages n start count) k c)) m) (min3_of (λ k. magnitude16 (received n es last posteriors (rows_part messages n start count) k c)) m) (signs_of (λ k. received n es last posteriors (rows_part messages n start count) k c) m)
   pub changes : (p : ℕ) → p < length posteriors → get_or posteriors' p 0 ≡ changed n es posteriors (change_of n es last (rows_part messages n start count) ys) m p
 
-pub record Gives (rows : Rows) (factor : ℕ) (soft : List ℤ) (messages ys posteriors' : List ℕ) (r n start count : ℕ) : Type 0 where
+pub record Gives (rows : Rows) (rule : FrameRule) (soft : List ℤ) (messages ys posteriors' : List ℕ) (r n start count : ℕ) : Type 0 where
   pub numbers : AreNumbers rows soft (rows_put messages ys n start count) posteriors'
-  pub state : state_of rows soft (kept_of rows (rows_put messages ys n start count)) ≡ after_layer (code_of rows) rows.shape.q factor r (state_of rows soft (kept_of rows messages))
+  pub state : state_of rows soft (kept_of rows (rows_put messages ys n start count)) ≡ after_layer (code_of rows) rows.shape.q rule r (state_of rows soft (kept_of rows messages))
 
-module _ (rows : Rows) (factor : ℕ) (soft : List ℤ) (messages posteriors : List ℕ) (l : AreFit rows) (d : AreNumbers rows soft messages posteriors) (r : ℕ) (layer : r < rows.shape.q) (ys posteriors' : List ℕ) where
-  ran_gives : Ran factor (entries_of rows r) messages posteriors ys posteriors' rows.shape.group (first_row rows r) (entry_count rows r) (lacked_row rows.shape r) (entry_count rows r) → Gives rows factor soft messages ys posteriors' r rows.shape.group (first_row rows r) (entry_count rows r)
+module _ (rows : Rows) (rule : FrameRule) (soft : List ℤ) (messages posteriors : List ℕ) (l : AreFit rows) (d : AreNumbers rows soft messages posteriors) (r : ℕ) (layer : r < rows.shape.q) (ys posteriors' : List ℕ) where
+  ran_gives : Ran rule (entries_of rows r) messages posteriors ys posteriors' rows.shape.group (first_row rows r) (entry_count rows r) (lacked_row rows.shape r) (entry_count rows r) → Gives rows rule soft messages ys posteriors' r rows.shape.group (first_row rows r) (entry_count rows r)
   ran_gives ran =
       let n = rows.shape.group in
       let start = first_row rows r in
@@ -90,7 +91,7 @@ module _ (rows : Rows) (factor : ℕ) (soft : List ℤ) (messages posteriors : L
         | inr le ↦ (let none = get_or_past ys k 0 le in omega (arith, none))
       ]
       in
-      let small_part = ys_small rows factor soft messages posteriors l d d.fits d.posteriors_fit r layer es ms ys messages' fit_new es_are ms_are new_are others_are ran.sends (omega (arith, ylen, width)) in
+      let small_part = ys_small rows rule soft messages posteriors l d d.fits d.posteriors_fit r layer es ms ys messages' fit_new es_are ms_are new_are others_are ran.sends (omega (arith, ylen, width)) in
       let long' = length-put_mid 0 at w messages ys room ylen in
       let small' : AreMessages messages' = λ k e h. elim (cases_lt k at) [
         | inl before ↦ rw (get_or_default messages' k e 0 h) (rw (put_mid_below 0 at w messages ys room ylen k before) (d.messages_small k 0 (omega arith)))
@@ -106,19 +107,19 @@ module _ (rows : Rows) (factor : ℕ) (soft : List ℤ) (messages posteriors : L
       ]
       in
       record {
-        numbers = numbers rows factor soft messages posteriors l d d.fits d.posteriors_fit r layer es ms ys messages' fit_new es_are ms_are new_are others_are ran.sends small' long' ran.fits posteriors' ran.posteriors_fit ran.posteriors_long ran.changes;
-        state = state_is rows factor soft messages posteriors l d d.fits d.posteriors_fit r layer es ms ys messages' fit_new es_are ms_are new_are others_are ran.sends;
+        numbers = numbers rows rule soft messages posteriors l d d.fits d.posteriors_fit r layer es ms ys messages' fit_new es_are ms_are new_are others_are ran.sends small' long' ran.fits posteriors' ran.posteriors_fit ran.posteriors_long ran.changes;
+        state = state_is rows rule soft messages posteriors l d d.fits d.posteriors_fit r layer es ms ys messages' fit_new es_are ms_are new_are others_are ran.sends;
       }
 
-  pub gives : (es : List Circulant) (n start count last : ℕ) → entries_of rows r ≡ es → rows.shape.group ≡ n → first_row rows r ≡ start → entry_count rows r ≡ count → lacked_row rows.shape r ≡ last → Ran factor es messages posteriors ys posteriors' n start count last (length es) → Gives rows factor soft messages ys posteriors' r n start count
+  pub gives : (es : List Circulant) (n start count last : ℕ) → entries_of rows r ≡ es → rows.shape.group ≡ n → first_row rows r ≡ start → entry_count rows r ≡ count → lacked_row rows.shape r ≡ last → Ran rule es messages posteriors ys posteriors' n start count last (length es) → Gives rows rule soft messages ys posteriors' r n start count
   gives es n start count last es_is n_is start_is count_is last_is =
       let long = length-entries rows r in
-      subst (λ e'. Ran factor e' messages posteriors ys posteriors' n start count last (length e') → Gives rows factor soft messages ys posteriors' r n start count) es_is
-      (subst (λ n'. Ran factor (entries_of rows r) messages posteriors ys posteriors' n' start count last (length (entries_of rows r)) → Gives rows factor soft messages ys posteriors' r n' start count) n_is
-      (subst (λ s'. Ran factor (entries_of rows r) messages posteriors ys posteriors' rows.shape.group s' count last (length (entries_of rows r)) → Gives rows factor soft messages ys posteriors' r rows.shape.group s' count) start_is
-      (subst (λ c'. Ran factor (entries_of rows r) messages posteriors ys posteriors' rows.shape.group (first_row rows r) c' last (length (entries_of rows r)) → Gives rows factor soft messages ys posteriors' r rows.shape.group (first_row rows r) c') count_is
-      (subst (λ l'. Ran factor (entries_of rows r) messages posteriors ys posteriors' rows.shape.group (first_row rows r) (entry_count rows r) l' (length (entries_of rows r)) → Gives rows factor soft messages ys posteriors' r rows.shape.group (first_row rows r) (entry_count rows r)) last_is
-      (subst (λ m'. Ran factor (entries_of rows r) messages posteriors ys posteriors' rows.shape.group (first_row rows r) (entry_count rows r) (lacked_row rows.shape r) m' → Gives rows factor soft messages ys posteriors' r rows.shape.group (first_row rows r) (entry_count rows r)) (sym long) ran_gives)))))
+      subst (λ e'. Ran rule e' messages posteriors ys posteriors' n start count last (length e') → Gives rows rule soft messages ys posteriors' r n start count) es_is
+      (subst (λ n'. Ran rule (entries_of rows r) messages posteriors ys posteriors' n' start count last (length (entries_of rows r)) → Gives rows rule soft messages ys posteriors' r n' start count) n_is
+      (subst (λ s'. Ran rule (entries_of rows r) messages posteriors ys posteriors' rows.shape.group s' count last (length (entries_of rows r)) → Gives rows rule soft messages ys posteriors' r rows.shape.group s' count) start_is
+      (subst (λ c'. Ran rule (entries_of rows r) messages posteriors ys posteriors' rows.shape.group (first_row rows r) c' last (length (entries_of rows r)) → Gives rows rule soft messages ys posteriors' r rows.shape.group (first_row rows r) c') count_is
+      (subst (λ l'. Ran rule (entries_of rows r) messages posteriors ys posteriors' rows.shape.group (first_row rows r) (entry_count rows r) l' (length (entries_of rows r)) → Gives rows rule soft messages ys posteriors' r rows.shape.group (first_row rows r) (entry_count rows r)) last_is
+      (subst (λ m'. Ran rule (entries_of rows r) messages posteriors ys posteriors' rows.shape.group (first_row rows r) (entry_count rows r) (lacked_row rows.shape r) m' → Gives rows rule soft messages ys posteriors' r rows.shape.group (first_row rows r) (entry_count rows r)) (sym long) ran_gives)))))
 
 -- the entries of a layer are rows of the posteriors
 pub are_in : (rows : Rows) → AreFit rows → (r : ℕ) → r < rows.shape.q → (places : ℕ) → places ≡ code_bits rows.shape → (es : List Circulant) (n : ℕ) → entries_of rows r ≡ es → rows.shape.group ≡ n → AreIn n es places

@@ -13,8 +13,9 @@ use Rattle.s2_matrix.proofs.Members.{members_rising, place_of}
 use Rattle.s2_matrix.proofs.Joins.{div_below}
 use Rattle.s2_minsum.specs.declared.kernels.Circulant.{Circulant}
 use Rattle.s2_mode.specs.Limits.{max_soft}
-use Rattle.s2_minsum.specs.Plain.{max_magnitude, max_message, max_posterior, is_edge, input, posterior, others, made, layer as after_layer}
-use Rattle.s2_minsum.specs.Nodes.{min1_of, min2_of, signs_of, sent}
+use Rattle.s2_minsum.specs.Plain.{max_magnitude, max_message, max_posterior, is_edge, input, posterior, made, layer_by as after_layer}
+use Rattle.s2_minsum.specs.Nodes.{min1_of, min2_of, min3_of, signs_of, sent}
+use Rattle.s2_minsum.specs.Plain.{FrameRule}
 use Rattle.s2_bits.specs.Lanes16.{signed16, plus16, minus16, magnitude16}
 use Rattle.s2_minsum.specs.Rows.{cell, entry_at, reduced16, rotated, rotated_back, is_lacking, received, change_of, changed}
 use Rattle.s2_minsum.specs.Layout.{row_of_bit, lane_of_bit, bit_of, last_check, forth, back, entry_of, entry_count, first_row, place_at, message_of, state_of, kept_of, lacked_row}
@@ -65,13 +66,13 @@ either_word : (b : Bool) (v : ℕ) (z : ℤ) → signed16 v ≡ z → signed16 (
 either_word true v z e = refl
 either_word false v z e = e
 
-module _ (rows : Rows) (factor : ℕ) (soft : List ℤ) (messages posteriors : List ℕ) (l : AreFit rows) (d : AreNumbers rows soft messages posteriors) (fit : (k : ℕ) → get_or messages k 0 < 65536) (fit_posteriors : (k : ℕ) → get_or posteriors k 0 < 65536)
+module _ (rows : Rows) (rule : FrameRule) (soft : List ℤ) (messages posteriors : List ℕ) (l : AreFit rows) (d : AreNumbers rows soft messages posteriors) (fit : (k : ℕ) → get_or messages k 0 < 65536) (fit_posteriors : (k : ℕ) → get_or posteriors k 0 < 65536)
     (r : ℕ) (layer : r < rows.shape.q) (es : List Circulant) (ms ys messages' : List ℕ) (fit_new : (k : ℕ) → get_or ys k 0 < 65536)
     (es_are : (e : ℕ) → e < entry_count rows r → entry_at es e ≡ entry_of rows.shape (get_or (members (code_of rows) (last_check rows.shape r)) e 0))
     (ms_are : (e c : ℕ) → e < entry_count rows r → c < rows.shape.group → cell ms rows.shape.group e c ≡ kept_of rows messages r e c)
     (new_are : (e c : ℕ) → e < entry_count rows r → c < rows.shape.group → kept_of rows messages' r e c ≡ cell ys rows.shape.group e c)
     (others_are : (r' e c : ℕ) → r' < rows.shape.q → r' ≢ r → e < entry_count rows r' → c < rows.shape.group → kept_of rows messages' r' e c ≡ kept_of rows messages r' e c)
-    (sends : (e c : ℕ) → e < entry_count rows r → c < rows.shape.group → cell ys rows.shape.group e c ≡ reduced16 factor (received rows.shape.group es (lacked_row rows.shape r) posteriors ms e c) (min1_of (λ k. magnitude16 (received rows.shape.group es (lacked_row rows.shape r) posteriors ms k c)) (entry_count rows r)) (min2_of (λ k. magnitude16 (received rows.shape.group es (lacked_row rows.shape r) posteriors ms k c)) (entry_count rows r)) (signs_of (λ k. received rows.shape.group es (lacked_row rows.shape r) posteriors ms k c) (entry_count rows r)))
+    (sends : (e c : ℕ) → e < entry_count rows r → c < rows.shape.group → cell ys rows.shape.group e c ≡ reduced16 rule (received rows.shape.group es (lacked_row rows.shape r) posteriors ms e c) (min1_of (λ k. magnitude16 (received rows.shape.group es (lacked_row rows.shape r) posteriors ms k c)) (entry_count rows r)) (min2_of (λ k. magnitude16 (received rows.shape.group es (lacked_row rows.shape r) posteriors ms k c)) (entry_count rows r)) (min3_of (λ k. magnitude16 (received rows.shape.group es (lacked_row rows.shape r) posteriors ms k c)) (entry_count rows r)) (signs_of (λ k. received rows.shape.group es (lacked_row rows.shape r) posteriors ms k c) (entry_count rows r)))
   where
     given : ℕ → ℕ → ℤ
     given c k =
@@ -128,10 +129,10 @@ module _ (rows : Rows) (factor : ℕ) (soft : List ℤ) (messages posteriors : L
         ]
 
     -- the signed16 of a new message
-    new_is : (c e : ℕ) → c < rows.shape.group → e < entry_count rows r → signed16 (cell ys rows.shape.group e c) ≡ sent factor (given c) (entry_count rows r) e
+    new_is : (c e : ℕ) → c < rows.shape.group → e < entry_count rows r → signed16 (cell ys rows.shape.group e c) ≡ sent rule (given c) (entry_count rows r) e
     new_is c e small lt =
         let g = λ (k : ℕ). received rows.shape.group es (lacked_row rows.shape r) posteriors ms k c in
-        ap signed16 (sends e c lt small) ∙ sent_word g (given c) (entry_count rows r) (λ k lt'. received_fits c k) (λ k lt'. received_is c k small lt') factor e lt
+        ap signed16 (sends e c lt small) ∙ sent_word g (given c) (entry_count rows r) (λ k lt'. received_fits c k) (λ k lt'. received_is c k small lt') rule e lt
 
     pub ys_small : length ys ≡ entry_count rows r * rows.shape.group → AreMessages ys
     ys_small long k d' inside =
@@ -143,17 +144,17 @@ module _ (rows : Rows) (factor : ℕ) (soft : List ℤ) (messages posteriors : L
         let is = new_is (k % n) (k / n) c_low e_low in
         let whole : k / n * n + k % n ≡ k = div-add-mod' k n in
         let same : cell ys n (k / n) (k % n) ≡ get_or ys k d' = ap (λ v. get_or ys v 0) whole ∙ get_or_default ys k 0 d' inside in
-        let small = sent_small factor (given (k % n)) count (k / n) in
-        let size : unsigned_abs (signed16 (get_or ys k d')) ≡ unsigned_abs (sent factor (given (k % n)) count (k / n)) = ap (λ v. unsigned_abs (signed16 v)) (sym same) ∙ ap unsigned_abs is in
+        let small = sent_small rule (given (k % n)) count (k / n) in
+        let size : unsigned_abs (signed16 (get_or ys k d')) ≡ unsigned_abs (sent rule (given (k % n)) count (k / n)) = ap (λ v. unsigned_abs (signed16 v)) (sym same) ∙ ap unsigned_abs is in
         omega (arith, size, small)
 
-    pub state_is : state_of rows soft (kept_of rows messages') ≡ after_layer (code_of rows) rows.shape.q factor r (state_of rows soft (kept_of rows messages))
+    pub state_is : state_of rows soft (kept_of rows messages') ≡ after_layer (code_of rows) rows.shape.q rule r (state_of rows soft (kept_of rows messages))
     unfolding given
     state_is =
         let s = rows.shape in
         let code = code_of rows in
         let now = state_of rows soft (kept_of rows messages) in
-        let each : (j i : ℕ) → message_of rows (kept_of rows messages') j i ≡ (after_layer code s.q factor r now).message j i =
+        let each : (j i : ℕ) → message_of rows (kept_of rows messages') j i ≡ (after_layer code s.q rule r now).message j i =
         λ j i. elim (cases_Bool (is_edge code j i)) [
           | inr out ↦ rw out refl
           | inl edge ↦ (
@@ -173,7 +174,7 @@ module _ (rows : Rows) (factor : ℕ) (soft : List ℤ) (messages posteriors : L
                 | inr other ↦ (
                     let no' : eqb r' r ≡ false = ne_eqb r' r other in
                     let kept : stored messages' ≡ stored messages = ap (λ v. cond (is_edge code j i) (signed16 v) (pos 0)) (others_are r' p c r'_low other place small) in
-                    let m = made factor (input code now j) (others (members code j) i) in
+                    let m = made rule (input code now j) (members code j) i in
                     kept ∙ sym ((λ x. cond (edge x && no' x) m (stored messages)))
                     )
                 | inl same ↦ (
@@ -185,8 +186,8 @@ module _ (rows : Rows) (factor : ℕ) (soft : List ℤ) (messages posteriors : L
                     let place' : p' < entry_count rows r = place_in rows l.shaped r layer c small i low has' in
                     let value : signed16 (kept_of rows messages' r' p c) ≡ signed16 (cell ys s.group p' c) = (λ x. signed16 (kept_of rows messages' (same x) (p_is x) c)) ∙ ap signed16 (new_are p' c place' small) in
                     let sends' = new_is c p' small place' in
-                    let is = lane_sent rows l.shaped r layer c small factor now (given c) i low has' (λ k lt. refl) in
-                    let m = λ (x : ℕ). made factor (input code now x) (others (members code x) i) in
+                    let is = lane_sent rows l.shaped r layer c small rule now (given c) i low has' (λ k lt. refl) in
+                    let m = λ (x : ℕ). made rule (input code now x) (members code x) i in
                     (λ x. cond (edge x) (value x) (pos 0)) ∙ sends' ∙ is ∙ ap m j_is' ∙ sym (λ x. cond (edge x && yes' x) (m j) (stored messages))
                     )
               ]

@@ -2,6 +2,7 @@ pub mod RowLemmas
 pub mod Places
 pub mod RotationFacts
 pub mod Nodes
+pub mod Least
 pub mod Others
 pub mod WordLemmas
 pub mod Orders
@@ -16,6 +17,7 @@ pub mod FirstRows
 pub mod LayerCalls
 pub mod Made
 pub mod Starts
+pub mod Sums
 pub mod Rounds
 mod Examples
 pub mod MessagePlaces

@@ -6,12 +6,13 @@ use Rattle.std.proofs.lemmas.Bool.Decides.{nat_tests}
 use Rattle.std.proofs.lemmas.Nat.Bits.{bit_at_xor}
 use Rattle.std.proofs.lemmas.Nat.{xor_of_16}
 use mir.Syntax.{w16}
-use Rattle.s2_minsum.specs.Plain.{with_sign, reduced}
+use Rattle.s2_minsum.specs.Plain.{with_sign, reduced, box}
 use Rattle.s2_bits.proofs.Words16.{word_low, word_high, negative_word}
 use Rattle.s2_bits.specs.Lanes16.{signed16, minus16, plus16, magnitude16, sign16}
 use Rattle.s2_minsum.specs.Rows.{reduced16}
-use Rattle.s2_minsum.proofs.Nodes.{least_is, least_but_small, negatives_are, reduced_small}
-use Rattle.s2_minsum.specs.Nodes.{min1_of, min2_of, negatives_of, negatives_but, least_but, signs_of, magnitudes, sent}
+use Rattle.s2_minsum.proofs.Nodes.{corrected_small, negatives_are, reduced_small}
+use Rattle.s2_minsum.specs.Nodes.{min1_of, min2_of, min3_of, negatives_of, negatives_but, signs_of, magnitudes, corrected_by, sent}
+use Rattle.s2_minsum.specs.Plain.{FrameRule}
 
 pub word_minus : (a b : ℕ) → a < 65536 → b < 65536 → unsigned_abs (signed16 a -ℤ signed16 b) < 32768 → signed16 (minus16 a b) ≡ signed16 a -ℤ signed16 b
 word_minus a b low low' small = wrapping_sub-bits w16 a b low low' ∙ int_wrap_fits w16 (signed16 a -ℤ signed16 b) (fits_signed_from_abs w16 (signed16 a -ℤ signed16 b) small)
@@ -73,6 +74,10 @@ chosen_reduced : (factor : ℕ) (b : Bool) (x y : ℕ) → cond b (reduced facto
 chosen_reduced factor true x y = refl
 chosen_reduced factor false x y = refl
 
+-- a magnitude with a sign
+abbrev sent16_by : ℕ → ℕ → ℕ
+sent16_by sign m = cond (sign == 1) (minus16 0 m) m
+
 -- the message of a member, by words
 module _ (g : ℕ → ℕ) (f : ℕ → ℤ) (n : ℕ) (fits : (k : ℕ) → k < n → g k < 65536) (is : (k : ℕ) → k < n → signed16 (g k) ≡ f k) where
   size_same : (k : ℕ) → k < n → magnitude16 (g k) ≡ unsigned_abs (f k)
@@ -85,6 +90,10 @@ module _ (g : ℕ → ℕ) (f : ℕ → ℤ) (n : ℕ) (fits : (k : ℕ) → k <
   second_same : (m : ℕ) → m ≤ n → min2_of (λ k. magnitude16 (g k)) m ≡ min2_of (magnitudes f) m
   second_same zero h = refl
   second_same (suc m) h = λ i. min (second_same m (omega arith) i) (max (first_same m (omega arith) i) (size_same m (omega arith) i))
+
+  third_same : (m : ℕ) → m ≤ n → min3_of (λ k. magnitude16 (g k)) m ≡ min3_of (magnitudes f) m
+  third_same zero h = refl
+  third_same (suc m) h = λ i. min (third_same m (omega arith) i) (max (second_same m (omega arith) i) (size_same m (omega arith) i))
 
   signs_fit : (m : ℕ) → m ≤ n → signs_of g m < 65536
   signs_fit zero h = omega arith
@@ -111,17 +120,18 @@ module _ (g : ℕ → ℕ) (f : ℕ → ℤ) (n : ℕ) (fits : (k : ℕ) → k <
       let joined = sign_xor (signs_of g n) (g e) (signs_fit n (omega arith)) (fits e lt) in
       joined ∙ (λ i. (signs i + own i) % 2) ∙ even_out (negatives_of f n) (negatives_but f e n) count all
 
-  pub sent_word : (factor e : ℕ) → e < n → signed16 (reduced16 factor (g e) (min1_of (λ k. magnitude16 (g k)) n) (min2_of (λ k. magnitude16 (g k)) n) (signs_of g n)) ≡ sent factor f n e
-  sent_word factor e lt =
+  pub sent_word : (rule : FrameRule) (e : ℕ) → e < n → signed16 (reduced16 rule (g e) (min1_of (λ k. magnitude16 (g k)) n) (min2_of (λ k. magnitude16 (g k)) n) (min3_of (λ k. magnitude16 (g k)) n) (signs_of g n)) ≡ sent rule f n e
+  sent_word rule e lt =
       let first = first_same n (omega arith) in
       let second = second_same n (omega arith) in
+      let third = third_same n (omega arith) in
       let own = size_same e lt in
       let parity = parity_same e lt in
-      let least = cond (unsigned_abs (f e) == min1_of (magnitudes f) n) (min2_of (magnitudes f) n) (min1_of (magnitudes f) n) in
-      let least' = least_is (magnitudes f) n e lt in
-      let chosen : cond (magnitude16 (g e) == min1_of (λ k. magnitude16 (g k)) n) (min2_of (λ k. magnitude16 (g k)) n) (min1_of (λ k. magnitude16 (g k)) n) ≡ least_but (magnitudes f) e n = (λ i. cond (own i == first i) (second i) (first i)) ∙ least' in
-      let small = least_but_small (magnitudes f) e n in
-      let kept = chosen_reduced factor (magnitude16 (g e) == min1_of (λ k. magnitude16 (g k)) n) (min2_of (λ k. magnitude16 (g k)) n) (min1_of (λ k. magnitude16 (g k)) n) ∙ ap (reduced factor) chosen in
-      let below = reduced_small factor (least_but (magnitudes f) e n) in
-      (λ i. signed16 (cond (parity i == 1) (minus16 0 (kept i)) (kept i)))
-      ∙ signed (negatives_but f e n % 2 == 1) (reduced factor (least_but (magnitudes f) e n)) (omega (arith, small, below))
+      let size = corrected_by rule.peak (min1_of (magnitudes f) n) (min2_of (magnitudes f) n) (min3_of (magnitudes f) n) (unsigned_abs (f e)) in
+      let small = corrected_small rule.peak (unsigned_abs (f e)) (magnitudes f) n in
+      let high = box rule.peak (min2_of (magnitudes f) n) (min3_of (magnitudes f) n) in
+      let kept = chosen_reduced rule.factor (unsigned_abs (f e) == min1_of (magnitudes f) n) high (box rule.peak (min1_of (magnitudes f) n) high) in
+      let below = reduced_small rule.factor size in
+      (λ i. signed16 (sent16_by (parity i) (cond (own i == first i) (reduced rule.factor (box rule.peak (second i) (third i))) (reduced rule.factor (box rule.peak (first i) (box rule.peak (second i) (third i)))))))
+      ∙ ap (λ z. signed16 (sent16_by (negatives_but f e n % 2) z)) kept
+      ∙ signed (negatives_but f e n % 2 == 1) (reduced rule.factor size) (omega (arith, small, below))

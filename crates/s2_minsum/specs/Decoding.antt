@@ -1,5 +1,5 @@
 -- A decoder's value, and the invariants of its lists (own).
-use Rattle.std.specs.Prelude.{◌≡◌, ℕ, ◌+◌, ◌*◌, ◌<◌, ◌≤◌, nat_le, Bool, All, List, length, get_or, ℤ, unsigned_abs}
+use Rattle.std.specs.Prelude.{◌≡◌, ℕ, ◌+◌, ◌*◌, ◌<◌, ◌≤◌, nat_le, Bool, All, List, length, get_or, sum_by, ℤ, unsigned_abs}
 use Rattle.s2_mode.specs.Shape.{Shape, IsShape, code_bits}
 use Rattle.s2_rows.specs.Limits.{max_addresses}
 use Rattle.s2_rows.specs.Rows.{Rows}
@@ -63,10 +63,11 @@ abbrev pub HasDecoderRoom : Rows → ℕ → Type 0
 HasDecoderRoom rows words =
     (r : ℕ) → r < rows.shape.q → entry_count rows r * rows.shape.group ≤ words
 
--- the invariant of a decoder
-pub record IsDecoder (rows layered : Rows) (soft : List ℤ) (messages posteriors : List ℕ) (scratch : ℕ) : Type 0 where
+-- the invariant of a decoder; the sum is that of the soft values' magnitudes
+pub record IsDecoder (rows layered : Rows) (soft : List ℤ) (sum : ℕ) (messages posteriors : List ℕ) (scratch : ℕ) : Type 0 where
   pub layers : layered ≡ rows
   pub fit : AreFit rows
+  pub summed : sum ≡ sum_by unsigned_abs soft
   pub numbers : AreNumbers rows soft messages posteriors
   pub room : HasDecoderRoom rows scratch
 

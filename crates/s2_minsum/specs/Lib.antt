@@ -1,4 +1,5 @@
 pub mod Factors
+pub mod Corrections
 pub mod Plain
 pub mod Laws
 pub mod Rows

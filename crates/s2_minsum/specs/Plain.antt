@@ -1,11 +1,13 @@
--- Layered min-sum over a code (this project's own: the standard leaves decoding free). Each check sends a message to
--- each of its members; a message above 0 speaks for a zero, one below 0 for a one.
-use Rattle.std.specs.Prelude.{ℕ, ◌+◌, ◌-◌, ◌*◌, ◌/◌, ◌%◌, ◌==◌, min, nat_lt, Bool, not, ◌&&◌, if◌then◌else◌, List, map, filter, fold, count_by, get_or, ℤ, pos, neg_ℤ, ◌+ℤ◌, ◌-ℤ◌, int_lt, unsigned_abs}
+-- Layered corrected min-sum over a code (this project's own: the standard leaves decoding free). Each check sends a
+-- message to each of its members; a message above 0 speaks for a zero, one below 0 for a one. Without a correction it is
+-- normalized min-sum.
+use Rattle.std.specs.Prelude.{ℕ, ◌+◌, ◌-◌, ◌*◌, ◌/◌, ◌%◌, ◌==◌, ◌≤◌, min, max, nat_lt, Bool, not, ◌&&◌, if◌then◌else◌, List, [], ◌∷◌, length, map, filter, fold, count_by, sum_by, get_or, ℤ, pos, neg_ℤ, ◌+ℤ◌, ◌-ℤ◌, int_lt, unsigned_abs}
 use Rattle.s2_mode.specs.Limits.{max_soft}
 use Rattle.s2_rows.specs.Limits.{max_addresses}
 use Rattle.s2_matrix.specs.Total.{total, upto}
 use Rattle.s2_matrix.specs.Code.{Code, members, checks_of}
-use Rattle.s2_minsum.specs.Factors.{max_factor}
+use Rattle.s2_minsum.specs.Factors.{max_factor, IsFactor}
+use Rattle.s2_minsum.specs.Corrections.{correction_unit, IsCorrection}
 
 -- ---- the numbers
 
@@ -45,7 +47,67 @@ posterior code s i =
 abbrev pub decision : Code → State → List Bool
 decision code s = map (λ i. int_lt (posterior code s i) (pos 0)) (upto code.bits)
 
--- ---- the message of a check to one of its members, by the inputs of the others
+-- ---- the rule
+
+-- its parameters: the factor in sixteenths, and the correction in sixty-fourths of the soft values' mean magnitude
+pub record Rule : Type 0 where
+  pub factor : ℕ
+  pub correction : ℕ
+
+pub record IsRule (rule : Rule) : Type 0 where
+  pub factor : IsFactor rule.factor
+  pub correction : IsCorrection rule.correction
+
+-- the rule of a frame: the factor, and the correction of two equal magnitudes
+pub record FrameRule : Type 0 where
+  pub factor : ℕ
+  pub peak : ℕ
+
+pub record IsFrameRule (rule : FrameRule) : Type 0 where
+  pub factor : IsFactor rule.factor
+  pub small : rule.peak ≤ max_magnitude
+
+-- the correction of two equal magnitudes: a share, in sixty-fourths, of the mean magnitude of the soft values, by their
+-- sum and their number
+abbrev pub peak_by : ℕ → ℕ → ℕ → ℕ
+peak_by share sum count = share * sum / (correction_unit * count)
+
+-- the rule of a frame of these soft values
+abbrev pub frame_rule : Rule → List ℤ → FrameRule
+frame_rule rule soft =
+    record { factor = rule.factor; peak = peak_by rule.correction (sum_by unsigned_abs soft) (length soft) }
+
+-- ---- magnitudes
+
+-- box-plus of two magnitudes, by min-sum with a linear correction: the lesser of the two, less what the peak exceeds a
+-- quarter of their difference by, but no less than half of it
+abbrev pub box : ℕ → ℕ → ℕ → ℕ
+box peak x y =
+    max (min x y - (peak - (max x y - min x y) / 4)) (min x y - min x y / 2)
+
+-- the least of `max_magnitude` and some magnitudes
+abbrev pub least : List ℕ → ℕ
+least zs = fold (λ a z. min a z) max_magnitude zs
+
+-- a list without its first element of a value
+abbrev pub without : ℕ → List ℕ → List ℕ
+without x [] = []
+without x (z ∷ zs) = if z == x then zs else z ∷ without x zs
+
+-- the least once one that is the least is taken out, and once two are
+abbrev pub second_least : List ℕ → ℕ
+second_least zs = least (without (least zs) zs)
+
+abbrev pub third_least : List ℕ → ℕ
+third_least zs = second_least (without (least zs) zs)
+
+-- The box-plus of the second and the third least of a check's magnitudes for a member whose own is the least; for any
+-- other member the box-plus of this and the least
+abbrev pub corrected : ℕ → List ℕ → ℕ → ℕ
+corrected peak zs own =
+    if own == least zs then box peak (second_least zs) (third_least zs) else box peak (least zs) (box peak (second_least zs) (third_least zs))
+
+-- ---- the message of a check to one of its members, by their inputs
 
 -- the input of member i to check j: its posterior less the check's own message to it
 abbrev pub input : Code → State → ℕ → ℕ → ℤ
@@ -55,9 +117,9 @@ input code s j i = posterior code s i -ℤ s.message j i
 abbrev pub others : List ℕ → ℕ → List ℕ
 others ms i = filter (λ k. not (k == i)) ms
 
--- the least of `max_magnitude` and the magnitudes of some inputs
-abbrev pub least_magnitude : (ℕ → ℤ) → List ℕ → ℕ
-least_magnitude f ms = fold (λ least k. min least (unsigned_abs (f k))) max_magnitude ms
+-- the magnitudes of some inputs
+abbrev pub sizes : (ℕ → ℤ) → List ℕ → List ℕ
+sizes f ms = map (λ k. unsigned_abs (f k)) ms
 
 -- whether the product of some inputs is negative, 0 taken as positive
 abbrev pub is_product_negative : (ℕ → ℤ) → List ℕ → Bool
@@ -66,10 +128,16 @@ is_product_negative f ms = count_by (λ k. int_lt (f k) (pos 0)) ms % 2 == 1
 abbrev pub with_sign : Bool → ℕ → ℤ
 with_sign negative magnitude = if negative then neg_ℤ (pos magnitude) else pos magnitude
 
--- the message that the inputs of the other members make: the sign of their product, with 0 as positive, and their least
--- magnitude, at most `max_magnitude`, reduced by a factor
-abbrev pub made : ℕ → (ℕ → ℤ) → List ℕ → ℤ
-made factor f ms = with_sign (is_product_negative f ms) (reduced factor (least_magnitude f ms))
+-- the message that the inputs of a check's members make for one of them: the sign of the product of the others, with 0
+-- as positive, and the corrected magnitude, reduced by the factor
+abbrev pub made : FrameRule → (ℕ → ℤ) → List ℕ → ℕ → ℤ
+made rule f ms i =
+    with_sign (is_product_negative f (others ms i)) (reduced rule.factor (corrected rule.peak (sizes f ms) (unsigned_abs (f i))))
+
+-- the same in plain normalized min-sum: the least magnitude of the others, reduced
+abbrev pub plain_made : ℕ → (ℕ → ℤ) → List ℕ → ℕ → ℤ
+plain_made factor f ms i =
+    with_sign (is_product_negative f (others ms i)) (reduced factor (least (sizes f (others ms i))))
 
 -- ---- layers
 
@@ -78,10 +146,14 @@ abbrev pub is_edge : Code → ℕ → ℕ → Bool
 is_edge code j i = nat_lt j code.checks && (nat_lt i code.bits && code.has j i)
 
 -- layer r renews the messages of the checks j with j mod q = r, all by the state before it, and leaves the others
-abbrev pub layer : Code → ℕ → ℕ → ℕ → State → State
-layer code q factor r s =
-    record { soft = s.soft; message = λ j i. if is_edge code j i && (j % q == r) then made factor (input code s j) (others (members code j) i) else s.message j i }
+abbrev pub layer_by : Code → ℕ → FrameRule → ℕ → State → State
+layer_by code q rule r s =
+    record { soft = s.soft; message = λ j i. if is_edge code j i && (j % q == r) then made rule (input code s j) (members code j) i else s.message j i }
+
+-- the same by the rule of the frame
+abbrev pub layer : Code → ℕ → Rule → ℕ → State → State
+layer code q rule r s = layer_by code q (frame_rule rule s.soft) r s
 
 -- a round: layers 0 to q - 1 in this order
-abbrev pub round : Code → ℕ → ℕ → State → State
-round code q factor s = fold (λ before r. layer code q factor r before) s (upto q)
+abbrev pub round : Code → ℕ → Rule → State → State
+round code q rule s = fold (λ before r. layer code q rule r before) s (upto q)

@@ -1,6 +1,7 @@
 -- Rows of words of 16 bits, one word for each lane, and the entries that rotate them (own).
 use Rattle.std.specs.Prelude.{ℕ, zero, suc, ◌+◌, ◌*◌, ◌/◌, ◌%◌, ◌==◌, ◌&&◌, ◌<◌, ◌≤◌, Bool, if◌then◌else◌, List, length, get_or, bit_xor}
-use Rattle.s2_minsum.specs.Plain.{max_magnitude, reduced}
+use Rattle.s2_minsum.specs.Plain.{max_magnitude, reduced, box}
+use Rattle.s2_minsum.specs.Plain.{FrameRule}
 use Rattle.s2_mode.specs.Limits.{max_group}
 use Rattle.s2_bits.specs.Lanes16.{minus16, plus16, magnitude16, sign16}
 pub use Rattle.s2_bits.specs.Rotations.{rotated, rotated_back, cell}
@@ -13,10 +14,10 @@ sent16 v min1 low high signs =
     let m = (if magnitude16 v == min1 then high else low) in
     (if sign16 (bit_xor signs v) == 1 then minus16 0 m else m)
 
--- the same by the check's two least magnitudes, both reduced
-abbrev pub reduced16 : ℕ → ℕ → ℕ → ℕ → ℕ → ℕ
-reduced16 factor v min1 min2 signs =
-    sent16 v min1 (reduced factor min1) (reduced factor min2) signs
+-- the same by the check's three least magnitudes, corrected and reduced
+abbrev pub reduced16 : FrameRule → ℕ → ℕ → ℕ → ℕ → ℕ → ℕ
+reduced16 rule v min1 min2 min3 signs =
+    sent16 v min1 (reduced rule.factor (box rule.peak min1 (box rule.peak min2 min3))) (reduced rule.factor (box rule.peak min2 min3)) signs
 
 abbrev pub no_entry : Circulant
 no_entry = record { row = 0; shift = 0 }

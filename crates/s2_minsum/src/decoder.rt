@@ -8,12 +8,12 @@ ghost use Rattle.s2_minsum.specs.Decoding.{AreWithin, Decoding, decoded};
 
 use crate::edge::message_place;
 use crate::entries::decoder_len;
-use crate::factor::Factor;
 use crate::hard::decide;
 use crate::layers::Layers;
 use crate::layout::place_of;
 use crate::loading::init_posteriors;
 use crate::one_layer::run_layer;
+use crate::rule::{FrameRule, Rule, sum_of};
 use s2_bits::Bits;
 use s2_matrix::Matrix;
 use std::alloc::{AllocError, Global};
@@ -25,6 +25,7 @@ pub struct Decoder<'a> {
     matrix: &'a Matrix,
     layers: Layers<'a>,
     soft: Vec<i16>,
+    sum: u32,
     messages: Vec<u16>,
     posteriors: Vec<u16>,
     scratch: Vec<u16>,
@@ -36,6 +37,7 @@ impl<'a> Drop for Decoder<'a> {
             matrix: _,
             layers: _,
             soft: _,
+            sum: _,
             messages: _,
             posteriors: _,
             scratch: _,
@@ -51,8 +53,8 @@ impl<'a> Model for Decoder<'a> {
 
     ghost view = { λ d. record { rows = d.matrix.now; soft = d.soft.items; messages = d.messages.items } };
 
-    ghost invariant = { λ d. IsDecoder d.matrix.now d.layers d.soft.items d.messages.items d.posteriors.items
-        (length d.scratch.items) };
+    ghost invariant = { λ d. IsDecoder d.matrix.now d.layers d.soft.items d.sum d.messages.items
+        d.posteriors.items (length d.scratch.items) };
 }
 
 impl<'a> Decoder<'a> {
@@ -73,6 +75,7 @@ impl<'a> Decoder<'a> {
             matrix,
             layers,
             soft,
+            sum: 0,
             messages,
             posteriors,
             scratch,
@@ -87,18 +90,19 @@ impl<'a> Decoder<'a> {
         ensures state { decoded self.new ≡ start soft.now }
     {
         self.soft.copy_from_slice(soft);
+        self.sum = sum_of(&self.soft);
         self.messages.fill(0);
         init_posteriors(self.matrix, &self.soft, &mut self.posteriors);
     }
 
-    /// Renews the messages of the checks j with j mod q = r, all by the state before. The factor reduces their
-    /// magnitudes.
-    pub fn layer(&mut self, r: usize, factor: Factor)
+    /// Renews the messages of the checks j with j mod q = r, all by the state before.
+    pub fn layer(&mut self, r: usize, rule: Rule)
         requires { r < self.old.rows.shape.q }
         ensures rows { self.new.rows ≡ self.old.rows }
         ensures state { decoded self.new
-            ≡ after_layer (code_of self.old.rows) self.old.rows.shape.q factor r (decoded self.old) }
+            ≡ after_layer (code_of self.old.rows) self.old.rows.shape.q rule r (decoded self.old) }
     {
+        let rule = FrameRule::of(rule, &self.soft, self.sum);
         run_layer(
             self.matrix,
             &self.layers,
@@ -106,19 +110,19 @@ impl<'a> Decoder<'a> {
             &mut self.posteriors,
             &mut self.scratch,
             r,
-            factor,
+            rule,
         );
     }
 
     /// Runs the layers 0 to q - 1, in this order.
-    pub fn round(&mut self, factor: Factor)
+    pub fn round(&mut self, rule: Rule)
         ensures rows { self.new.rows ≡ self.old.rows }
         ensures state { decoded self.new
-            ≡ after_round (code_of self.old.rows) self.old.rows.shape.q factor (decoded self.old) }
+            ≡ after_round (code_of self.old.rows) self.old.rows.shape.q rule (decoded self.old) }
     {
         let q = self.matrix.shape().q();
         for r in 0..q {
-            self.layer(r, factor);
+            self.layer(r, rule);
         }
     }
 

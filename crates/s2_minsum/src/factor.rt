@@ -1,6 +1,6 @@
 //! The factor of normalized min-sum: the part of a magnitude that a message keeps.
-ghost use Rattle.std.specs.Prelude.{◌≡◌, ◌↔◌, ◌-◌, ◌≤◌, IsSome, IfSome};
-ghost use Rattle.s2_minsum.specs.Factors.{IsFactor, default_factor, max_factor};
+ghost use Rattle.std.specs.Prelude.{◌≡◌, ◌↔◌, IsSome, IfSome};
+ghost use Rattle.s2_minsum.specs.Factors.{IsFactor, default_factor};
 
 use std::marker::Model;
 
@@ -63,13 +63,5 @@ impl Factor {
         ensures known { IsFactor result }
     {
         self.number
-    }
-
-    /// The number of sixteenths that a message lacks.
-    pub(crate) fn lacks(self) -> u16
-        ensures is { result ≡ max_factor - self }
-        ensures few { result ≤ 8 }
-    {
-        (MAX_FACTOR - self.number) as u16
     }
 }

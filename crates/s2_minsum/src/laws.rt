@@ -3,7 +3,8 @@ ghost use Rattle.std.specs.Prelude.{◌≡◌};
 ghost use Rattle.s2_mode.specs.Limits.{max_soft};
 ghost use Rattle.s2_minsum.specs.Plain.{max_magnitude, max_message};
 ghost use Rattle.s2_minsum.specs.Factors.{FactorsLaw};
-ghost use Rattle.s2_minsum.specs.Laws.{DecisionLaw};
+ghost use Rattle.s2_minsum.specs.Corrections.{CorrectionsLaw};
+ghost use Rattle.s2_minsum.specs.Laws.{DecisionLaw, BoxLaw, PlainLaw};
 
 use crate::limits::{MAX_MAGNITUDE, MAX_MESSAGE};
 
@@ -22,4 +23,21 @@ pub fn limits()
 /// [`crate::DEFAULT_FACTOR`], are those of the definitions.
 pub fn factors()
     ensures { FactorsLaw }
+{}
+
+/// The limit of a correction, [`crate::MAX_CORRECTION`], its unit, [`crate::CORRECTION_UNIT`], and the default,
+/// [`crate::DEFAULT_CORRECTION`], are those of the definitions.
+pub fn corrections()
+    ensures { CorrectionsLaw }
+{}
+
+/// Box-plus of two magnitudes is at most the lesser, at least half of it, and without a correction the lesser itself. So
+/// a correction raises no bound of messages or posteriors.
+pub fn box_plus()
+    ensures { BoxLaw }
+{}
+
+/// Without a correction each message is that of plain normalized min-sum: the least magnitude of the others, reduced.
+pub fn plain()
+    ensures { PlainLaw }
 {}

@@ -3,13 +3,13 @@ ghost use Rattle.std.specs.Prelude.{◌≡◌, ℕ, ◌≤◌, ◌<◌, ◌+◌,
 ghost use Rattle.s2_mode.specs.Limits.{max_bits};
 ghost use Rattle.s2_bits.specs.Lanes16.{minus16, magnitude16};
 ghost use Rattle.s2_minsum.specs.Rows.{rotated, reduced16, cell, entry_at, AreIn, changed, is_lacking, received, change_of};
-ghost use Rattle.s2_minsum.specs.Nodes.{min1_of, min2_of, signs_of};
+ghost use Rattle.s2_minsum.specs.Nodes.{min1_of, min2_of, min3_of, signs_of};
 
 use crate::exchange::exchange;
-use crate::factor::Factor;
 use crate::kernels::{Circulant, gather, scatter_add};
 use crate::lacking::mask_lacking;
 use crate::limits::MAX_MAGNITUDE;
+use crate::rule::FrameRule;
 
 /// The inputs of a layer's checks, entry by entry: posteriors less messages.
 fn gather_all(
@@ -95,18 +95,18 @@ pub(crate) fn run(
     posteriors: &mut [u16],
     messages: &mut [u16],
     scratch: &mut [u16],
-    factor: Factor,
+    rule: FrameRule,
 )
     requires entries { AreIn n entries.now (length posteriors.old) }
     requires few { length posteriors.old ≤ max_bits }
     requires long { length messages.old ≡ length entries.now * n }
     requires room { length entries.now * n ≤ length scratch.old }
-    ensures messages { (e c : ℕ) → e < length entries.now → c < n → cell messages.new n e c ≡ reduced16 factor (received n entries.now last posteriors.old messages.old e c) (min1_of (λ k. magnitude16 (received n entries.now last posteriors.old messages.old k c)) (length entries.now)) (min2_of (λ k. magnitude16 (received n entries.now last posteriors.old messages.old k c)) (length entries.now)) (signs_of (λ k. received n entries.now last posteriors.old messages.old k c) (length entries.now)) }
+    ensures messages { (e c : ℕ) → e < length entries.now → c < n → cell messages.new n e c ≡ reduced16 rule (received n entries.now last posteriors.old messages.old e c) (min1_of (λ k. magnitude16 (received n entries.now last posteriors.old messages.old k c)) (length entries.now)) (min2_of (λ k. magnitude16 (received n entries.now last posteriors.old messages.old k c)) (length entries.now)) (min3_of (λ k. magnitude16 (received n entries.now last posteriors.old messages.old k c)) (length entries.now)) (signs_of (λ k. received n entries.now last posteriors.old messages.old k c) (length entries.now)) }
     ensures posteriors { (p : ℕ) → p < length posteriors.old → slice_index posteriors.new p ≡ changed n entries.now posteriors.old (change_of n entries.now last messages.old messages.new) (length entries.now) p }
 {
     let count = entries.len();
     let inputs = &mut scratch[..count * n];
     gather_masked(entries, n, last, posteriors, messages, inputs);
-    exchange(inputs, messages, n, count, factor);
+    exchange(inputs, messages, n, count, rule);
     apply(entries, n, last, posteriors, inputs);
 }

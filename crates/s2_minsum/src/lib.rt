@@ -4,11 +4,13 @@
 //! decoding free. This project's own rule is in `specs/Plain.antt`. Each check sends a message to each of its
 //! members. The posterior of a bit is its soft value plus all messages to it. [`Decoder::layer`] renews the
 //! messages of the checks of one layer: those whose numbers are congruent modulo q. [`Decoder::round`] renews
-//! those of all layers in order. A [`Factor`] is the part of the least magnitude of the others that a message
-//! has.
+//! those of all layers in order. A [`Rule`] has two parameters. The [`Factor`] is the part of a magnitude that a
+//! message keeps. The [`Correction`] says how far the box-plus of two magnitudes is below the lesser of them.
 //!
-//! In the literature's words this is normalized min-sum decoding with a layered schedule: soft values are LLRs,
-//! rounds are iterations, posteriors are a posteriori LLRs.
+//! In the literature's words this is normalized and corrected min-sum decoding with a layered schedule: soft
+//! values are LLRs, rounds are iterations, posteriors are a posteriori LLRs. Sum-product's operation on the
+//! magnitudes of a check is box-plus. The correction of it is linear here, and reaches over the three least
+//! magnitudes. Without a correction the rule is normalized min-sum ([`laws::plain`]).
 //!
 //! Each call's promise is an equation between states. [`Decoder::load`] makes the state of the soft values with
 //! all messages 0. A layer makes exactly the layer of the state before. [`Decoder::posterior`],
@@ -25,12 +27,13 @@
 //! ```
 //! let mut decoder = Decoder::new(alloc, &matrix)?;
 //! decoder.load(&soft);
-//! decoder.round(Factor::usual());
+//! decoder.round(Rule::new(Factor::usual(), Correction::usual()));
 //! decoder.hard_into(&mut bits);
 //! let found = matrix.satisfied(&bits);
 //! ```
 #![tactic(auto)]
 
+mod correction;
 mod decoder;
 mod edge;
 mod entries;
@@ -47,7 +50,9 @@ mod layout;
 mod limits;
 mod loading;
 mod one_layer;
+mod rule;
 
+pub use correction::{CORRECTION_UNIT, Correction, DEFAULT_CORRECTION, MAX_CORRECTION};
 pub use decoder::Decoder;
 pub use entries::scratch_len;
 pub use factor::{DEFAULT_FACTOR, Factor, LEAST_FACTOR, MAX_FACTOR};
@@ -56,3 +61,4 @@ pub use lacking::mask_lacking;
 pub use layers::Layers;
 pub use layout::{first_bit, last_row, place_among, step_of};
 pub use limits::{MAX_MAGNITUDE, MAX_MESSAGE};
+pub use rule::Rule;

@@ -2,14 +2,14 @@
 ghost use Rattle.std.specs.Prelude.{◌≡◌, ℕ, ℤ, List, ◌≤◌, ◌<◌, ◌+◌, ◌*◌, length};
 ghost use Rattle.s2_mode.specs.Shape.{code_bits};
 ghost use Rattle.s2_matrix.specs.Code.{code_of};
-ghost use Rattle.s2_minsum.specs.Plain.{layer as after_layer};
+ghost use Rattle.s2_minsum.specs.Plain.{layer_by as after_layer};
 ghost use Rattle.s2_minsum.specs.Layout.{first_row, kept_of, state_of};
 ghost use Rattle.s2_minsum.specs.Decoding.{AreNumbers, HasDecoderRoom};
 
-use crate::factor::Factor;
 use crate::layer::run;
 use crate::layers::Layers;
 use crate::layout::last_row;
+use crate::rule::FrameRule;
 use s2_matrix::Matrix;
 
 /// Runs one layer over a decoder's lists.
@@ -20,7 +20,7 @@ pub(crate) fn run_layer(
     posteriors: &mut [u16],
     scratch: &mut [u16],
     r: usize,
-    factor: Factor,
+    rule: FrameRule,
 )
     requires layers { layers.now ≡ matrix.now }
     requires messages { length messages.old ≡ first_row matrix.now matrix.now.shape.q * matrix.now.shape.group }
@@ -28,7 +28,7 @@ pub(crate) fn run_layer(
     requires room { HasDecoderRoom matrix.now (length scratch.old) }
     requires layer { r < matrix.now.shape.q }
     ensures numbers { (soft : List ℤ) → AreNumbers matrix.now soft messages.old posteriors.old → AreNumbers matrix.now soft messages.new posteriors.new }
-    ensures state { (soft : List ℤ) → AreNumbers matrix.now soft messages.old posteriors.old → state_of matrix.now soft (kept_of matrix.now messages.new) ≡ after_layer (code_of matrix.now) matrix.now.shape.q factor r (state_of matrix.now soft (kept_of matrix.now messages.old)) }
+    ensures state { (soft : List ℤ) → AreNumbers matrix.now soft messages.old posteriors.old → state_of matrix.now soft (kept_of matrix.now messages.new) ≡ after_layer (code_of matrix.now) matrix.now.shape.q rule r (state_of matrix.now soft (kept_of matrix.now messages.old)) }
 {
     let shape = matrix.shape();
     let n = shape.group();
@@ -43,6 +43,6 @@ pub(crate) fn run_layer(
         posteriors,
         &mut messages[at..at + width],
         scratch,
-        factor,
+        rule,
     );
 }

@@ -4,7 +4,7 @@ ghost use Rattle.s2_tuning.specs.Tuning.{IsTuning};
 ghost use Rattle.s2_tuning.specs.Wanted.{tuning_by};
 ghost use Rattle.s2_options.specs.Options.{not_given, number_of, receiver_of, wanted_of};
 
-use s2_minsum::DEFAULT_FACTOR;
+use s2_minsum::{DEFAULT_CORRECTION, DEFAULT_FACTOR};
 use s2_mode::Mode;
 use s2_tuning::{DEFAULT_ROUNDS, Number, Tuning, Wanted, tuning_by};
 use s2_words::{AuditArguments, NumberArguments, TuningArguments};
@@ -29,6 +29,7 @@ pub fn tuning_of(mode: &Mode, words: TuningArguments) -> Option<Tuning>
         passes: number_of(words.passes),
         divisor: number_of(words.divisor),
         factor: number_of(words.factor),
+        correction: number_of(words.correction),
         max_header_errors: number_of(words.max_header_errors),
         tuned: words.tuned,
         uncertified: words.uncertified,
@@ -50,7 +51,7 @@ fn not_given(value: u32) -> NumberArguments
     }
 }
 
-/// The tuning of the receiver of an audited report. An audit does not decode, so rounds, passes and factor are the defaults. `None` if a
+/// The tuning of the receiver of an audited report. An audit does not decode, so rounds, passes, factor and correction are the defaults. `None` if a
 /// number is out of its range.
 pub fn audited_tuning(mode: &Mode, words: &AuditArguments<'_>) -> Option<Tuning>
     ensures found { IsSome result ↔ IsTuning (tuning_by mode.now (wanted_of (receiver_of words.now))) }
@@ -61,6 +62,7 @@ pub fn audited_tuning(mode: &Mode, words: &AuditArguments<'_>) -> Option<Tuning>
         passes: not_given(0),
         divisor: words.divisor,
         factor: not_given(DEFAULT_FACTOR),
+        correction: not_given(DEFAULT_CORRECTION),
         max_header_errors: words.max_header_errors,
         tuned: words.tuned,
         uncertified: false,

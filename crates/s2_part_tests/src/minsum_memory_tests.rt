@@ -6,7 +6,7 @@ ghost use Rattle.s2_minsum.specs.Decoding.{AreWithin};
 use super::again::{TOY, matrix_of};
 use super::values::{WRONG, soft_values};
 use s2_matrix::Matrix;
-use s2_minsum::{Decoder, Factor};
+use s2_minsum::{Correction, Decoder, Factor, Rule};
 use std::alloc::{AllocError, Global};
 use std::test::Fail;
 
@@ -43,7 +43,7 @@ fn are_posteriors(matrix: &Matrix, decoder: &mut Decoder<'_>, soft: &[i16]) -> b
         return false;
     }
     decoder.load(soft);
-    decoder.layer(0, Factor::usual());
+    decoder.layer(0, Rule::new(Factor::usual(), Correction::usual()));
     for bit in 0..20usize {
         if decoder.posterior(bit) != WRONG_AFTER[bit] {
             return false;

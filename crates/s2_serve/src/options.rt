@@ -25,7 +25,12 @@ pub(crate) fn how_of(mode: &Mode, words: &AuditArguments<'_>) -> Option<How> {
 
 /// The tuning of `judge`.
 pub(crate) fn judging_of(words: &JudgeArguments<'_>) -> Option<Tuning> {
-    judging_by(words.passes, words.factor, words.uncertified)
+    judging_by(
+        words.passes,
+        words.factor,
+        words.correction,
+        words.uncertified,
+    )
 }
 
 /// The shape of the code of `judge` and of `compare`.

@@ -9,6 +9,7 @@ use Rattle.std.proofs.lemmas.List.Sums.{sum_by-cons}
 use Rattle.s2_minsum.specs.Plain.{others}
 use Rattle.s2_minsum.proofs.Columns.{found}
 use Rattle.s2_minsum.proofs.Orders.{Within, sum_within}
+use Rattle.s2_minsum.proofs.Least.{at_most, by_at_most, count, same_by, three_at}
 use Rattle.s2_settle.specs.declared.course.Step.{Step}
 use Rattle.s2_settle.specs.Rests.{moved16, further16}
 use Rattle.s2_settle.specs.Nodes.{min1_of, min2_of, min3_of, least_at, free_of}
@@ -16,7 +17,7 @@ use Rattle.s2_settle.specs.Plain.{least_of, least_input, freed_by, further}
 use Rattle.s2_settle.proofs.Least.{first_le, first_at, second_le}
 use Rattle.s2_settle.proofs.LeastMember.{least_each, least_holds}
 use Rattle.s2_settle.proofs.RestWords.{freed_is, further_is, further_none}
-use Rattle.s2_settle.proofs.ThreeLeast.{at_most, by_at_most, count, each, same_by, three_at, three_by}
+use Rattle.s2_settle.proofs.ThreeLeast.{each, three_by}
 
 abbrev pub Has : List ℕ → ℕ → Type 0
 Has xs y = position_or_len (λ m. m == y) xs < length xs
@@ -153,15 +154,15 @@ module _ (f : ℕ → ℕ) (n : ℕ) (g : ℕ → ℕ) (ms : List ℕ) (bit : �
   rises (suc m) = (let before = rises m in (omega (arith, before.0), omega (arith, before.0, before.1)))
 
   first_is : min1_of f n ≡ least_input g ms
-  first_is = same_by (min1_of f n) (least_input g ms) (first_small n) (least_small g l.small ms) (λ v low. (three_at f v n low).one ∙ ap (min 1) (count_members v low) ∙ sym (three_by g v low ms ms_apart).one)
+  first_is = same_by 65535 (min1_of f n) (least_input g ms) (first_small n) (least_small g l.small ms) (λ v low. (three_at 65535 f v n low).one ∙ ap (min 1) (count_members v low) ∙ sym (three_by g v low ms ms_apart).one)
 
   second_is : min2_of f n ≡ least_input g (others ms t)
-  second_is = same_by (min2_of f n) (least_input g (others ms t)) (second_small n) (least_small g l.small (others ms t)) (λ v low. (let are = count_members v low in let one = (three_at f v n low).two in let two = (three_by g v low ms ms_apart).two in omega (arith, one, two, are)))
+  second_is = same_by 65535 (min2_of f n) (least_input g (others ms t)) (second_small n) (least_small g l.small (others ms t)) (λ v low. (let are = count_members v low in let one = (three_at 65535 f v n low).two in let two = (three_by g v low ms ms_apart).two in omega (arith, one, two, are)))
 
   third_is : min3_of f n ≡ least_input g (others (others ms t) (least_of g (others ms t)))
   third_is =
       let last = others (others ms t) (least_of g (others ms t)) in
-      same_by (min3_of f n) (least_input g last) (third_small n) (least_small g l.small last) (λ v low. (let are = count_members v low in let one = (three_at f v n low).three in let two = (three_by g v low ms ms_apart).three in omega (arith, one, two, are)))
+      same_by 65535 (min3_of f n) (least_input g last) (third_small n) (least_small g l.small last) (λ v low. (let are = count_members v low in let one = (three_at 65535 f v n low).three in let two = (three_by g v low ms ms_apart).three in omega (arith, one, two, are)))
 
   pub free_is : (margin : ℕ) → margin ≤ 65535 → free_of margin f n ≡ freed_by margin g ms
   free_is margin few =

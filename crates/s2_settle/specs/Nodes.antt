@@ -1,6 +1,6 @@
 -- One check by places: its three least inputs, the place of the least, and the amount that it moves there (own).
-use Rattle.std.specs.Prelude.{ℕ, zero, suc, min, max}
-use Rattle.s2_minsum.specs.Nodes.{least_from, next_from}
+use Rattle.std.specs.Prelude.{ℕ, zero, suc}
+use Rattle.s2_minsum.specs.Nodes.{least_from, next_from, third_from}
 use Rattle.s2_settle.specs.declared.course.Step.{Step}
 use Rattle.s2_settle.specs.Rests.{no_input, seen_at, freed16, moved16}
 
@@ -11,8 +11,7 @@ abbrev pub min2_of : (ℕ → ℕ) → ℕ → ℕ
 min2_of = next_from no_input
 
 abbrev pub min3_of : (ℕ → ℕ) → ℕ → ℕ
-min3_of f zero = no_input
-min3_of f (suc n) = min (min3_of f n) (max (min2_of f n) (f n))
+min3_of = third_from no_input
 
 abbrev pub least_at : (ℕ → ℕ) → ℕ → ℕ
 least_at f zero = 0

@@ -18,14 +18,14 @@ abbrev pub passes_by : Bool → ℕ → ℕ
 passes_by uncertified passes = if uncertified then 0 else passes
 
 -- how a single decision is tuned
-abbrev pub judging_by : ℕ → ℕ → Bool → Tuning
-judging_by passes factor uncertified =
-    record (tuning_of default_rounds (passes_by uncertified passes)) { factor = factor; uncertified = uncertified }
+abbrev pub judging_by : ℕ → ℕ → ℕ → Bool → Tuning
+judging_by passes factor correction uncertified =
+    record (tuning_of default_rounds (passes_by uncertified passes)) { factor = factor; correction = correction; uncertified = uncertified }
 
 -- the tuning of a receiver for which these settings are best
 abbrev pub tuning_with : Best → Wanted → Tuning
 tuning_with best wanted =
-    record { rounds = number_by wanted.tuned wanted.rounds best.rounds; passes = passes_by wanted.uncertified (number_by wanted.tuned wanted.passes best.passes); divisor = number_by wanted.tuned wanted.divisor best.divisor; factor = number_by wanted.tuned wanted.factor best.factor; max_header_errors = number_by wanted.tuned wanted.max_header_errors best_max_header_errors; uncertified = wanted.uncertified; figures = wanted.figures; turns = wanted.turns || wanted.tuned; equalize = wanted.equalize; resync = wanted.resync || wanted.tuned }
+    record { rounds = number_by wanted.tuned wanted.rounds best.rounds; passes = passes_by wanted.uncertified (number_by wanted.tuned wanted.passes best.passes); divisor = number_by wanted.tuned wanted.divisor best.divisor; factor = number_by wanted.tuned wanted.factor best.factor; correction = number_by wanted.tuned wanted.correction best.correction; max_header_errors = number_by wanted.tuned wanted.max_header_errors best_max_header_errors; uncertified = wanted.uncertified; figures = wanted.figures; turns = wanted.turns || wanted.tuned; equalize = wanted.equalize; resync = wanted.resync || wanted.tuned }
 
 -- how a receiver of a mode is tuned
 abbrev pub tuning_by : Mode → Wanted → Tuning

@@ -3,11 +3,12 @@ ghost use Rattle.std.specs.Prelude.{◌≡◌, ◌≤◌, IfOk, IfErr, true};
 ghost use Rattle.s2_tuning.specs.Limits.{max_rounds, max_passes};
 ghost use Rattle.s2_soft.specs.Divisors.{IsDivisor};
 ghost use Rattle.s2_minsum.specs.Factors.{IsFactor};
+ghost use Rattle.s2_minsum.specs.Corrections.{IsCorrection};
 ghost use Rattle.s2_plframe.specs.Search.{IsHeaderTolerance};
-ghost use Rattle.s2_tuning.specs.Tuning.{tuning_of, IsTuning, RefusesTuning};
+ghost use Rattle.s2_tuning.specs.Tuning.{tuning_of, rule_of, IsTuning, RefusesTuning};
 
 use s2_link::SetupFault;
-use s2_minsum::Factor;
+use s2_minsum::{Correction, Factor, Rule};
 use s2_plframe::HeaderTolerance;
 use s2_soft::Divisor;
 use std::marker::Model;
@@ -22,8 +23,8 @@ pub const DEFAULT_ROUNDS: u32 = 50;
 pub const MAX_PASSES: u32 = 1000;
 
 /// How a receiver is tuned: the rounds of min-sum, 1 to 200, the passes of settling, 0 to 1000, and the divisor of soft
-/// values. The factor of min-sum's messages is in sixteenths of the least magnitude. The lock is how many bits of a
-/// header may be wrong right after a frame. If it is uncertified, there are no passes, and no certificate is looked for
+/// values. The factor of min-sum's messages is in sixteenths of a magnitude, and their correction in sixty-fourths of the
+/// soft values' mean. The lock is how many bits of a header may be wrong right after a frame. If it is uncertified, there are no passes, and no certificate is looked for
 /// when min-sum finds a codeword. With figures a receiver measures each frame that it decides; what it decides is
 /// unchanged. It may also receive frames whose symbols are rotated by quarter turns. With the equalizer it divides each
 /// symbol by the gain of the channel before it decides. It may search the symbols of lost frames again, for a header
@@ -34,6 +35,7 @@ pub struct Tuning {
     passes: u32,
     divisor: Divisor,
     factor: Factor,
+    correction: Correction,
     max_header_errors: HeaderTolerance,
     uncertified: bool,
     figures: bool,
@@ -52,6 +54,7 @@ impl Model for Tuning {
       passes = t.passes;
       divisor = t.divisor;
       factor = t.factor;
+      correction = t.correction;
       max_header_errors = t.max_header_errors;
       uncertified = t.uncertified;
       figures = t.figures;
@@ -65,6 +68,7 @@ impl Model for Tuning {
       passes = t.passes;
       divisor = t.divisor;
       factor = t.factor;
+      correction = t.correction;
       max_header_errors = t.max_header_errors;
       uncertified = t.uncertified;
       figures = t.figures;
@@ -78,6 +82,7 @@ impl Model for Tuning {
       passes = v.passes;
       divisor = v.divisor;
       factor = v.factor;
+      correction = v.correction;
       max_header_errors = v.max_header_errors;
       uncertified = v.uncertified;
       figures = v.figures;
@@ -88,8 +93,8 @@ impl Model for Tuning {
 }
 
 impl Tuning {
-    /// These rounds and passes, the usual divisor, 4096, and the usual factor, 12. At most 12 bits of a header may be
-    /// wrong right after a frame. Certificates are looked for, there are no figures, rotated frames are not
+    /// These rounds and passes, the usual divisor, 4096, the usual factor, 12, and no correction. At most 12 bits of a
+    /// header may be wrong right after a frame. Certificates are looked for, there are no figures, rotated frames are not
     /// received, there is no equalizer, and lost frames are not searched again. If there are two refusals, it returns the first: `BadRounds` if the rounds are
     /// not 1 to 200, `BadPasses` if the passes are over 1000.
     pub fn new(rounds: u32, passes: u32) -> Result<Tuning, SetupFault>
@@ -108,6 +113,7 @@ impl Tuning {
             passes,
             divisor: Divisor::usual(),
             factor: Factor::usual(),
+            correction: Correction::usual(),
             max_header_errors: HeaderTolerance::usual(),
             uncertified: false,
             figures: false,
@@ -129,6 +135,13 @@ impl Tuning {
         ensures { result ≡ record self { factor = factor } }
     {
         Tuning { factor, ..self }
+    }
+
+    /// The same, but with this correction.
+    pub fn with_correction(self, correction: Correction) -> Tuning
+        ensures { result ≡ record self { correction = correction } }
+    {
+        Tuning { correction, ..self }
     }
 
     /// The same, but with this limit of wrong header bits.
@@ -219,7 +232,7 @@ impl Tuning {
         self.divisor
     }
 
-    /// The factor of min-sum's messages, in sixteenths of the least magnitude.
+    /// The factor of min-sum's messages, in sixteenths of a magnitude.
     pub fn factor(self) -> Factor
         ensures is { result ≡ self.factor }
         ensures known { IsFactor result }
@@ -227,6 +240,23 @@ impl Tuning {
         // the promise on the number is a part of this promise
         let _number = self.factor.get();
         self.factor
+    }
+
+    /// The correction of min-sum's messages, in sixty-fourths of the soft values' mean magnitude.
+    pub fn correction(self) -> Correction
+        ensures is { result ≡ self.correction }
+        ensures known { IsCorrection result }
+    {
+        // the promise on the number is a part of this promise
+        let _number = self.correction.get();
+        self.correction
+    }
+
+    /// The rule of min-sum: factor and correction.
+    pub fn rule(self) -> Rule
+        ensures { result ≡ rule_of self }
+    {
+        Rule::new(self.factor, self.correction)
     }
 
     /// How many bits of a header may be wrong right after a frame.

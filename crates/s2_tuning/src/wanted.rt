@@ -5,7 +5,7 @@ ghost use Rattle.s2_tuning.specs.Wanted.{number_by, passes_by, judging_by, tunin
 
 use crate::best::{Best, best_of};
 use crate::tuning::{DEFAULT_ROUNDS, Tuning};
-use s2_minsum::Factor;
+use s2_minsum::{Correction, Factor};
 use s2_mode::Mode;
 use s2_plframe::HeaderTolerance;
 use s2_soft::Divisor;
@@ -25,6 +25,7 @@ pub struct Wanted {
     pub passes: Number,
     pub divisor: Number,
     pub factor: Number,
+    pub correction: Number,
     pub max_header_errors: Number,
     pub tuned: bool,
     pub uncertified: bool,
@@ -117,15 +118,17 @@ fn resynced_by(resync: bool, tuning: Tuning) -> Tuning
     if resync { tuning.with_resync() } else { tuning }
 }
 
-/// The tuning of a single decision: the default rounds, and these passes and this factor. `None` if one of them is out
-/// of its range.
-pub fn judging_by(passes: u32, factor: u32, uncertified: bool) -> Option<Tuning>
-    ensures found { IsSome result ↔ IsTuning (judging_by passes factor uncertified) }
-    ensures value { IfSome result (λ t. t ≡ judging_by passes factor uncertified) }
+/// The tuning of a single decision: the default rounds, and these passes, this factor and this correction. `None` if one
+/// of them is out of its range.
+pub fn judging_by(passes: u32, factor: u32, correction: u32, uncertified: bool) -> Option<Tuning>
+    ensures found { IsSome result ↔ IsTuning (judging_by passes factor correction uncertified) }
+    ensures value { IfSome result (λ t. t ≡ judging_by passes factor correction uncertified) }
 {
     let factor = Factor::new(factor)?;
+    let correction = Correction::new(correction)?;
     let tuning = Tuning::new(DEFAULT_ROUNDS, passes_by(uncertified, passes)).ok()?;
-    Some(certified_by(uncertified, tuning.with_factor(factor)))
+    let tuning = tuning.with_factor(factor).with_correction(correction);
+    Some(certified_by(uncertified, tuning))
 }
 
 /// The tuning of a receiver for which these settings are best.
@@ -135,6 +138,7 @@ fn tuning_with(best: Best, wanted: Wanted) -> Option<Tuning>
 {
     let divisor = Divisor::new(number_by(wanted.tuned, wanted.divisor, best.divisor))?;
     let factor = Factor::new(number_by(wanted.tuned, wanted.factor, best.factor))?;
+    let correction = Correction::new(number_by(wanted.tuned, wanted.correction, best.correction))?;
     let max_header_errors = HeaderTolerance::new(number_by(
         wanted.tuned,
         wanted.max_header_errors,
@@ -146,6 +150,7 @@ fn tuning_with(best: Best, wanted: Wanted) -> Option<Tuning>
     let tuning = tuning
         .with_divisor(divisor)
         .with_factor(factor)
+        .with_correction(correction)
         .with_max_header_errors(max_header_errors);
     let tuning = figured_by(wanted.figures, certified_by(wanted.uncertified, tuning));
     let turns = is_set(wanted.turns, wanted.tuned);

@@ -22,6 +22,9 @@ pub const LEAST_FACTOR: u32 = 8;
 /// The largest factor of min-sum's messages.
 pub const MAX_FACTOR: u32 = 16;
 
+/// The largest correction of min-sum's messages.
+pub const MAX_CORRECTION: u32 = 63;
+
 /// The smallest value of `--lock`.
 pub const LEAST_LOCK: u32 = 12;
 

@@ -49,6 +49,7 @@ pub struct TuningArguments {
     pub passes: NumberArguments,
     pub divisor: NumberArguments,
     pub factor: NumberArguments,
+    pub correction: NumberArguments,
     pub max_header_errors: NumberArguments,
     pub tuned: bool,
     pub uncertified: bool,
@@ -81,7 +82,7 @@ pub enum CodeArguments {
 }
 
 /// `judge`: a code, whether there are several frames, whether the values are hard bits, whether notes are suppressed,
-/// the passes and the factor, whether there is no search for certificates after min-sum, and the files.
+/// the passes, the factor and the correction, whether there is no search for certificates after min-sum, and the files.
 #[derive(Clone, Copy)]
 pub struct JudgeArguments<'a> {
     pub code: CodeArguments,
@@ -90,6 +91,7 @@ pub struct JudgeArguments<'a> {
     pub quiet: bool,
     pub passes: u32,
     pub factor: u32,
+    pub correction: u32,
     pub uncertified: bool,
     pub certificate: Option<&'a str>,
     pub rows: &'a str,

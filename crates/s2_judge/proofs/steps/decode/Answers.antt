@@ -14,8 +14,8 @@ pub decoding-init : goal.decoding-init
 decoding-init c = record {
   rows = c.load.ensures.rows ∙ c.requires.decoder;
   state = c.load.ensures.state;
-  first = λ n is. ap (first_from c.args.matrix.now c.args.factor c.args.soft.now 0) (omega arith);
-  until = λ n is. ap (until_from c.args.matrix.now c.args.factor c.args.soft.now c.args.rounds 0) (omega arith);
+  first = λ n is. ap (first_from c.args.matrix.now c.args.rule c.args.soft.now 0) (omega arith);
+  until = λ n is. ap (until_from c.args.matrix.now c.args.rule c.args.soft.now c.args.rounds 0) (omega arith);
   long = c.requires.bits;
 }
 
@@ -30,14 +30,14 @@ decoding-preserved c =
     let before = c.decoding.invariant in
     let new = c.round.new.self in
     let rows = c.round.ensures.rows ∙ before.rows in
-    let state = round_step r c.args.factor soft k c.decoding.decoder new before.rows before.state c.round.ensures.state in
-    let is = bits_step r c.args.factor soft (k + 1) new (decision (code_of new.rows) (decoded new)) rows state refl in
+    let state = round_step r c.args.rule soft k c.decoding.decoder new before.rows before.state c.round.ensures.state in
+    let is = bits_step r c.args.rule soft (k + 1) new (decision (code_of new.rows) (decoded new)) rows state refl in
     let odd = sym (ap (satisfies (code_of r)) is) ∙ c.is_decoded.ensures.test ∙ c.if-is_decoded.false in
     record {
       rows = rows;
       state = state;
-      first = λ n left. before.first (suc n) (omega arith) ∙ first_later r c.args.factor soft k n odd;
-      until = λ n left. before.until (suc n) (omega arith) ∙ until_later r c.args.factor soft c.args.rounds k n odd;
+      first = λ n left. before.first (suc n) (omega arith) ∙ first_later r c.args.rule soft k n odd;
+      until = λ n left. before.until (suc n) (omega arith) ∙ until_later r c.args.rule soft c.args.rounds k n odd;
       long = c.is_decoded.ensures.long;
     }
 
@@ -50,10 +50,10 @@ returns-then-is_decoded-clause-first c =
     let before = c.decoding.invariant in
     let new = c.round.new.self in
     let rows = c.round.ensures.rows ∙ before.rows in
-    let state = round_step r c.args.factor soft k c.decoding.decoder new before.rows before.state c.round.ensures.state in
-    let is = bits_step r c.args.factor soft (k + 1) new (decision (code_of new.rows) (decoded new)) rows state refl in
+    let state = round_step r c.args.rule soft k c.decoding.decoder new before.rows before.state c.round.ensures.state in
+    let is = bits_step r c.args.rule soft (k + 1) new (decision (code_of new.rows) (decoded new)) rows state refl in
     let even = sym (ap (satisfies (code_of r)) is) ∙ c.is_decoded.ensures.test ∙ c.if-is_decoded.true in
-    before.first (suc n) (omega arith) ∙ first_now r c.args.factor soft k n even ∙ ap (λ (w : List Bool). Some w) (sym (c.is_decoded.ensures.bits c.if-is_decoded.true ∙ is))
+    before.first (suc n) (omega arith) ∙ first_now r c.args.rule soft k n even ∙ ap (λ (w : List Bool). Some w) (sym (c.is_decoded.ensures.bits c.if-is_decoded.true ∙ is))
 
 pub returns-then-is_decoded-clause-rounds : goal.returns-then-is_decoded-clause-rounds
 returns-then-is_decoded-clause-rounds c =
@@ -63,10 +63,10 @@ returns-then-is_decoded-clause-rounds c =
     let before = c.decoding.invariant in
     let new = c.round.new.self in
     let rows = c.round.ensures.rows ∙ before.rows in
-    let state = round_step r c.args.factor soft k c.decoding.decoder new before.rows before.state c.round.ensures.state in
-    let is = bits_step r c.args.factor soft (k + 1) new (decision (code_of new.rows) (decoded new)) rows state refl in
+    let state = round_step r c.args.rule soft k c.decoding.decoder new before.rows before.state c.round.ensures.state in
+    let is = bits_step r c.args.rule soft (k + 1) new (decision (code_of new.rows) (decoded new)) rows state refl in
     let even = sym (ap (satisfies (code_of r)) is) ∙ c.is_decoded.ensures.test ∙ c.if-is_decoded.true in
-    before.until (suc (c.args.rounds - (k + 1))) (omega arith) ∙ until_now r c.args.factor soft c.args.rounds k (c.args.rounds - (k + 1)) even
+    before.until (suc (c.args.rounds - (k + 1))) (omega arith) ∙ until_now r c.args.rule soft c.args.rounds k (c.args.rounds - (k + 1)) even
 
 pub returns-clause-rounds : goal.returns-clause-rounds
 returns-clause-rounds c = c.decoding.invariant.until 0 (omega arith)
@@ -78,9 +78,9 @@ pub returns-clause-last : goal.returns-clause-last
 returns-clause-last c no_ =
     let r = c.args.matrix.now in
     let end : c.decoding.round ≡ c.args.rounds = omega arith in
-    bits_step r c.args.factor c.args.soft.now c.decoding.round c.decoding.decoder c.hard_into.new.word c.decoding.invariant.rows c.decoding.invariant.state c.hard_into.ensures ∙ ap (decoded_bits r c.args.factor c.args.soft.now) end
+    bits_step r c.args.rule c.args.soft.now c.decoding.round c.decoding.decoder c.hard_into.new.word c.decoding.invariant.rows c.decoding.invariant.state c.hard_into.ensures ∙ ap (decoded_bits r c.args.rule c.args.soft.now) end
 
 pub returns-clause-long : goal.returns-clause-long
 returns-clause-long c =
     let r = c.args.matrix.now in
-    ap length (bits_step r c.args.factor c.args.soft.now c.decoding.round c.decoding.decoder c.hard_into.new.word c.decoding.invariant.rows c.decoding.invariant.state c.hard_into.ensures) ∙ length-decoded r c.args.factor c.args.soft.now c.decoding.round
+    ap length (bits_step r c.args.rule c.args.soft.now c.decoding.round c.decoding.decoder c.hard_into.new.word c.decoding.invariant.rows c.decoding.invariant.state c.hard_into.ensures) ∙ length-decoded r c.args.rule c.args.soft.now c.decoding.round

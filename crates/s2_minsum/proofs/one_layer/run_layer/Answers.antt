@@ -63,7 +63,7 @@ returns-clause-numbers c soft numbers =
     let start = c.start.ensures.is ∙ ap (λ (x : Rows). first_row x c.args.r) c.requires.layers in
     let count = ap (λ (es : List Circulant). length es) es_is ∙ length-entries rows c.args.r in
     let last = c.last_row-last.ensures ∙ ap (λ (s : Shape). lacked_row s c.args.r) c.shape-shape.ensures.is in
-    (gives rows c.args.factor soft c.args.messages.now c.args.posteriors.now fit numbers c.args.r c.requires.layer c.run.new.messages c.run.new.posteriors
+    (gives rows c.args.rule soft c.args.messages.now c.args.posteriors.now fit numbers c.args.r c.requires.layer c.run.new.messages c.run.new.posteriors
     c.entries-entries.result.now c.group-n.result c.start.result (length c.entries-entries.result.now) c.last_row-last.result (sym es_is) (sym g) (sym start) (sym count) (sym last)
     (record {
       long = c.run.auto.messages;
@@ -83,7 +83,7 @@ returns-clause-state c soft numbers =
     let start = c.start.ensures.is ∙ ap (λ (x : Rows). first_row x c.args.r) c.requires.layers in
     let count = ap (λ (es : List Circulant). length es) es_is ∙ length-entries rows c.args.r in
     let last = c.last_row-last.ensures ∙ ap (λ (s : Shape). lacked_row s c.args.r) c.shape-shape.ensures.is in
-    (gives rows c.args.factor soft c.args.messages.now c.args.posteriors.now fit numbers c.args.r c.requires.layer c.run.new.messages c.run.new.posteriors
+    (gives rows c.args.rule soft c.args.messages.now c.args.posteriors.now fit numbers c.args.r c.requires.layer c.run.new.messages c.run.new.posteriors
     c.entries-entries.result.now c.group-n.result c.start.result (length c.entries-entries.result.now) c.last_row-last.result (sym es_is) (sym g) (sym start) (sym count) (sym last)
     (record {
       long = c.run.auto.messages;

@@ -1,4 +1,4 @@
-use Rattle.std.proofs.Common.{ℕ, vec_len, get_or, pos, ap, sym, subst, ◌∙◌, arith}
+use Rattle.std.proofs.Common.{ℕ, vec_len, get_or, sum_by, unsigned_abs, pos, ap, sym, subst, ◌∙◌, arith}
 use Rattle.s2_mode.specs.Limits.{max_soft}
 use Rattle.s2_minsum.specs.Plain.{start}
 use Rattle.s2_minsum.specs.Layout.{bit_of}
@@ -20,8 +20,9 @@ invariant_of-self c =
     (record {
       layers = c.self.invariant.layers;
       fit = c.self.invariant.fit;
+      summed = c.sum_of-self-inside.ensures ∙ ap (sum_by unsigned_abs) c.deref.ensures.value;
       numbers = started rows soft c.fill.new.self.items ys (omega (arith, c.self.invariant.numbers.soft_long)) (subst (AreWithin max_soft) (sym copied) c.requires.small) none (omega (arith, c.self.invariant.numbers.messages_long)) (omega (arith, c.self.invariant.numbers.posteriors_long)) c.init_posteriors.ensures.fits
-          (λ row lane high low. c.init_posteriors.ensures.are row lane high low ∙ ap (λ xs. get_or xs (bit_of rows.shape row lane) (pos 0)) c.deref.ensures.value);
+          (λ row lane high low. c.init_posteriors.ensures.are row lane high low ∙ ap (λ xs. get_or xs (bit_of rows.shape row lane) (pos 0)) c.deref-2.ensures.value);
       room = c.self.invariant.room;
     })
 

@@ -1,4 +1,4 @@
-use Rattle.std.proofs.Common.{◌≡◌, ℕ, ◌+◌, ◌*◌, ◌≤◌, get_or, replicate, pos, ap, sym, subst, ◌∙◌, arith}
+use Rattle.std.proofs.Common.{◌≡◌, ℕ, ◌+◌, ◌*◌, ◌≤◌, get_or, replicate, sum_by, unsigned_abs, pos, ap, sym, subst, ◌∙◌, arith}
 use Rattle.std.proofs.Math.Nat.{mul-le-mul_right}
 use Rattle.std.proofs.lemmas.List.{get_or_default}
 use Rattle.s2_mode.specs.Shape.{Shape}
@@ -7,6 +7,7 @@ use Rattle.s2_bits.specs.Lanes16.{signed16}
 use Rattle.s2_minsum.specs.Layout.{bit_of, first_row}
 use Rattle.s2_minsum.specs.Decoding.{AreFit}
 use Rattle.s2_minsum.proofs.Starts.{start_is, started, zeros, zeros_ℤ}
+use Rattle.s2_minsum.proofs.Sums.{sum_zeros}
 use Rattle.s2_minsum.proofs.decoder.Decoder.new.Goals as goal
 
 pub overflow_mul-rows : goal.overflow_mul-rows
@@ -31,6 +32,7 @@ invariant_of-result c =
     let none'' = λ (k : ℕ). ap (λ xs. get_or xs k (pos 0)) soft ∙ zeros_ℤ c.bits.result k in
     record {
       layers = layers;
+      summed = sym (ap (sum_by unsigned_abs) soft ∙ sum_zeros c.bits.result);
       fit = subst AreFit layers c.in_ok-layers.ensures.fit;
       numbers = started rows c.in_ok-soft.soft.items c.in_ok-messages.messages.items c.in_ok-posteriors.posteriors.items
           (omega (arith, c.in_ok-soft.ensures.len, c.bits.ensures.is))
