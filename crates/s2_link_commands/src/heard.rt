@@ -1,11 +1,11 @@
-//! A sink that tells a meter of each frame. This is plain code.
+//! A sink by which a meter knows of each frame. This is plain code.
 ghost use Rattle.std.specs.Prelude.{◌≡◌, ℕ, ⊥};
 
 use s2_io::Meter;
 use s2_mode::WriteFault;
 use s2_receive::{Frame, FrameStart, Sink};
 
-/// It tells a meter of each frame, and keeps nothing.
+/// It passes each frame on to a meter, and keeps nothing.
 #[derive(Drop)]
 pub(crate) struct Heard<'m, M> {
     meter: &'m M,

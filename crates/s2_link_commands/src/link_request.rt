@@ -104,7 +104,7 @@ fn conclude_packets<R: Disk + AllocGlobal>(
     exit_after(left_out, exit)
 }
 
-/// Runs the command of a request that receives symbols. The meter is told of each frame. `beside` has the records and the symbols of `stitch`.
+/// Runs the command of a request that receives symbols. The meter knows of each frame. `beside` has the records and the symbols of `stitch`.
 fn run_receiver<
     B: CountedRead + Drop,
     I: CountedRead,

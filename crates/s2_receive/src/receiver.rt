@@ -6,7 +6,7 @@ ghost use Rattle.s2_mode.specs.Mode.{symbols_in};
 ghost use Rattle.s2_receive.specs.declared.report.Phase.TheVariants as phases;
 ghost use Rattle.s2_receive.specs.Receiving.{IsLive, asked, begun, is_at_frame, rules_of, taken};
 ghost use Rattle.s2_receive.specs.Answers.{Advances, Finds, IsSame, Reads, StepsBy, seen_by};
-ghost use Rattle.s2_receive.specs.Sinks.{StepsWith};
+ghost use Rattle.s2_receive.specs.Sinks.{StepsIn};
 ghost use Rattle.s2_receive.specs.Synchronization.{room_for};
 ghost use Rattle.s2_plframe.specs.Turns.{sought_of};
 
@@ -276,7 +276,7 @@ impl<D: Decide> Receiver<D> {
         requires report { CanCount (W.count report.old) }
         ensures same { IsSame D.decide self.old self.new }
         ensures unaided { D.unaided self.new.decider ≡ D.unaided self.old.decider }
-        ensures steps { StepsWith D.decide D.last style K.takes K.fails K.count R.remaining R.count P.contents P.count W.contents W.count
+        ensures steps { StepsIn D.decide D.last style K.takes K.fails K.count R.remaining R.count P.contents P.count W.contents W.count
             self.old sink.old reader.old packets.old report.old self.new sink.new reader.new packets.new report.new result }
         ensures nothing { (IsLive self.old.state.phase → ⊥) → (self.new ≡ self.old) × (reader.new ≡ reader.old)
             × (packets.new ≡ packets.old) × (report.new ≡ report.old) }

@@ -5,7 +5,7 @@ ghost use Rattle.s2_mode.specs.Streams.{streams_by, NoneFailed, OneFailed};
 ghost use Rattle.s2_receive.specs.Receiving.{IsLive, begun, is_certified_step, taken};
 ghost use Rattle.s2_receive.specs.declared.report.Phase.TheVariants as phases;
 ghost use Rattle.s2_receive.specs.Answers.{Between, IsSame, RunsSteps, OnlyStreamFaults, ReceivesBytes, bytes_by};
-ghost use Rattle.s2_receive.specs.Sinks.{OnlyFaultsWith, RunsWith};
+ghost use Rattle.s2_receive.specs.Sinks.{OnlyFaultsWith, RunsIn};
 
 use crate::decider::Decide;
 use crate::receiver::Receiver;
@@ -71,7 +71,7 @@ pub fn receive_with<D: Decide, K: Sink, R: CountedRead, P: CountedWrite, W: Coun
     requires packets { CanCount (P.count packets.old) }
     requires report { CanCount (W.count report.old) }
     requires live { IsLive receiver.old.state.phase }
-    ensures runs { Between (RunsWith D.decide style K.takes K.fails receiver.old receiver.new sink.old sink.new) R.remaining R.count
+    ensures runs { Between (RunsIn D.decide style K.takes K.fails receiver.old receiver.new sink.old sink.new) R.remaining R.count
         P.contents P.count W.contents W.count reader.old packets.old report.old reader.new packets.new report.new result }
     ensures counts { Between (OnlyFaultsWith (K.count sink.old) (K.count sink.new)) R.remaining R.count
         P.contents P.count W.contents W.count reader.old packets.old report.old reader.new packets.new report.new result }

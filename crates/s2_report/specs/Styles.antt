@@ -41,6 +41,7 @@ first_text style step t = if not style.goes_on && is_first step t then codes "ev
 abbrev pub is_due : (n : ℕ) → Totals → Bool
 is_due n t = nat_eq (t.frames % n) 0
 
+-- a message was delivered
 abbrev pub is_delivered : Outcome → Bool
 is_delivered (Delivered fixed) = true
 is_delivered NoWord = false
@@ -62,12 +63,13 @@ sum_text n (steps.Frame report) t = if is_due n t then sum_line t else []
 sum_text n (steps.Cut at count) t = []
 sum_text n steps.End t = []
 
--- the three
+-- the three, one after another
 abbrev pub some_text : Style → Step → Totals → List ℕ
 some_text style step t = first_text style step t ++ (line_text style.every step t ++ sum_text style.every step t)
 
--- ---- all that a step prints, with the totals after it
+-- ---- each report
 
+-- all that a step prints, with the totals after it
 abbrev pub step_text : Style → Step → Totals → List ℕ
 step_text style step t =
     if nat_eq style.every 0 then step_line (placed style.from step) t else some_text style (placed style.from step) t

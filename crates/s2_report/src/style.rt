@@ -1,4 +1,4 @@
-//! How a report is printed: which frames have a line, and where positions begin.
+//! How a report is printed: the frames that have a line, and the first position.
 ghost use Rattle.std.specs.Prelude.{◌≡◌, ◌≢◌, OnErr, OnOk};
 ghost use Rattle.std.specs.Io.KnownBytes.{Appends};
 ghost use Rattle.s2_mode.specs.Counts.{CanCount, CountsFault};
@@ -14,8 +14,8 @@ use s2_mode::{CountedWrite, WriteFault, write_full};
 /// How the lines of a report are printed.
 #[derive(Clone, Copy, Debug, PartialEq, Eq)]
 pub struct Style {
-    /// If it is not 0, a frame has a line only if this divides its number, or if it is not delivered. After so many frames the
-    /// sums so far are printed, and first of all a line with this number.
+    /// If it is not 0, a frame has a line only if this divides its number, or if it is not delivered. The sums so far follow each frame
+    /// whose number it divides, and the first line of all has it.
     pub every: u32,
     /// The symbol of the recording at which the stream begins. It is added to each position.
     pub from: u64,

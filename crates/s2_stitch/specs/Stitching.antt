@@ -60,10 +60,10 @@ StitchesAs takes fails rules old new sink_old sink_new before behind (Err (fault
 
 -- the same from a receiver to another, with a source, a sink, a reader and two writers, if the frame that is held and the records that
 -- are left are true
-abbrev pub Stitches :
+abbrev pub Runs :
     {D S R P W : Type 0} → (D → List Symbol → Decision) → Style → (takes fails : Taking S) → (R → Option (List ℕ)) → (R → ℕ) → (P → Option (List ℕ)) → (P → ℕ) → (W → Option (List ℕ)) → (W → ℕ)
     → Receiver (Recalling D) → RecordSource → S → R → P → W → Receiver (Recalling D) → S → R → P → W → Result Received StitchFault → Type 0
-Stitches decide style takes fails taken reads given writes out prints old source k r p w new k' r' p' w' result =
+Runs decide style takes fails taken reads given writes out prints old source k r p w new k' r' p' w' result =
     AreTrue decide old.decider source → Between (StitchesAs takes fails (styled style (own_rules decide old)) old.state new.state k k') taken reads given writes out prints r p w r' p' w' result
 
 -- only failed calls of the streams and of the sink were counted, as the fault says

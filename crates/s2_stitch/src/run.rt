@@ -4,7 +4,7 @@ ghost use Rattle.s2_mode.specs.Counts.{CanCount};
 ghost use Rattle.s2_receive.specs.Answers.{Between, IsSame};
 ghost use Rattle.s2_receive.specs.Receiving.{IsLive, taken};
 ghost use Rattle.s2_stitch.specs.Sources.{CountsSource};
-ghost use Rattle.s2_stitch.specs.Stitching.{IsLeftIn, OnlyFaultsOf, Stitches, own_rule, source_fault};
+ghost use Rattle.s2_stitch.specs.Stitching.{IsLeftIn, OnlyFaultsOf, Runs, own_rule, source_fault};
 
 use crate::fault::StitchFault;
 use crate::recalling::Recalling;
@@ -48,7 +48,7 @@ pub fn stitch_with<
     requires report { CanCount (W.count report.old) }
     requires live { IsLive receiver.old.state.phase }
     requires whole { source.old.fault ≡ None }
-    ensures runs { Stitches D.decide style K.takes K.fails R.remaining R.count P.contents P.count W.contents W.count
+    ensures runs { Runs D.decide style K.takes K.fails R.remaining R.count P.contents P.count W.contents W.count
         receiver.old source.old sink.old reader.old packets.old report.old receiver.new sink.new reader.new packets.new report.new result }
     ensures counts { Between (OnlyFaultsOf (K.count sink.old) (K.count sink.new)) R.remaining R.count
         P.contents P.count W.contents W.count reader.old packets.old report.old reader.new packets.new report.new result }
