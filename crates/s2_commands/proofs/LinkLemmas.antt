@@ -1,5 +1,5 @@
 -- A command on a link, or on none: a setup, and its row file that is read by this shape.
-use Rattle.s2_commands.proofs.Names.{◌≡◌, ◌≢◌, ◌+◌, ◌∙◌, Bool, false, ℕ, Result, Ok, Err, IfSome, ap, refl, subst, inl, inr, shape_in, max_symbols, Rows, Link, link_of, Setup, Tuning, Receiver, IsNew, rules_for, link_rules, Received, Taking, Transmitter, new_transmitter, RunOptions, Exit, Fault, Follows, rows_in, Files, LinkCommand, DoesOn, OnLink, Ends, BeginsWith, CausesWith, ReceivesToEnd, Demodulates, Sent, SentTaking, SendsBy, transmitter_on, Modulates, LoopsBy, Loops}
+use Rattle.s2_commands.proofs.Names.{Style, styled, ◌≡◌, ◌≢◌, ◌+◌, ◌∙◌, Bool, false, ℕ, Result, Ok, Err, IfSome, ap, refl, subst, inl, inr, shape_in, max_symbols, Rows, Link, link_of, Setup, Tuning, Receiver, IsNew, rules_for, link_rules, Received, Taking, Transmitter, new_transmitter, RunOptions, Exit, Fault, Follows, rows_in, Files, LinkCommand, DoesOn, OnLink, Ends, BeginsWith, CausesWith, ReceivesToEnd, Demodulates, Sent, SentTaking, SendsBy, transmitter_on, Modulates, LoopsBy, Loops}
 use Rattle.s2_commands.proofs.Names.faults
 
 -- nothing failed that is counted
@@ -53,10 +53,10 @@ told_transmitter : (link : Link) (dummy : ℕ) (made told : Transmitter) → mad
 told_transmitter link dummy made told new set = set ∙ ap {A = Transmitter} (λ t. record t { dummy_every = dummy }) new
 
 -- a new receiver of a link receives
-pub receives_on : {K : Type 0} (takes fails : Taking K) (link : Link) (tuning : Tuning) (r : Receiver) → IsNew link tuning r → (begun : Bool) (old new : Ends K) (ended : Result Received Fault)
-    → BeginsWith (ReceivesToEnd takes fails (rules_for r)) begun old new ended → DoesOn (Demodulates takes fails tuning) (Ok link) begun old new ended
-receives_on takes fails link tuning r made begun old new ended h =
-    inl (subst (λ rules. BeginsWith (ReceivesToEnd takes fails rules) begun old new ended) (new_rules link tuning r made) h)
+pub receives_on : {K : Type 0} (style : Style) (takes fails : Taking K) (link : Link) (tuning : Tuning) (r : Receiver) → IsNew link tuning r → (begun : Bool) (old new : Ends K) (ended : Result Received Fault)
+    → BeginsWith (ReceivesToEnd takes fails (styled style (rules_for r))) begun old new ended → DoesOn (Demodulates takes fails style tuning) (Ok link) begun old new ended
+receives_on style takes fails link tuning r made begun old new ended h =
+    inl (subst (λ rules. BeginsWith (ReceivesToEnd takes fails (styled style rules)) begun old new ended) (new_rules link tuning r made) h)
 
 -- a new transmitter on a link sends
 pub sends_on : {K : Type 0} (takes fails : SentTaking K) (link : Link) (dummy : ℕ) (made told : Transmitter) → made ≡ new_transmitter link → told ≡ record made { dummy_every = dummy } → (begun : Bool) (old new : Ends K) (ended : Result (Sent Exit) Fault)
@@ -66,6 +66,6 @@ sends_on takes fails link dummy made told is set begun old new ended h =
 
 -- a new transmitter on a link sends, and what becomes of its symbols is received on the link
 pub loops_on : {K : Type 0} (takes fails : Taking K) (link : Link) (words : RunOptions) (made told : Transmitter) → made ≡ new_transmitter link → told ≡ record made { dummy_every = words.dummy }
-    → (begun : Bool) (old new : Ends K) (ended : Result (Sent Received) Fault) → LoopsBy takes fails told (link_rules link words.tuning max_symbols) words.channel words.seeds begun old new ended → DoesOn (Loops takes fails words) (Ok link) begun old new ended
+    → (begun : Bool) (old new : Ends K) (ended : Result (Sent Received) Fault) → LoopsBy takes fails told (styled words.style (link_rules link words.tuning max_symbols)) words.channel words.seeds begun old new ended → DoesOn (Loops takes fails words) (Ok link) begun old new ended
 loops_on takes fails link words made told is set begun old new ended h =
-    inl (subst (λ t. LoopsBy takes fails t (link_rules link words.tuning max_symbols) words.channel words.seeds begun old new ended) (told_transmitter link words.dummy made told is set) h)
+    inl (subst (λ t. LoopsBy takes fails t (styled words.style (link_rules link words.tuning max_symbols)) words.channel words.seeds begun old new ended) (told_transmitter link words.dummy made told is set) h)

@@ -22,13 +22,14 @@ pub use Rattle.s2_inputs.specs.Inputs.{rows_in}
 pub use Rattle.s2_receive.specs.Limits.{max_symbols}
 pub use Rattle.s2_tuning.specs.Tuning.{Tuning}
 pub use Rattle.s2_modem.specs.Reception.{Receiver, IsNew, link_rules, rules_for}
+pub use Rattle.s2_report.specs.declared.style.Style.{Style}
 pub use Rattle.s2_send.specs.Transmitter.{Transmitter, new_transmitter}
 pub use Rattle.s2_commands.specs.declared.choices.Channel.{Channel}
 pub use Rattle.s2_commands.specs.declared.choices.RunOptions.{RunOptions}
 pub use Rattle.s2_words.specs.declared.request.Seeds.{Seeds}
 pub use Rattle.s2_commands.specs.Links.{LinkCommand, DoesOn, OnLink, link_on}
 pub use Rattle.s2_mode.specs.declared.stream_fault.StreamFault.{StreamFault}
-pub use Rattle.s2_receive.specs.Receiving.{Rules, State, begun}
+pub use Rattle.s2_receive.specs.Receiving.{Rules, State, begun, styled}
 pub use Rattle.s2_receive.specs.Sinks.{Taking, RunAnswersWith}
 pub use Rattle.s2_commands.specs.Ends.{Ends, ends_of, BeginsWith, CausesWith}
 pub use Rattle.s2_commands.specs.NoisyReception.{ReceivesNoisy, ReceivesWithNoise, written_by}

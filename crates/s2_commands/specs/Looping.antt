@@ -8,7 +8,7 @@ use Rattle.s2_send.specs.Transmitter.{Transmitter}
 use Rattle.s2_send.specs.declared.outcome.Counts.{Counts}
 use Rattle.s2_send.specs.declared.outcome.SendFault.{SendFault}
 use Rattle.s2_send.specs.declared.outcome.SendFault.TheVariants as refusals
-use Rattle.s2_receive.specs.Receiving.{Rules}
+use Rattle.s2_receive.specs.Receiving.{Rules, styled}
 use Rattle.s2_receive.specs.Sinks.{Taking}
 use Rattle.s2_receive.specs.declared.report.Received.{Received}
 use Rattle.s2_modem.specs.Reception.{link_rules}
@@ -63,7 +63,7 @@ LoopsBy takes fails t rules channel seeds begun old new ended =
 -- `run` on a link, with the dummy frames, the tuning and the channel of its options
 abbrev pub Loops : {K : Type 0} → (takes fails : Taking K) → RunOptions → LinkCommand (Ends K) (Sent Received)
 Loops takes fails words link begun old new ended =
-    LoopsBy takes fails (transmitter_on link words.dummy) (link_rules link words.tuning max_symbols) words.channel words.seeds begun old new ended
+    LoopsBy takes fails (transmitter_on link words.dummy) (styled words.style (link_rules link words.tuning max_symbols)) words.channel words.seeds begun old new ended
 
 -- the end of a command that heard this, and its exit; before the line of a refused packet its note is on the errors, unless
 -- notes are left out

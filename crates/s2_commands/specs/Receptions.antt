@@ -1,12 +1,13 @@
 -- What `demod` receives, writes and reports (own).
 use Rattle.std.specs.Prelude.{ℕ, Bool, Result, Ok, Err}
+use Rattle.s2_report.specs.declared.style.Style.{Style}
 use Rattle.s2_receive.specs.Limits.{max_symbols}
 use Rattle.s2_mode.specs.Mode.{Mode}
 use Rattle.s2_mode.specs.declared.stream_fault.StreamFault.TheVariants as stream_faults
 use Rattle.s2_rows.specs.Rows.{Rows}
 use Rattle.s2_tuning.specs.Tuning.{Tuning}
 use Rattle.s2_link.specs.declared.setup.Setup.{Setup}
-use Rattle.s2_receive.specs.Receiving.{Rules, State, begun}
+use Rattle.s2_receive.specs.Receiving.{Rules, State, begun, styled}
 use Rattle.s2_receive.specs.Sinks.{Taking, RunAnswersWith}
 use Rattle.s2_receive.specs.declared.report.Received.{Received}
 use Rattle.s2_modem.specs.Reception.{link_rules}
@@ -29,13 +30,13 @@ ReceivesToEnd takes fails rules old new (Err faults.Read) = (state : State) × R
 ReceivesToEnd takes fails rules old new (Err faults.Write) = (state : State) × RunAnswersWith takes fails rules begun state old.sinks new.sinks old.streams new.streams (Err stream_faults.Write)
 ReceivesToEnd takes fails rules old new (Err f) = ⊥
 
--- `demod` on a link: what a new receiver makes of the symbols
-abbrev pub Demodulates : {K : Type 0} → (takes fails : Taking K) → Tuning → LinkCommand (Ends K) Received
-Demodulates takes fails tuning link begun old new ended = BeginsWith (ReceivesToEnd takes fails (link_rules link tuning max_symbols)) begun old new ended
+-- `demod` on a link: what a new receiver makes of the symbols, with this style of the report
+abbrev pub Demodulates : {K : Type 0} → (takes fails : Taking K) → Style → Tuning → LinkCommand (Ends K) Received
+Demodulates takes fails style tuning link begun old new ended = BeginsWith (ReceivesToEnd takes fails (styled style (link_rules link tuning max_symbols))) begun old new ended
 
 -- `demod` has ended with this exit: so it did on its files and its sinks, and so it reported how it ended
 abbrev pub DemodExits : {K : Type 0} → (takes fails : Taking K) → (count : K → ℕ) → Setup → DemodOptions → ((quiet : Bool) → Mode → Result Rows Fault → Type 0) → Files → Files → K → K → Screen → Screen → Exit → Type 0
 DemodExits takes fails count setup words Noted files left sinks_old sinks_new old new exit =
     (reception : Result Received Fault)
-    × OnLink (Demodulates takes fails words.tuning) (CausesWith count) (Noted words.notes.quiet setup.mode) setup files left (ends_of (reporting files old) sinks_old) (ends_of (reporting left new) sinks_new) reception
+    × OnLink (Demodulates takes fails words.style words.tuning) (CausesWith count) (Noted words.notes.quiet setup.mode) setup files left (ends_of (reporting files old) sinks_old) (ends_of (reporting left new) sinks_new) reception
     × Finishes words.notes setup.mode reception exit old new

@@ -3,7 +3,7 @@ ghost use Rattle.std.specs.Prelude.{◌≡◌, ◌≢◌, ◌+◌, ◌≤◌, Ok
 ghost use Rattle.s2_mode.specs.Counts.{CanCount};
 ghost use Rattle.s2_mode.specs.Streams.{streams_by};
 ghost use Rattle.s2_link.specs.Link.{setup_of};
-ghost use Rattle.s2_receive.specs.Receiving.{begun};
+ghost use Rattle.s2_receive.specs.Receiving.{begun, styled};
 ghost use Rattle.s2_modem.specs.Reception.{rules_for};
 ghost use Rattle.s2_io.specs.Files.{CanStart, reporting};
 ghost use Rattle.s2_io.specs.Screens.{CanNote};
@@ -19,6 +19,7 @@ use s2_link::{Link, LinkSetup};
 use s2_mode::{CountedRead, CountedWrite, StreamFault};
 use s2_modem::Receiver;
 use s2_receive::{Received, Sink};
+use s2_report::Style;
 use s2_table::read_noted;
 use s2_tuning::Tuning;
 use std::alloc::Global;
@@ -27,6 +28,7 @@ use std::alloc::Global;
 /// written.
 pub(crate) fn receive_to_end<K: Sink, S: CountedRead, W: CountedWrite, O: CountedWrite>(
     receiver: &mut Receiver<'_>,
+    style: Style,
     symbols: &mut S,
     sinks: &mut K,
     packets: &mut W,
@@ -38,13 +40,13 @@ pub(crate) fn receive_to_end<K: Sink, S: CountedRead, W: CountedWrite, O: Counte
     requires out { CanCount (O.count out.old) }
     requires begun { receiver.old.state ≡ begun }
     ensures receives { let ends = streams_by S.remaining S.count W.contents W.count O.contents O.count in
-        ReceivesToEnd K.takes K.fails (rules_for receiver.old)
+        ReceivesToEnd K.takes K.fails (styled style (rules_for receiver.old))
         (ends_of (ends symbols.old packets.old out.old) sinks.old) (ends_of (ends symbols.new packets.new out.new) sinks.new) result }
     ensures causes { let ends = streams_by S.remaining S.count W.contents W.count O.contents O.count in
         CausesWith K.count (ends_of (ends symbols.old packets.old out.old) sinks.old) (ends_of (ends symbols.new packets.new out.new) sinks.new) result }
     ensures few { K.count sinks.new ≤ K.count sinks.old + 1 }
 {
-    match receiver.run_with(symbols, sinks, packets, out) {
+    match receiver.run_with(style, symbols, sinks, packets, out) {
         Ok(received) => Ok(received),
         Err(StreamFault::Read) => Err(Fault::Read),
         Err(StreamFault::Write) => Err(Fault::Write),
@@ -54,6 +56,7 @@ pub(crate) fn receive_to_end<K: Sink, S: CountedRead, W: CountedWrite, O: Counte
 /// Truncates the packets' file, and receives to the end of the symbols.
 pub(crate) fn receive_begun<K: Sink, S: CountedRead, W: Output, O: CountedWrite>(
     receiver: &mut Receiver<'_>,
+    style: Style,
     symbols: &mut S,
     sinks: &mut K,
     packets: &mut Destination<W>,
@@ -66,7 +69,7 @@ pub(crate) fn receive_begun<K: Sink, S: CountedRead, W: Output, O: CountedWrite>
     requires out { CanCount (O.count out.old) }
     requires begun { receiver.old.state ≡ begun }
     ensures receives { let ends = streams_by S.remaining S.count W.contents W.count O.contents O.count in
-        BeginsWith (ReceivesToEnd K.takes K.fails (rules_for receiver.old)) packets.new.begun
+        BeginsWith (ReceivesToEnd K.takes K.fails (styled style (rules_for receiver.old))) packets.new.begun
         (ends_of (ends symbols.old packets.old.to out.old) sinks.old) (ends_of (ends symbols.new packets.new.to out.new) sinks.new) result }
     ensures causes { let ends = streams_by S.remaining S.count W.contents W.count O.contents O.count in
         CausesWith K.count (ends_of (ends symbols.old packets.old.to out.old) sinks.old) (ends_of (ends symbols.new packets.new.to out.new) sinks.new) result }
@@ -75,7 +78,7 @@ pub(crate) fn receive_begun<K: Sink, S: CountedRead, W: Output, O: CountedWrite>
     if packets.truncate().is_err() {
         return Err(Fault::Write);
     }
-    receive_to_end(receiver, symbols, sinks, packets.writer(), out)
+    receive_to_end(receiver, style, symbols, sinks, packets.writer(), out)
 }
 
 /// Reads rows, and receives on their link.
@@ -94,7 +97,7 @@ fn receive_files<K: Sink, R: CountedRead, W: Output, O: CountedWrite, E: Counted
     requires notes { CanCount (E.count notes.old) }
     ensures errors { (console.new.errors ≡ console.old.errors) × (console.new.errors_failed ≡ console.old.errors_failed) }
     ensures run { let noted = noted_by E.contents E.count notes.old notes.new words.now.notes.quiet setup.mode in
-        OnLink (Demodulates K.takes K.fails words.now.tuning) (CausesWith K.count) noted (setup_of setup) files.old files.new
+        OnLink (Demodulates K.takes K.fails words.now.style words.now.tuning) (CausesWith K.count) noted (setup_of setup) files.old files.new
         (ends_of (reporting files.old console.old) sinks.old) (ends_of (reporting files.new console.new) sinks.new) result }
     ensures few { K.count sinks.new ≤ K.count sinks.old + 1 }
 {
@@ -104,6 +107,7 @@ fn receive_files<K: Sink, R: CountedRead, W: Output, O: CountedWrite, E: Counted
     match Receiver::on_link(alloc, &link, words.tuning) {
         Ok(mut receiver) => receive_begun(
             &mut receiver,
+            words.style,
             &mut files.from,
             sinks,
             &mut files.to,

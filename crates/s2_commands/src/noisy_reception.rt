@@ -2,6 +2,7 @@
 ghost use Rattle.std.specs.Prelude.{◌≡◌, ◌+◌, ◌≤◌, false};
 ghost use Rattle.s2_mode.specs.Counts.{CanCount};
 ghost use Rattle.s2_receive.specs.Limits.{max_symbols};
+ghost use Rattle.s2_receive.specs.Receiving.{styled};
 ghost use Rattle.s2_modem.specs.Reception.{link_rules};
 ghost use Rattle.s2_commands.specs.Ends.{CausesWith, ends_of};
 ghost use Rattle.s2_commands.specs.NoisyReception.{kept_fault, ReceivesWithNoise, written_by};
@@ -14,6 +15,7 @@ use s2_link::Link;
 use s2_mode::{CountedWrite, Counting, InMemory};
 use s2_modem::Receiver;
 use s2_receive::{Received, Sink};
+use s2_report::Style;
 use s2_tuning::Tuning;
 use std::alloc::Global;
 
@@ -32,6 +34,7 @@ pub(crate) fn receive_noisy<K: Sink, W: Output, O: CountedWrite>(
     alloc: Global,
     link: &Link<'_>,
     tuning: Tuning,
+    style: Style,
     channel: Channel,
     symbols: &[u8],
     sinks: &mut K,
@@ -43,7 +46,7 @@ pub(crate) fn receive_noisy<K: Sink, W: Output, O: CountedWrite>(
     requires unbegun { to.old.begun ≡ false }
     requires out { CanCount (O.count out.old) }
     ensures receives { let ends = written_by W.contents W.count O.contents O.count in
-        ReceivesWithNoise K.takes K.fails (link_rules link.now tuning max_symbols) channel symbols.now to.new.begun
+        ReceivesWithNoise K.takes K.fails (styled style (link_rules link.now tuning max_symbols)) channel symbols.now to.new.begun
         (ends_of (ends to.old.to out.old) sinks.old) (ends_of (ends to.new.to out.new) sinks.new) result }
     ensures causes { let ends = written_by W.contents W.count O.contents O.count in
         CausesWith K.count (ends_of (ends to.old.to out.old) sinks.old) (ends_of (ends to.new.to out.new) sinks.new) result }
@@ -56,6 +59,7 @@ pub(crate) fn receive_noisy<K: Sink, W: Output, O: CountedWrite>(
     match add_noise(channel, &mut InMemory::new(symbols), &mut noisy) {
         Ok(_) => receive_begun(
             &mut receiver,
+            style,
             &mut InMemory::new(&noisy.into_inner()),
             sinks,
             to,

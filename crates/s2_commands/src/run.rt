@@ -4,6 +4,7 @@ ghost use Rattle.s2_mode.specs.Counts.{CanCount};
 ghost use Rattle.s2_mode.specs.Streams.{streams_by};
 ghost use Rattle.s2_link.specs.Link.{setup_of};
 ghost use Rattle.s2_receive.specs.Limits.{max_symbols};
+ghost use Rattle.s2_receive.specs.Receiving.{styled};
 ghost use Rattle.s2_modem.specs.Reception.{link_rules};
 ghost use Rattle.s2_io.specs.Files.{CanStart, reporting};
 ghost use Rattle.s2_io.specs.Screens.{CanNote};
@@ -52,7 +53,7 @@ fn receive_runs<K: Sink, W: Output, O: CountedWrite>(
     requires unbegun { to.old.begun ≡ false }
     requires out { CanCount (O.count out.old) }
     ensures receives { let ends = written_by W.contents W.count O.contents O.count in
-        ReceivesRuns K.takes K.fails (link_rules link.now words.now.tuning max_symbols) words.now.channel words.now.seeds symbols.now to.new.begun
+        ReceivesRuns K.takes K.fails (styled words.now.style (link_rules link.now words.now.tuning max_symbols)) words.now.channel words.now.seeds symbols.now to.new.begun
         (ends_of (ends to.old.to out.old) sinks.old) (ends_of (ends to.new.to out.new) sinks.new) result }
     ensures causes { let ends = written_by W.contents W.count O.contents O.count in
         CausesWith K.count (ends_of (ends to.old.to out.old) sinks.old) (ends_of (ends to.new.to out.new) sinks.new) result }
@@ -63,6 +64,7 @@ fn receive_runs<K: Sink, W: Output, O: CountedWrite>(
             alloc,
             link,
             words.tuning,
+            words.style,
             words.channel,
             symbols,
             sinks,
@@ -90,7 +92,7 @@ fn loop_packets<K: Sink, S: CountedRead, W: Output, O: CountedWrite>(
     requires unbegun { to.old.begun ≡ false }
     requires out { CanCount (O.count out.old) }
     ensures loops { let ends = streams_by S.remaining S.count W.contents W.count O.contents O.count in
-        LoopsBy K.takes K.fails transmitter.old (link_rules link.now words.now.tuning max_symbols) words.now.channel words.now.seeds to.new.begun
+        LoopsBy K.takes K.fails transmitter.old (styled words.now.style (link_rules link.now words.now.tuning max_symbols)) words.now.channel words.now.seeds to.new.begun
         (ends_of (ends from.old to.old.to out.old) sinks.old) (ends_of (ends from.new to.new.to out.new) sinks.new) result }
     ensures causes { let ends = streams_by S.remaining S.count W.contents W.count O.contents O.count in
         CausesWith K.count (ends_of (ends from.old to.old.to out.old) sinks.old) (ends_of (ends from.new to.new.to out.new) sinks.new) result }

@@ -2,10 +2,11 @@
 ghost use Rattle.std.specs.Prelude.{◌≡◌, ◌+◌, ◌≤◌, false};
 ghost use Rattle.s2_mode.specs.Counts.{CanCount};
 ghost use Rattle.s2_receive.specs.Limits.{max_symbols};
+ghost use Rattle.s2_receive.specs.Receiving.{styled};
 ghost use Rattle.s2_modem.specs.Reception.{link_rules};
 ghost use Rattle.s2_commands.specs.Ends.{BeginsWith, CausesWith, ends_of};
 ghost use Rattle.s2_commands.specs.NoisyReception.{written_by};
-ghost use Rattle.s2_commands.specs.Seeding.{HearsRange, HearsSeed, SeedsAnswer};
+ghost use Rattle.s2_commands.specs.Seeding.{HearsRange, HearsSeed, SeedsAnswer, style_after};
 
 use crate::choices::{Channel, RunOptions};
 use crate::demod::receive_to_end;
@@ -17,15 +18,31 @@ use s2_link::Link;
 use s2_mode::{CountedWrite, Counting, InMemory, write_full};
 use s2_modem::Receiver;
 use s2_receive::{Received, Sink};
+use s2_report::Style;
 use s2_tuning::Tuning;
 use s2_words::Seeds;
 use std::alloc::Global;
+
+/// The style of the report of a seed, after this number of seeds. The report goes on after theirs.
+fn style_after(style: Style, seeds: u64) -> Style
+    ensures { result ≡ style_after seeds style }
+{
+    if seeds == 0 {
+        style
+    } else {
+        Style {
+            goes_on: true,
+            ..style
+        }
+    }
+}
 
 /// Adds a channel's noise to symbols, and receives the result on a link.
 fn receive_seed<K: Sink, W: CountedWrite, O: CountedWrite>(
     alloc: Global,
     link: &Link<'_>,
     tuning: Tuning,
+    style: Style,
     channel: Channel,
     symbols: &[u8],
     sinks: &mut K,
@@ -36,7 +53,7 @@ fn receive_seed<K: Sink, W: CountedWrite, O: CountedWrite>(
     requires packets { CanCount (W.count packets.old) }
     requires out { CanCount (O.count out.old) }
     ensures hears { let ends = written_by W.contents W.count O.contents O.count in
-        HearsSeed K.takes K.fails (link_rules link.now tuning max_symbols) channel symbols.now channel.seed
+        HearsSeed K.takes K.fails (styled style (link_rules link.now tuning max_symbols)) channel symbols.now channel.seed
         (ends_of (ends packets.old out.old) sinks.old) (ends_of (ends packets.new out.new) sinks.new) result }
     ensures causes { let ends = written_by W.contents W.count O.contents O.count in
         CausesWith K.count (ends_of (ends packets.old out.old) sinks.old) (ends_of (ends packets.new out.new) sinks.new) result }
@@ -49,6 +66,7 @@ fn receive_seed<K: Sink, W: CountedWrite, O: CountedWrite>(
     match add_noise(channel, &mut InMemory::new(symbols), &mut noisy) {
         Ok(_) => receive_to_end(
             &mut receiver,
+            style,
             &mut InMemory::new(&noisy.into_inner()),
             sinks,
             packets,
@@ -73,7 +91,7 @@ fn receive_seeds<K: Sink, W: CountedWrite, O: CountedWrite>(
     requires packets { CanCount (W.count packets.old) }
     requires out { CanCount (O.count out.old) }
     ensures hears { let ends = written_by W.contents W.count O.contents O.count in
-        SeedsAnswer K.takes K.fails (link_rules link.now words.now.tuning max_symbols) words.now.channel seeds symbols.now
+        SeedsAnswer K.takes K.fails (styled words.now.style (link_rules link.now words.now.tuning max_symbols)) words.now.channel seeds symbols.now
         (ends_of (ends packets.old out.old) sinks.old) (ends_of (ends packets.new out.new) sinks.new) result }
     ensures causes { let ends = written_by W.contents W.count O.contents O.count in
         CausesWith K.count (ends_of (ends packets.old out.old) sinks.old) (ends_of (ends packets.new out.new) sinks.new) result }
@@ -85,10 +103,12 @@ fn receive_seeds<K: Sink, W: CountedWrite, O: CountedWrite>(
             seed,
             ..words.channel
         };
+        let style = style_after(words.style, seed - seeds.first);
         let received = receive_seed(
             alloc,
             link,
             words.tuning,
+            style,
             channel,
             symbols,
             sinks,
@@ -115,7 +135,7 @@ fn sum_seeds<K: Sink, W: CountedWrite, O: CountedWrite>(
     requires packets { CanCount (W.count packets.old) }
     requires out { CanCount (O.count out.old) }
     ensures hears { let ends = written_by W.contents W.count O.contents O.count in
-        HearsRange K.takes K.fails (link_rules link.now words.now.tuning max_symbols) words.now.channel seeds symbols.now
+        HearsRange K.takes K.fails (styled words.now.style (link_rules link.now words.now.tuning max_symbols)) words.now.channel seeds symbols.now
         (ends_of (ends packets.old out.old) sinks.old) (ends_of (ends packets.new out.new) sinks.new) result }
     ensures causes { let ends = written_by W.contents W.count O.contents O.count in
         CausesWith K.count (ends_of (ends packets.old out.old) sinks.old) (ends_of (ends packets.new out.new) sinks.new) result }
@@ -145,7 +165,7 @@ pub(crate) fn receive_range<K: Sink, W: Output, O: CountedWrite>(
     requires unbegun { to.old.begun ≡ false }
     requires out { CanCount (O.count out.old) }
     ensures receives { let ends = written_by W.contents W.count O.contents O.count in
-        BeginsWith (HearsRange K.takes K.fails (link_rules link.now words.now.tuning max_symbols) words.now.channel seeds symbols.now)
+        BeginsWith (HearsRange K.takes K.fails (styled words.now.style (link_rules link.now words.now.tuning max_symbols)) words.now.channel seeds symbols.now)
         to.new.begun (ends_of (ends to.old.to out.old) sinks.old) (ends_of (ends to.new.to out.new) sinks.new) result }
     ensures causes { let ends = written_by W.contents W.count O.contents O.count in
         CausesWith K.count (ends_of (ends to.old.to out.old) sinks.old) (ends_of (ends to.new.to out.new) sinks.new) result }

@@ -10,8 +10,6 @@ use s2_mode::{Counted, CountedWrite, WriteFault};
 pub struct Clearing<'t, 'r, W, R> {
     inner: W,
     terminal: &'t Terminal<'r, R>,
-    /// Whether it takes the lines of a report.
-    is_report: bool,
 }
 
 impl<'t, 'r, W, R> Clearing<'t, 'r, W, R> {
@@ -19,22 +17,7 @@ impl<'t, 'r, W, R> Clearing<'t, 'r, W, R> {
     pub fn new(inner: W, terminal: &'t Terminal<'r, R>) -> Clearing<'t, 'r, W, R>
         ensures { result.inner ≡ inner }
     {
-        Clearing {
-            inner,
-            terminal,
-            is_report: false,
-        }
-    }
-
-    /// The same for the lines of a report: the terminal knows by them when a frame came.
-    pub fn reporting(inner: W, terminal: &'t Terminal<'r, R>) -> Clearing<'t, 'r, W, R>
-        ensures { result.inner ≡ inner }
-    {
-        Clearing {
-            inner,
-            terminal,
-            is_report: true,
-        }
+        Clearing { inner, terminal }
     }
 }
 
@@ -50,9 +33,6 @@ impl<W: CountedWrite, R: StandardStreams> CountedWrite for Clearing<'_, '_, W, R
     ghost contents = { λ w. W.contents w.inner };
 
     fn write(&mut self, buf: &[u8]) -> Result<usize, WriteFault> {
-        if self.is_report {
-            self.terminal.reported(buf);
-        }
         self.terminal.clear();
         self.inner.write(buf)
     }

@@ -33,7 +33,7 @@
 //! ```
 //!
 //! **Progress.** One line on standard error is rewritten at most once a second. A [`Watched`] reader or writer is, in
-//! contracts, the one that it holds. It reports to a [`Meter`] how many bytes have passed. The meter of the program is a
+//! contracts, the one that it holds. It reports to a [`Meter`] how many bytes have passed, and a receiver when a frame came. The meter of the program is a
 //! [`Show`], whose line is shown on a [`Terminal`]: it is the last line of standard error. The line is cleared when the
 //! command ends, and before each write of a [`Clearing`] writer. So it never gets between the lines of a report. So are
 //! notes that are written at once: that no frame came for a frame's length, and that frames come again

@@ -124,4 +124,10 @@ impl<R: Clock + StandardStreams> Meter for Show<'_, '_, R> {
     fn gave(&self, bytes: usize) {
         self.pass(&self.given, bytes);
     }
+
+    fn heard(&self) {
+        if self.notes_gaps.get() {
+            self.terminal.heard();
+        }
+    }
 }

@@ -65,12 +65,10 @@ impl<'r, R: StandardStreams> Terminal<'r, R> {
         }
     }
 
-    /// A line of a report is written.
-    pub(crate) fn reported(&self, line: &[u8]) {
-        if line.starts_with(b"frame ") {
-            if let Some(symbol) = self.gaps.heard() {
-                self.note("s2: note: frames again from symbol ", symbol);
-            }
+    /// A frame was received.
+    pub(crate) fn heard(&self) {
+        if let Some(symbol) = self.gaps.heard() {
+            self.note("s2: note: frames again from symbol ", symbol);
         }
     }
 

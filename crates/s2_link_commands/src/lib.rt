@@ -13,6 +13,7 @@
 mod about;
 mod beside;
 mod file_words;
+mod heard;
 mod link_request;
 mod opening;
 mod piece;

@@ -9,6 +9,7 @@ ghost use Rattle.s2_record_files.specs.Failed.{records_failed};
 
 use crate::beside::Beside;
 use crate::file_words::{FileWords, file_words};
+use crate::heard::Heard;
 use crate::opening::{Ends, open_ends};
 use crate::piece::{end_of, end_piece, symbols_of};
 use crate::recorded::{Recorded, open_recorded};
@@ -26,6 +27,7 @@ use s2_resync::LeftOut;
 use s2_stitching::stitch_command;
 use s2_words::{DemodArguments, ModArguments, Progress, RunArguments, Seeds, StitchArguments};
 use std::alloc::Global;
+use std::mem;
 use std::time::Clock;
 
 /// A request that works on a link: its words, and its options in the types of the command.
@@ -102,7 +104,7 @@ fn conclude_packets<R: Disk + AllocGlobal>(
     exit_after(left_out, exit)
 }
 
-/// Runs the command of a request that receives symbols. `beside` has the records and the symbols of `stitch`.
+/// Runs the command of a request that receives symbols. The meter knows of each frame. `beside` has the records and the symbols of `stitch`.
 fn run_receiver<
     B: CountedRead + Drop,
     I: CountedRead,
@@ -110,6 +112,7 @@ fn run_receiver<
     F: Output,
     O: CountedWrite,
     E: CountedWrite,
+    M: Meter,
 >(
     setup: LinkSetup,
     options: &DemodOptions,
@@ -119,6 +122,7 @@ fn run_receiver<
     records: &mut RecordFiles<F>,
     console: &mut Console<O, E>,
     notes: &mut E,
+    meter: &M,
     alloc: Global,
 ) -> Exit
     requires files { CanStart files.old }
@@ -130,30 +134,17 @@ fn run_receiver<
     ensures whole { result ≢ Exit.Fault → CanCount console.new.output_failed }
     ensures few { records_failed F.count records.new ≤ 1 }
 {
-    match beside.into_files() {
+    let received = mem::replace(&mut records.received, (None, (None, (None, (None, None)))));
+    let mut sinks = (received, Heard::new(meter));
+    let exit = match beside.into_files() {
         Some((pieces, copy, seed)) => stitch_command(
-            alloc,
-            setup,
-            options,
-            certified,
-            seed,
-            files,
-            pieces,
-            copy,
-            &mut records.received,
-            console,
-            notes,
+            alloc, setup, options, certified, seed, files, pieces, copy, &mut sinks, console, notes,
         ),
-        None => demod_command(
-            alloc,
-            setup,
-            options,
-            files,
-            &mut records.received,
-            console,
-            notes,
-        ),
-    }
+        None => demod_command(alloc, setup, options, files, &mut sinks, console, notes),
+    };
+    let (received, _) = sinks;
+    records.received = received;
+    exit
 }
 
 /// Runs the command of a request on its opened files. `notes` takes the notes before a report.
@@ -164,6 +155,7 @@ fn run_on_files<
     F: Output,
     O: CountedWrite,
     E: CountedWrite,
+    M: Meter,
 >(
     setup: LinkSetup,
     request: LinkRequest<'_, '_>,
@@ -172,6 +164,7 @@ fn run_on_files<
     records: &mut RecordFiles<F>,
     console: &mut Console<O, E>,
     notes: &mut E,
+    meter: &M,
     alloc: Global,
 ) -> Exit
     requires files { CanStart files.old }
@@ -194,7 +187,7 @@ fn run_on_files<
             notes,
         ),
         LinkRequest::Demod(_, options) => run_receiver(
-            setup, options, false, files, beside, records, console, notes, alloc,
+            setup, options, false, files, beside, records, console, notes, meter, alloc,
         ),
         LinkRequest::Run(_, options) => {
             run_command(
@@ -210,7 +203,7 @@ fn run_on_files<
         LinkRequest::Stitch(words, options) => {
             let certified = words.demod.records.certificates.is_some();
             run_receiver(
-                setup, options, certified, files, beside, records, console, notes, alloc,
+                setup, options, certified, files, beside, records, console, notes, meter, alloc,
             )
         }
     }
@@ -279,6 +272,7 @@ fn run_opened<
         &mut recorded.records,
         console,
         notes,
+        meter,
         alloc,
     );
     let (left_out, begun) = (files.from.left_out(), files.to.is_begun());

@@ -1,5 +1,10 @@
 -- What is sent arrives.
 use Rattle.s2_modem.proofs.Names.{searched_again, ⊤, nat_eq, if◌then◌else◌, ◌≡◌, ℕ, ◌+◌, ◌*◌, IsTrue, Bool, true, false, List, [], ◌∷◌, ◌++◌, All, Option, Some, None, length, length-map, map, refl, sym, ap, ap₂, ◌∙◌, subst, append_assoc, append-nil, length-append, arith, All-nil, All-cons, Appends, Consumes, IsAtEnd, Mode, IsMode, HasCodeSizes, symbols_of, symbol_bytes, bytes_of_symbols, Symbol, field_bytes, stream_of, fields_of, dummy_frame, Link, sent_behind, Transmitter, is_due, AreUnits, AreCodewords, frame, ended, no_gap, met_from, Rules, Standing, at_start, with_gap, after, after_all, all_packets, all_lines, frame_line, end_line, Piece, coded, dummy, joined, stream_symbols, AreReceived, frames_at, SkippedNone, Report, Totals, is_certified, Delivered, Outcome, gives, all_met, after-append, packets-append, lines-append, symbols-append, AreBytes, ReceivesAll, certified_lines, run_places, totals_of, sent_symbols, places_in, sent_places, max_symbols, ArrivalLaw, link_rules, FramePlace, Figures, IsCodeword, code_of, suc, saturated, refused_in, energy_over, sums_over, clean_energy, clean_figures_by}
+use Rattle.s2_check.specs.declared.verdict.Verdict.{Verdict}
+use Rattle.s2_check.specs.declared.verdict.Verdict.TheVariants as verdicts
+use Rattle.s2_receive.specs.Receiving.{styled}
+use Rattle.s2_report.specs.Figures.{certified_in}
+use Rattle.s2_report.specs.Styles.{plain}
 use Rattle.s2_modem.proofs.SymbolsBack.{frame_read, dummy_read}
 use Rattle.s2_modem.proofs.ByteStreams.{AreFields, front_fields}
 use Rattle.s2_modem.proofs.CleanFrames.{receives_all_law}
@@ -28,10 +33,11 @@ AllCoded holds [] = ⊤
 AllCoded holds (coded symbols ∷ pieces) = holds symbols × AllCoded holds pieces
 AllCoded holds (dummy symbols ∷ pieces) = AllCoded holds pieces
 
--- a frame that is delivered with no place changed, and whose header has this energy
+-- a certified frame that is delivered with no place changed, and whose header has this energy
 record IsMeasured (rules : Rules) (energy : ℕ) (symbols : List Symbol) : Type 0 where
   outcome : (rules.decide symbols).outcome ≡ Delivered 0
   energy_is : (rules.decide symbols).energy ≡ energy
+  verdict : IsTrue (is_certified (rules.decide symbols).verdict)
 
 -- the codewords of units
 abbrev codewords_in : (t : Transmitter) (number at : ℕ) (fields units : List (List ℕ)) → AreUnits t number at fields units → List (List Bool)
@@ -97,7 +103,7 @@ module _ (t : Transmitter) (rules : Rules) (receives_all : ReceivesAll t.link ru
         pieces = coded s ∷ more.pieces;
         are = λ b. (one.0 b, more.are true);
         certified = (record { verdict = one.1.verdict; outcome = one.1.delivered.outcome }, more.certified);
-        measured = (record { outcome = one.1.delivered.outcome; energy_is = seen.1 }, more.measured);
+        measured = (record { outcome = one.1.delivered.outcome; energy_is = seen.1; verdict = one.1.verdict }, more.measured);
         places_are = λ place i. record { at = place; verdict = one.2 i; figures = seen.0 i; turn = seen.2 i } ∷ more.places_are (place + rules.size) i;
         symbols = λ rest.
             ap (λ l. symbols_of ((l ++ joined us) ++ rest)) (unit.spelt ∙ ap (λ l. l ++ behind) unit.is_frame.spelt)
@@ -107,7 +113,7 @@ module _ (t : Transmitter) (rules : Rules) (receives_all : ReceivesAll t.link ru
 
 -- their lines, and what they are called
 pub called : (rules : Rules) (at : ℕ) (pieces : List Piece) (s : Standing) → AllCoded (IsCertifiedFrame rules) pieces
-    → (all_lines rules s (frames_at rules.size at pieces) ≡ certified_lines s.totals.frames (places_in rules at pieces))
+    → (all_lines (styled plain rules) s (frames_at rules.size at pieces) ≡ certified_lines s.totals.frames (places_in rules at pieces))
     × All (λ (place : FramePlace). IsTrue (is_certified place.verdict)) (places_in rules at pieces)
 called rules at [] s c = (refl, All-nil (λ (place : FramePlace). IsTrue (is_certified place.verdict)))
 called rules at (coded l ∷ ps) s c =
@@ -126,10 +132,21 @@ record AreMeasured (energy : ℕ) (places : List FramePlace) (before now : Total
   refused : before.refused ≡ 0 → now.refused ≡ 0
   energies : now.energy ≡ energy_over energy before.energy (length places)
   sums : now.sums ≡ sums_over places before.sums
+  certified : now.certified ≡ before.certified + length places
+
+-- a delivered frame with a certificate counts as one
+certified_once : (outcome : Outcome) (verdict : Verdict) → outcome ≡ Delivered 0 → IsTrue (is_certified verdict) → certified_in outcome verdict ≡ 1
+certified_once outcome verdict is sure = ap (λ o. certified_in o verdict) is ∙ by verdict sure
+  where
+    by : (v : Verdict) → IsTrue (is_certified v) → certified_in (Delivered 0) v ≡ 1
+    by verdicts.Sole sure = refl
+    by verdicts.MostLikely sure = refl
+    by verdicts.Parity sure = absurd sure
+    by verdicts.Broken sure = absurd sure
 
 measured_all : (rules : Rules) (energy at : ℕ) (pieces : List Piece) (s : Standing) → AllCoded (IsMeasured rules energy) pieces
     → AreMeasured energy (places_in rules at pieces) s.totals (after_all rules s (frames_at rules.size at pieces)).totals
-measured_all rules energy at [] s m = record { refused = λ none. none; energies = refl; sums = refl }
+measured_all rules energy at [] s m = record { refused = λ none. none; energies = refl; sums = refl; certified = omega arith }
 measured_all rules energy at (coded l ∷ ps) s m =
     let more = measured_all rules energy (at + rules.size) ps (after rules s (frame at no_gap l)) m.1 in
     let n = length (places_in rules (at + rules.size) ps) in
@@ -137,6 +154,7 @@ measured_all rules energy at (coded l ∷ ps) s m =
       refused = λ none. more.refused (ap₂ (λ (r : ℕ) (o : Outcome). saturated r (refused_in o)) none m.0.outcome);
       energies = more.energies ∙ ap (λ e. energy_over energy (saturated s.totals.energy e) n) m.0.energy_is;
       sums = more.sums;
+      certified = omega (arith, more.certified, certified_once (rules.decide l).outcome (rules.decide l).verdict m.0.outcome m.0.verdict);
     }
 measured_all rules energy at (dummy l ∷ ps) s m = measured_all rules energy (at + 3330) ps s m
 
@@ -181,8 +199,9 @@ arrival_law m valid sizes t tuning count_old count_new source written counts tot
     let n : length (places_in rules 0 h.pieces) ≡ counts.frames =
     ap length places ∙ length-run_places (map figures codewords) rules.size t.dummy_every 1 0 ∙ length-map codewords figures ∙ count_codewords t 1 0 runs.fields runs.units runs.are_units ∙ framed in
     let sums = measured_all rules clean_energy 0 h.pieces at_start h.measured in
+    let certified : end.totals.certified ≡ counts.frames = omega (arith, sums.certified, n) in
     let counted : last ≡ totals_of (sent_places t tuning codewords) clean_energy counts =
-    λ i. record { frames = (g.frames_count ∙ framed) i; delivered = (g.delivered ∙ framed) i; packets = (g.packets_count ∙ ap length all ∙ sym runs.outcome.3) i; bad = g.bad i; incomplete = g.incomplete_none i; cut = g.cut i; skipped = over.0 i; places = over.1 i; first = over.2 i; refused = sums.refused refl i; energy = (sums.energies ∙ ap (energy_over clean_energy 0) n) i; sums = (sums.sums ∙ ap (λ p. sums_over p None) places) i } in
+    λ i. record { frames = (g.frames_count ∙ framed) i; delivered = (g.delivered ∙ framed) i; certified = certified i; packets = (g.packets_count ∙ ap length all ∙ sym runs.outcome.3) i; bad = g.bad i; incomplete = g.incomplete_none i; cut = g.cut i; skipped = over.0 i; places = over.1 i; first = over.2 i; refused = sums.refused refl i; energy = (sums.energies ∙ ap (energy_over clean_energy 0) n) i; sums = (sums.sums ∙ ap (λ p. sums_over p None) places) i } in
     let totals_are = got.totals_are ∙ ap (λ (x : Standing). x.totals) (processed.standing ∙ ap (after_all rules at_start) met_is ∙ after-append rules just (ended no_gap ∷ []) at_start) in
     let packets : all_packets rules at_start met ≡ source =
     ap (all_packets rules at_start) met_is ∙ packets-append rules just (ended no_gap ∷ []) at_start ∙ append-nil (all_packets rules at_start just) ∙ g.written ∙ ap joined all ∙ sym from in

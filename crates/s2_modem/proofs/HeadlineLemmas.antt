@@ -1,5 +1,8 @@
 -- The headline holds.
 use Rattle.s2_modem.proofs.Names.{searched_again, ◌≡◌, ℕ, zero, suc, ◌+◌, ◌<◌, ◌≤◌, ◌⊎◌, IsTrue, Bool, true, false, cond, List, [], ◌∷◌, ◌++◌, All, Option, Some, None, length, map, range_with_len, count_by, sum_by-cons, inl, inr, refl, sym, ap, ◌∙◌, subst, append_assoc, append-nil, Result, Ok, Err, ⊤, nat_lt, lt-leb, flat_map, All-nil, All-cons, All-weaker, arith, Mode, IsMode, HasCodeSizes, symbols_of, Streams, Symbol, code_of, header_at, field_bytes, IsDivisor, Found, Tuning, Link, IsLinkOf, Gap, Report, frame_line, cut_line, end_line, Met, frame, cut, ended, no_gap, extended, begins, by_found, met_from, Rules, State, Standing, at_start, at_end, with_gap, report_of, after, after_all, all_packets, all_lines, begun, RunsOut, Piece, joined, stream_symbols, SpellSymbols, IsReceived, frames_at, gives, all_joined, all_met, packets-append, frame_soft, IsAsLikely, IsCorrected, link_rules, AllAsLikely, TrueReports, Receiver, rules_for, seen, IsSent, is_certified, Delivered, frame_from, decision_from, frame_decision, is_delivered, stands, IsFrameAt, IsCutAt, report_at, IsReadable, Arriving, closed_packets, wrong_bits, Headline, CallsLaw, KeepsHeadline, FramePromises, IsHeadline, RunsHeadline, RunAnswers, RunAnswersWith, Taking, ReceivesTo, Received, Totals, StreamFault, max_symbols}
+use Rattle.s2_receive.specs.Receiving.{styled}
+use Rattle.s2_report.specs.Styles.{plain}
+use Rattle.s2_report.specs.declared.style.Style.{Style}
 use Rattle.s2_modem.proofs.Names.founds
 use Rattle.s2_receive.specs.Calls.{call_lines, call_packets, in_memory, last_state}
 use Rattle.s2_receive.proofs.CallLemmas.{calls_are}
@@ -204,7 +207,7 @@ module _ (m : Mode) (valid : IsMode m) (sizes : HasCodeSizes m) (link : Link) (t
 pub calls_law : (m : Mode) → IsMode m → HasCodeSizes m → CallsLaw m
 calls_law m valid sizes r bytes calls linked ro known fresh all =
     let packets = call_packets calls in
-    let report = call_lines calls in
+    let report = call_lines plain calls in
     let end = last_state r.state calls in
     let (left, out) = calls_are (seen r) bytes calls all in
     let run = subst (λ (s : State). RunsOut (rules_for r) s end (in_memory bytes [] []) (in_memory left packets report)) fresh out in
@@ -224,11 +227,15 @@ run_headline v w followed new before behind (Ok received) is same all run =
     (λ fresh. all v.limit new before behind (subst (λ (x : Rules). RunsOut x begun new before behind) same (subst (λ (s : State). RunsOut followed s new before behind) fresh run.0.runs_out)))
 
 -- a run with a sink, of a receiver in its own words
-pub runs_with : {S : Type 0} (takes fails : Taking S) (v w : Receiver) (followed : Rules) (new : State) (sink_old sink_new : S) (before behind : Streams) (result : Result Received StreamFault) → v ≡ w → followed ≡ rules_for v
-    → RunAnswersWith takes fails followed v.state new sink_old sink_new before behind result → RunAnswersWith takes fails (rules_for w) w.state new sink_old sink_new before behind result
-runs_with takes fails v w followed new sink_old sink_new before behind result is same run =
-    subst (λ (x : Receiver). RunAnswersWith takes fails (rules_for x) x.state new sink_old sink_new before behind result) is
-    (subst (λ (x : Rules). RunAnswersWith takes fails x v.state new sink_old sink_new before behind result) same run)
+pub runs_with : {S : Type 0} (style : Style) (takes fails : Taking S) (v w : Receiver) (followed : Rules) (new : State) (sink_old sink_new : S) (before behind : Streams) (result : Result Received StreamFault) → v ≡ w → followed ≡ rules_for v
+    → RunAnswersWith takes fails (styled style followed) v.state new sink_old sink_new before behind result → RunAnswersWith takes fails (styled style (rules_for w)) w.state new sink_old sink_new before behind result
+runs_with style takes fails v w followed new sink_old sink_new before behind result is same run =
+    subst (λ (x : Receiver). RunAnswersWith takes fails (styled style (rules_for x)) x.state new sink_old sink_new before behind result) is
+    (subst (λ (x : Rules). RunAnswersWith takes fails (styled style x) v.state new sink_old sink_new before behind result) same run)
+
+-- the plain style is that of its rules
+pub styled_same : (style : Style) (v : Receiver) (followed : Rules) → style ≡ plain → followed ≡ rules_for v → styled style followed ≡ rules_for v
+styled_same style v followed is same = ap (λ s. styled s followed) is ∙ ap (styled plain) same
 
 -- its headline
 pub run_with_headline : {S : Type 0} (takes fails : Taking S) (v w : Receiver) (followed : Rules) (new : State) (sink_old sink_new : S) (before behind : Streams) (result : Result Received StreamFault) → v ≡ w → followed ≡ rules_for v

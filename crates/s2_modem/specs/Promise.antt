@@ -2,6 +2,7 @@
 -- the report that it writes. It is the clause `headline` of `demodulate`, and of `Receiver::run` for a new receiver and
 -- a reader whose bytes are known, if the call returns no fault. `laws::headline` says it of a caller that takes all
 -- steps one by one, and `laws::calls` of a caller of `Receiver::advance`.
+use Rattle.s2_report.specs.Styles.{plain}
 use Rattle.std.specs.Prelude.{◌≡◌, ℕ, zero, suc, ◌+◌, ◌-◌, ◌<◌, ◌≤◌, ◌⊎◌, IsTrue, Bool, true, false, nat_le, if◌then◌else◌, List, [], ◌∷◌, ◌++◌, All, length, map, take, drop, count_by, None, IfSome, Result, OnOk}
 use Rattle.std.specs.List.{flat_map, range_with_len}
 use Rattle.std.specs.Io.KnownBytes.{Appends}
@@ -213,8 +214,8 @@ RunsHeadline r before behind result = OnOk result (r.state ≡ begun → IsHeadl
 -- headline holds of the packets and of the lines of their steps
 pub record CallsArrive (r : Receiver) (bytes : List ℕ) (calls : List Call) : Type 0 where
   pub totals : Totals
-  pub received : ReceivesTotals (rules_for r) (in_memory bytes [] []) (in_memory [] (call_packets calls) (call_lines calls)) totals
-  pub headline : Headline r.link r.tuning (symbols_of bytes) (call_packets calls) (call_lines calls)
+  pub received : ReceivesTotals (rules_for r) (in_memory bytes [] []) (in_memory [] (call_packets calls) (call_lines plain calls)) totals
+  pub headline : Headline r.link r.tuning (symbols_of bytes) (call_packets calls) (call_lines plain calls)
 
 -- it does for each new receiver of a link, with each divisor
 abbrev pub CallsLaw : Mode → Type 0

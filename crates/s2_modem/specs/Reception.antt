@@ -12,11 +12,13 @@ use Rattle.s2_check.specs.Views.{View}
 use Rattle.s2_check.specs.declared.verdict.Verdict.{Verdict}
 use Rattle.s2_check.specs.declared.verdict.Verdict.TheVariants.{Sole}
 use Rattle.s2_receive.specs.Decider.{IsSaidBy}
-use Rattle.s2_receive.specs.Receiving.{Rules, State, Decision, begun, is_at_frame, is_lost}
+use Rattle.s2_receive.specs.Receiving.{Rules, State, Decision, begun, is_at_frame, is_lost, styled}
 use Rattle.s2_receive.specs.Answers.{Seen, RunAnswers, ReceivesTo, BreaksIn}
 use Rattle.s2_receive.specs.Sinks.{Taking, RunAnswersWith}
 use Rattle.s2_mode.specs.declared.stream_fault.StreamFault.{StreamFault}
 use Rattle.s2_receive.specs.declared.report.Received.{Received}
+use Rattle.s2_report.specs.Styles.{plain}
+use Rattle.s2_report.specs.declared.style.Style.{Style}
 use Rattle.s2_report.specs.declared.totals.Totals.{Totals}
 use Rattle.s2_receive.specs.Limits.{max_symbols}
 use Rattle.s2_link.specs.declared.setup.Setup.{Setup}
@@ -44,9 +46,9 @@ abbrev pub sought_by : Link → Tuning → Sought
 sought_by link tuning = sought_of link.setup.mode tuning.turns
 
 -- a link's rules: its header, its frame size, whether lost frames are searched again, the decision on its frames, and the limit
--- of symbols
+-- of symbols; each frame has a line
 abbrev pub link_rules : Link → Tuning → ℕ → Rules
-link_rules link tuning limit = record { finds = found_as (sought_by link tuning) tuning.max_header_errors; size = symbols_in link.setup.mode; resync = tuning.resync; decide = frame_decision link tuning; limit = limit }
+link_rules link tuning limit = record { finds = found_as (sought_by link tuning) tuning.max_header_errors; size = symbols_in link.setup.mode; resync = tuning.resync; decide = frame_decision link tuning; limit = limit; style = plain }
 
 -- the frames that are searched again: lost ones, if the tuning says so
 abbrev pub is_searched_again : Link → Tuning → List Symbol → Bool
@@ -73,11 +75,11 @@ seen r = record { rules = rules_for r; state = r.state; last = r.last; packets =
 abbrev pub RunsReceiver : (old new : Receiver) → (before behind : Streams) → Result Received StreamFault → Type 0
 RunsReceiver old new before behind result = RunAnswers (rules_for old) old.state new.state before behind result
 
--- A run with a sink, by what a call does to the sink if it takes a frame, and if it fails. The result is that of a run,
+-- A run with this style of the report and a sink, by what a call does to the sink if it takes a frame, and if it fails. The result is that of a run,
 -- and the sink took the frames that were met; or the sink failed to take a frame, and nothing of this frame was written
-abbrev pub RunsReceiverWith : {S : Type 0} → (takes fails : Taking S) → (old new : Receiver) → (sink_old sink_new : S) → (before behind : Streams) → Result Received StreamFault → Type 0
-RunsReceiverWith takes fails old new sink_old sink_new before behind result =
-    RunAnswersWith takes fails (rules_for old) old.state new.state sink_old sink_new before behind result
+abbrev pub RunsReceiverWith : {S : Type 0} → Style → (takes fails : Taking S) → (old new : Receiver) → (sink_old sink_new : S) → (before behind : Streams) → Result Received StreamFault → Type 0
+RunsReceiverWith style takes fails old new sink_old sink_new before behind result =
+    RunAnswersWith takes fails (styled style (rules_for old)) old.state new.state sink_old sink_new before behind result
 
 -- the certificate that it shows: that of the last decision, if the last step came to that frame; else none
 abbrev pub certificate_of : Receiver → Option View

@@ -12,6 +12,7 @@ ghost use Rattle.s2_receive.specs.Sinks.{OnlyFaultsWith};
 ghost use Rattle.s2_tuning.specs.Tuning.{tuning_of};
 ghost use Rattle.s2_modem.specs.Reports.{IsUndecided};
 ghost use Rattle.s2_modem.specs.DeciderState.{decides};
+ghost use Rattle.s2_report.specs.Styles.{plain};
 ghost use Rattle.s2_modem.specs.Reception.{IsNew, Makes, RunsReceiver, RunsReceiverWith, certificate_of, link_rules, rules_for, seen};
 ghost use Rattle.s2_modem.specs.Promise.{KeepsHeadline, RunsHeadline};
 
@@ -22,7 +23,7 @@ use s2_link::{Link, LinkSetup, Setup, SetupFault};
 use s2_matrix::Matrix;
 use s2_mode::{CountedRead, CountedWrite, StreamFault};
 use s2_receive::{Fault, MAX_SYMBOLS, Received, Sink, receive_all, receive_with};
-use s2_report::{Step, Totals};
+use s2_report::{Step, Style, Totals};
 use s2_tuning::Tuning;
 use std::alloc::{AllocError, Global};
 use std::marker::Model;
@@ -250,7 +251,7 @@ impl<'a> Receiver<'a> {
         receive_all(&mut self.inner, reader, packets, report)
     }
 
-    /// As [`Receiver::run`], with a sink. The sink takes each frame that is met, in order, before its packets and its line
+    /// As [`Receiver::run`], with the style of the report and a sink. The headline is stated for the plain style. The sink takes each frame that is met, in order, before its packets and its line
     /// are written, with the frame's position and whether symbols were skipped before it. It takes no dummy frame and no cut
     /// frame. It changes nothing else in the run: if it does not fail, packets, report and result are those of
     /// [`Receiver::run`].
@@ -261,6 +262,7 @@ impl<'a> Receiver<'a> {
     /// in the report. Everything met before is written whole.
     pub fn run_with<K: Sink, R: CountedRead, P: CountedWrite, W: CountedWrite>(
         &mut self,
+        style: Style,
         reader: &mut R,
         sink: &mut K,
         packets: &mut P,
@@ -271,19 +273,19 @@ impl<'a> Receiver<'a> {
         requires packets { CanCount (P.count packets.old) }
         requires report { CanCount (W.count report.old) }
         requires live { IsLive self.old.state.phase }
-        ensures runs { Between (RunsReceiverWith K.takes K.fails self.old self.new sink.old sink.new) R.remaining R.count
+        ensures runs { Between (RunsReceiverWith style K.takes K.fails self.old self.new sink.old sink.new) R.remaining R.count
             P.contents P.count W.contents W.count reader.old packets.old report.old reader.new packets.new report.new result }
         ensures stopped { OnErr result (self.new.state.phase ≡ phases.Failed) }
         ensures uncertified { certificate_of self.new ≡ None }
         ensures bounded { taken self.new.state ≤ self.old.limit }
         ensures headline { let at = streams_by R.remaining R.count P.contents P.count W.contents W.count in
-            RunsHeadline self.old (at reader.old packets.old report.old) (at reader.new packets.new report.new) result }
+            style ≡ plain → RunsHeadline self.old (at reader.old packets.old report.old) (at reader.new packets.new report.new) result }
         ensures counts { Between (OnlyFaultsWith (K.count sink.old) (K.count sink.new)) R.remaining R.count
             P.contents P.count W.contents W.count reader.old packets.old report.old reader.new packets.new report.new result }
         ensures same { (self.new.link ≡ self.old.link) × (self.new.tuning ≡ self.old.tuning)
             × (self.new.limit ≡ self.old.limit) }
     {
-        receive_with(&mut self.inner, reader, sink, packets, report)
+        receive_with(&mut self.inner, style, reader, sink, packets, report)
     }
 
     /// The soft values of the codeword of the last frame. They are kept after a cut frame, the end and a failed

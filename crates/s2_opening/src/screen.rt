@@ -2,9 +2,7 @@
 ghost use Rattle.std.specs.Prelude.{◌≡◌};
 ghost use Rattle.s2_io.specs.Screens.{CanNote};
 
-use crate::moved::Moved;
 use crate::noting::{Named, Noting};
-use crate::thinned::Thinned;
 use either::{Either, Left, Right};
 use s2_about::{Hashed, SharedSum};
 use s2_io::{Clearing, Console, Disk, Explaining, Pace, Role, Show, StandardStreams, Terminal};
@@ -20,18 +18,15 @@ type NotedReport<'t, 'r, R> = Noting<Explaining<Report<R>>, Named<'t, 'r, 't, R>
 
 /// A command's report and its errors.
 pub type Screen<'h, 't, 'r, R> = Console<
-    Clearing<'t, 'r, Thinned<Moved<Hashed<'h, NotedReport<'t, 'r, R>>>>, R>,
+    Clearing<'t, 'r, Hashed<'h, NotedReport<'t, 'r, R>>, R>,
     Errors<'t, 'r, R>,
 >;
 
-/// The output of a command. Its report goes to standard error if one of its files takes standard output. Of `every`
-/// frames only one has a line there; if this is 0, each has one. `from` is added to each position. The bytes of the report are
+/// The output of a command. Its report goes to standard error if one of its files takes standard output. The bytes of the report are
 /// hashed if there is a sum.
 pub fn screen_beside<'h, 't, 'r, R: Disk + AllocGlobal>(
     terminal: &'t Terminal<'r, R>,
     taken: bool,
-    every: u32,
-    from: u64,
     sum: Option<&'h SharedSum>,
 ) -> Screen<'h, 't, 'r, R>
     ensures { CanNote result }
@@ -43,9 +38,7 @@ pub fn screen_beside<'h, 't, 'r, R: Disk + AllocGlobal>(
     };
     let name = Named::new(terminal, Role::Output, "-");
     let report = Hashed::new(Noting::new(Explaining::new(report), name), sum);
-    let report = Thinned::new(Moved::new(report, from), every);
-    let output = Clearing::reporting(report, terminal);
-    Console::new(output, errors_of(terminal))
+    Console::new(Clearing::new(report, terminal), errors_of(terminal))
 }
 
 /// Shows the progress of a command, if it is requested.

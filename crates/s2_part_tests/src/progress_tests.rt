@@ -156,6 +156,8 @@ impl Meter for Tally {
     fn gave(&self, bytes: usize) {
         self.bytes.set(self.bytes.get().wrapping_add(bytes));
     }
+
+    fn heard(&self) {}
 }
 
 /// A reader and an output whose calls fail.

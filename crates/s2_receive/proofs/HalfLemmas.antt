@@ -30,6 +30,7 @@ begins_so m resync limit most = record {
     incomplete = omega arith;
     skipped = omega arith;
     places = omega arith;
+    certified = omega arith;
   };
   counts = λ again. tt;
   held = tt;
@@ -47,7 +48,7 @@ limited m resync limit symbols w t sound within most = record {
   few = sound.few;
   fits = λ again.
       (let f = sound.fits again in
-      record { most = most; place = within; frames = f.frames; delivered = f.delivered; packets = f.packets; incomplete = f.incomplete; skipped = f.skipped; places = f.places });
+      record { most = most; place = within; frames = f.frames; delivered = f.delivered; packets = f.packets; incomplete = f.incomplete; skipped = f.skipped; places = f.places; certified = f.certified });
   counts = sound.counts;
   held = tt;
   place = within;

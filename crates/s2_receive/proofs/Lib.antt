@@ -10,6 +10,7 @@ pub mod HalfLemmas
 pub mod OwnRuns
 pub mod RunsSoFar
 pub mod ReadLemmas
+pub mod StyleLemmas
 pub mod NextLemmas
 pub mod RunLemmas
 pub mod CallLemmas

@@ -30,14 +30,16 @@ pub use Rattle.s2_bbframe.proofs.RoundTrips.{round_trip}
 pub use Rattle.s2_bbframe.proofs.Runs.{length_closed}
 pub use Rattle.s2_bbframe.specs.DataStream.{IsPacket, closed_body, stream_of, cuts, fields_of, header_at}
 pub use Rattle.s2_bbframe.specs.Joining.{Placed, closed_in, gap, Joined, step, still, begun_body, incomplete_in, incomplete, and_then, joining, field, events_from}
-pub use Rattle.s2_receive.specs.Answers.{RunAnswers, BreaksIn, OnFrame, IsSame, KeepsLast, KeepsDecision, Reads, Seen, Finds, FindsNone, NextAnswers, bytes_by, seen_by}
+pub use Rattle.s2_receive.specs.Answers.{RunAnswers, BreaksIn, OnFrame, IsSame, KeepsLast, KeepsDecision, Reads, Seen, Finds, FindsNone, NextAnswers, bytes_by, printing, seen_by}
 pub use Rattle.s2_receive.specs.Faults.{fault_of}
 pub use Rattle.s2_receive.specs.Synchronization.{Window, Synchronizer, window_at, window_of, window_after, passed_by, inside_of, reached, room_for, wanted, met_within, met_then, Follows, MayFollow, Takes, HoldsAfter, HoldsFor, HoldsFrame, HoldsLast, IsInFront, RestOfLost, Scans, NextCoded, Candidate, IsBehind, met_of, found_last, NoHeader}
 pub use Rattle.s2_receive.specs.Laws.{joined, met_events, events_of, IsJoined, Piece, coded, dummy, stream_symbols, AreReceived, frames_at, SkippedNone, Gives, FrontLaw, SpellSymbols, GoOn, HasGiven, SameRunLaw, SameStepLaw, NoneBegins, SearchLaw, IsResumed, ResumeLaw, behind_at}
 pub use Rattle.s2_receive.specs.Meeting.{Met, frame, cut, ended, no_gap, extended, begins, by_found, is_followed, resumes, resumed, rest_of, met_from, is_gap}
-pub use Rattle.s2_receive.specs.Receiving.{Rules, Standing, after, all_packets, packets_of, delivery, is_none, is_lost, searched_again, room_in, joined_after, at_start, after_all, count_of, State, taken, left_by, left_known, met_left, left_in, asked, asked_by, YieldsMet, EndsAt, Steps, Waits, YieldsSymbols, Reaches, Meets, EndsBehind, StopsShort, Stops, Processed, StepAnswers, IsLive, all_lines, line_of, step_of, is_certified_step, are_all_certified, rank, RunsTo, BreaksOff, BreaksAfter, phase_after, Receiver, Decision, Handles, MetFrame, IsDecided, IsDecidedBy, begun, is_at_frame, report_for, rules_of, frame_totals, counts_after, with_gap, state_of}
+pub use Rattle.s2_receive.specs.Receiving.{Rules, styled, Standing, after, all_packets, packets_of, delivery, is_none, is_lost, searched_again, room_in, joined_after, at_start, after_all, count_of, State, taken, left_by, left_known, met_left, left_in, asked, asked_by, YieldsMet, EndsAt, Steps, Waits, YieldsSymbols, Reaches, Meets, EndsBehind, StopsShort, Stops, Processed, StepAnswers, IsLive, all_lines, line_of, step_of, is_certified_step, are_all_certified, rank, RunsTo, BreaksOff, BreaksAfter, phase_after, Receiver, Decision, Handles, MetFrame, IsDecided, IsDecidedBy, begun, is_at_frame, report_for, rules_of, frame_totals, counts_after, with_gap, state_of}
 pub use Rattle.s2_receive.specs.Decider.{delivered_of}
 pub use Rattle.s2_report.specs.ReportLines.{frame_line, step_line}
+pub use Rattle.s2_report.specs.Styles.{plain, step_text}
+pub use Rattle.s2_report.specs.declared.style.Style.{Style}
 pub use Rattle.s2_receive.specs.declared.sinks.FrameStart.{FrameStart}
 pub use Rattle.s2_receive.specs.Sinks.{Taking, TakesFrames, TakesStep, FailsStep, frames_of, IsNotTaken, BreaksTaken, StepAnswersWith, RunAnswersWith, NextWith, OnlyFailedWith}
 pub use Rattle.s2_receive.specs.ReceiverCore.{FailsIn, Fits, CanCountIn}

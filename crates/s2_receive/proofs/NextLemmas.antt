@@ -1,5 +1,5 @@
 -- One step of a receiver, from a reader to two writers, and to a sink.
-use Rattle.s2_receive.proofs.Names.{FrameStart, room_in, ◌≡◌, ◌≤◌, ◌⊎◌, inl, inr, ℕ, [], ◌∷◌, Some, Result, Ok, Err, refl, sym, ap, ◌∙◌, subst, append-nil, Appends, Streams, NoneFailed, OneFailed, Met, frame, cut, ended, FailsIn, Rules, State, Decision, IsDecided, IsLive, Handles, EndsAt, Seen, Finds, FindsNone, KeepsLast, KeepsDecision, NextAnswers, Processed, MetFrame, taken, packets_of, line_of, report_for, step_of, step_line, Fault, Step, Report, ◌+◌, Bool, true, false, nat_lt, if◌then◌else◌, List, arith, lt-ltb, le-ltb, is_gap, Taking, TakesFrames, TakesStep, FailsStep, frames_of, IsNotTaken, NextWith}
+use Rattle.s2_receive.proofs.Names.{FrameStart, room_in, ◌≡◌, ◌≤◌, ◌⊎◌, inl, inr, ℕ, [], ◌∷◌, Some, Result, Ok, Err, refl, sym, ap, ◌∙◌, subst, append-nil, Appends, Streams, NoneFailed, OneFailed, Met, frame, cut, ended, FailsIn, Rules, State, Decision, IsDecided, IsLive, Handles, EndsAt, Seen, Finds, FindsNone, KeepsLast, KeepsDecision, NextAnswers, Processed, MetFrame, taken, packets_of, line_of, report_for, step_of, step_text, Fault, Step, Report, ◌+◌, Bool, true, false, nat_lt, if◌then◌else◌, List, arith, lt-ltb, le-ltb, is_gap, Taking, TakesFrames, TakesStep, FailsStep, frames_of, IsNotTaken, NextWith}
 use Rattle.s2_receive.proofs.Names.faults
 use Rattle.s2_receive.proofs.Names.phases
 use Rattle.s2_receive.proofs.Names.steps
@@ -45,12 +45,12 @@ step_same : {step : Step} {report : Report} → answer step ≡ answer (steps.Fr
 step_same is = cc
 
 module _ (old mid : Seen) (before behind : Streams) (live : IsLive old.state.phase) where
-  line_is : {met : Met} {step : Step} → Handles old.rules old.state mid.state met mid.packets step → step_line step mid.state.standing.totals ≡ line_of old.rules old.state.standing met
-  line_is {met} {step} handles = ap (λ s. step_line s mid.state.standing.totals) handles.step_is ∙ ap (λ s. step_line (step_of old.rules old.state.standing met) s.totals) handles.standing
+  line_is : {met : Met} {step : Step} → Handles old.rules old.state mid.state met mid.packets step → step_text old.rules.style step mid.state.standing.totals ≡ line_of old.rules old.state.standing met
+  line_is {met} {step} handles = ap (λ s. step_text old.rules.style s mid.state.standing.totals) handles.step_is ∙ ap (λ s. step_text old.rules.style (step_of old.rules old.state.standing met) s.totals) handles.standing
 
   -- it was found, and written
   wrote : (step : Step) → Finds old mid before.taken behind.taken before.reads behind.reads (Ok step) → Appends before.given behind.given mid.packets
-      → Appends before.out behind.out (step_line step mid.state.standing.totals) → NoneFailed before.writes behind.writes before.prints behind.prints → NextAnswers old mid before behind (Ok step)
+      → Appends before.out behind.out (step_text old.rules.style step mid.state.standing.totals) → NoneFailed before.writes behind.writes before.prints behind.prints → NextAnswers old mid before behind (Ok step)
   wrote step (met, handles, decided, kept, meets, (front, read, place), ends, reads, within) given line none =
       let processed : Processed old.rules old.state mid.state before behind (met ∷ []) = record {
         left = meets;
@@ -73,7 +73,7 @@ module _ (old mid : Seen) (before behind : Streams) (live : IsLive old.state.pha
 
   -- or a write failed on the way
   broke : (step : Step) (new : Seen) → Finds old mid before.taken behind.taken before.reads behind.reads (Ok step) → new.state ≡ record mid.state { phase = phases.Failed }
-      → FailsIn mid.packets (step_line step mid.state.standing.totals) before.given behind.given before.out behind.out → OneFailed before.writes behind.writes before.prints behind.prints
+      → FailsIn mid.packets (step_text old.rules.style step mid.state.standing.totals) before.given behind.given before.out behind.out → OneFailed before.writes behind.writes before.prints behind.prints
       → NextAnswers old new before behind (Err faults.Write)
   broke step new (met, handles, decided, kept, meets, reaches, ends, reads, within) is part one = record {
     live = λ still. (
@@ -85,7 +85,7 @@ module _ (old mid : Seen) (before behind : Streams) (live : IsLive old.state.pha
         reaches = reaches;
         within = within;
         part = subst (λ l. FailsIn (packets_of old.rules old.state.standing met) l before.given behind.given before.out behind.out) (line_is handles)
-            (subst (λ l. FailsIn l (step_line step mid.state.standing.totals) before.given behind.given before.out behind.out) handles.packets_are part);
+            (subst (λ l. FailsIn l (step_text old.rules.style step mid.state.standing.totals) before.given behind.given before.out behind.out) handles.packets_are part);
       },
     );
     frame = tt;
@@ -167,7 +167,7 @@ module _ {S : Type 0} (rules : Rules) (old new : State) (packets : List ℕ) (st
 module _ {S : Type 0} (takes fails : Taking S) (count : S → ℕ) (old mid : Seen) (before behind : Streams) (live : IsLive old.state.phase) (k l : S) where
   -- it was found, its frame was taken, and it was written
   pub wrote_with : (step : Step) (after_gap : Bool) → after_gap ≡ nat_lt old.state.standing.totals.places mid.state.standing.totals.places → Finds old mid before.taken behind.taken before.reads behind.reads (Ok step)
-      → Appends before.given behind.given mid.packets → Appends before.out behind.out (step_line step mid.state.standing.totals) → NoneFailed before.writes behind.writes before.prints behind.prints
+      → Appends before.given behind.given mid.packets → Appends before.out behind.out (step_text old.rules.style step mid.state.standing.totals) → NoneFailed before.writes behind.writes before.prints behind.prints
       → TakesStep takes step k l after_gap mid.last → count l ≡ count k → NextWith takes fails count old mid k l before behind (Ok step)
   unfolding wrote
   wrote_with step after_gap gap (met, handles, decided, kept, meets, (front, read, place), ends, reads, within) given line none done counted =
@@ -180,7 +180,7 @@ module _ {S : Type 0} (takes fails : Taking S) (count : S → ℕ) (old mid : Se
 
   -- or its frame was taken, and a write failed on the way
   pub broke_with : (step : Step) (after_gap : Bool) → after_gap ≡ nat_lt old.state.standing.totals.places mid.state.standing.totals.places → (new : Seen) → Finds old mid before.taken behind.taken before.reads behind.reads (Ok step)
-      → new.state ≡ record mid.state { phase = phases.Failed } → FailsIn mid.packets (step_line step mid.state.standing.totals) before.given behind.given before.out behind.out
+      → new.state ≡ record mid.state { phase = phases.Failed } → FailsIn mid.packets (step_text old.rules.style step mid.state.standing.totals) before.given behind.given before.out behind.out
       → OneFailed before.writes behind.writes before.prints behind.prints → TakesStep takes step k l after_gap mid.last → count l ≡ count k → NextWith takes fails count old new k l before behind (Err faults.Write)
   unfolding broke
   broke_with step after_gap gap new (met, handles, decided, kept, meets, reaches, ends, reads, within) is part one done counted =

@@ -1,5 +1,5 @@
 -- A run of a follower, step by step.
-use Rattle.s2_receive.proofs.Names.{◌≡◌, ℕ, ◌+◌, ◌-◌, ◌≤◌, ◌&&◌, arith, Bool, true, false, List, [], ◌∷◌, ◌++◌, length, drop, Option, Some, None, refl, sym, ap, ap₂, subst, ◌∙◌, append-nil, append_assoc, drop_at, drop-drop, drop-append-le, if◌then◌else◌, Symbol, symbols_of, Sought, Met, cut, ended, no_gap, met_from, resumed, Window, room_for, passed_by, window_after, met_of, met_within, Follows, HoldsLast, IsInFront, Rules, Standing, State, Decision, is_lost, left_by, after, line_of, IsDecided, Handles, step_line, Next, Phase, found_as}
+use Rattle.s2_receive.proofs.Names.{◌≡◌, ℕ, ◌+◌, ◌-◌, ◌≤◌, ◌&&◌, arith, Bool, true, false, List, [], ◌∷◌, ◌++◌, length, drop, Option, Some, None, refl, sym, ap, ap₂, subst, ◌∙◌, append-nil, append_assoc, drop_at, drop-drop, drop-append-le, if◌then◌else◌, Symbol, symbols_of, Sought, Met, cut, ended, no_gap, met_from, resumed, Window, room_for, passed_by, window_after, met_of, met_within, Follows, HoldsLast, IsInFront, Rules, Standing, State, Decision, is_lost, left_by, after, line_of, plain, IsDecided, Handles, step_line, Next, Phase, found_as}
 use Rattle.s2_receive.proofs.Names.next
 use Rattle.s2_receive.proofs.Names.phases
 use Rattle.s2_mode.specs.Mode.{symbols_in}
@@ -11,7 +11,7 @@ use Rattle.s2_receive.proofs.StepLemmas.{symbols_least}
 
 -- the rules stay
 rules_kept : (decide : List Symbol → Decision) (old new : Follower) → IsSameFollower old new → rules_with decide new ≡ rules_with decide old
-rules_kept decide old new s = λ i. record { finds = found_as (s.sought i) (s.max_header_errors i); size = symbols_in (s.sought i).mode; resync = s.resync i; decide = decide; limit = s.limit i }
+rules_kept decide old new s = λ i. record { finds = found_as (s.sought i) (s.max_header_errors i); size = symbols_in (s.sought i).mode; resync = s.resync i; decide = decide; limit = s.limit i; style = plain }
 
 size_kept : (old new : Follower) → IsSameFollower old new → symbols_in new.sought.mode ≡ symbols_in old.sought.mode
 size_kept old new s = ap (λ (x : Sought). symbols_in x.mode) s.sought

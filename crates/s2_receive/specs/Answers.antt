@@ -9,12 +9,13 @@ use Rattle.s2_mode.specs.declared.stream_fault.StreamFault.TheVariants as stream
 use Rattle.s2_mode.specs.declared.counts.ReadFault.{ReadFault}
 use Rattle.s2_mode.specs.declared.counts.WriteFault.{WriteFault}
 use Rattle.s2_receive.specs.Meeting.{Met}
-use Rattle.s2_receive.specs.Receiving.{Rules, Decision, State, Receiver, EndsAt, IsDecided, IsLive, Meets, MetFrame, Reaches, StepAnswers, StandsBehind, Steps, StopsShort, Handles, Waits, RunsOut, RunsTo, StopsAfter, BreaksAfter, begun, left_in, asked, room_in, rules_of, taken}
+use Rattle.s2_receive.specs.Receiving.{Rules, Decision, State, Receiver, EndsAt, IsDecided, IsLive, Meets, MetFrame, Reaches, StepAnswers, StandsBehind, Steps, StopsShort, Handles, Waits, RunsOut, RunsTo, StopsAfter, BreaksAfter, begun, left_in, asked, room_in, rules_of, styled, taken}
 use Rattle.s2_receive.specs.declared.report.Fault.{Fault}
 use Rattle.s2_receive.specs.declared.report.Fault.TheVariants as faults
 use Rattle.s2_receive.specs.declared.report.Phase.TheVariants as phases
 use Rattle.s2_receive.specs.declared.report.Received.{Received}
 use Rattle.s2_report.specs.declared.report.Report.{Report}
+use Rattle.s2_report.specs.declared.style.Style.{Style}
 use Rattle.s2_report.specs.declared.report.Step.{Step}
 use Rattle.s2_report.specs.declared.report.Step.TheVariants as steps
 use Rattle.s2_report.specs.declared.totals.Totals.{Totals}
@@ -48,6 +49,10 @@ pub record IsSame {D : Type 0} (decide : D → List Symbol → Decision) (old ne
   pub max_header_errors : new.max_header_errors ≡ old.max_header_errors
   pub resync : new.resync ≡ old.resync
   pub limit : new.limit ≡ old.limit
+
+-- the same, with a report of this style
+abbrev pub printing : Style → Seen → Seen
+printing style see = record see { rules = styled style see.rules }
 
 -- bytes came, no more than were wanted: a step is made with their symbols, or none yet
 abbrev pub Goes : (old new : Seen) → List ℕ → Option Step → Type 0

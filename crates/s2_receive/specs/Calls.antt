@@ -2,7 +2,8 @@
 use Rattle.std.specs.Prelude.{◌≡◌, ◌≢◌, ℕ, List, [], ◌∷◌, ◌++◌, length, Option, Some, None}
 use Rattle.s2_mode.specs.Streams.{Streams}
 use Rattle.s2_receive.specs.Answers.{Seen, Advances}
-use Rattle.s2_report.specs.ReportLines.{step_line}
+use Rattle.s2_report.specs.Styles.{step_text}
+use Rattle.s2_report.specs.declared.style.Style.{Style}
 use Rattle.s2_receive.specs.Receiving.{State, IsLive, RunsOut, asked}
 use Rattle.s2_receive.specs.declared.report.Phase.TheVariants as phases
 use Rattle.s2_report.specs.declared.report.Step.{Step}
@@ -19,10 +20,10 @@ abbrev pub packets_if : Option Step → List ℕ → List ℕ
 packets_if (Some step) packets = packets
 packets_if None packets = []
 
--- the line of a step in a report, with the totals after it
-abbrev pub line_if : Option Step → Totals → List ℕ
-line_if (Some step) totals = step_line step totals
-line_if None totals = []
+-- what a step prints in a report of this style, with the totals after it
+abbrev pub line_if : Style → Option Step → Totals → List ℕ
+line_if style (Some step) totals = step_text style step totals
+line_if style None totals = []
 
 -- the packets of all steps
 abbrev pub call_packets : List Call → List ℕ
@@ -30,9 +31,9 @@ call_packets [] = []
 call_packets (call ∷ later) = packets_if call.answer call.new.packets ++ call_packets later
 
 -- the report of all steps
-abbrev pub call_lines : List Call → List ℕ
-call_lines [] = []
-call_lines (call ∷ later) = line_if call.answer call.new.state.standing.totals ++ call_lines later
+abbrev pub call_lines : Style → List Call → List ℕ
+call_lines style [] = []
+call_lines style (call ∷ later) = line_if style call.answer call.new.state.standing.totals ++ call_lines style later
 
 -- the receiver's state after all calls
 abbrev pub last_state : State → List Call → State
@@ -55,4 +56,4 @@ in_memory bytes packets report = record { taken = Some bytes; given = Some packe
 abbrev pub CallsLaw : Type 0
 CallsLaw =
     (old : Seen) (bytes : List ℕ) (calls : List Call) → CallsToEnd old bytes calls
-    → (left : List ℕ) × RunsOut old.rules old.state (last_state old.state calls) (in_memory bytes [] []) (in_memory left (call_packets calls) (call_lines calls))
+    → (left : List ℕ) × RunsOut old.rules old.state (last_state old.state calls) (in_memory bytes [] []) (in_memory left (call_packets calls) (call_lines old.rules.style calls))

@@ -20,6 +20,7 @@ use Rattle.s2_receive.specs.declared.report.Phase.TheVariants as phases
 use Rattle.s2_receive.specs.declared.window.Next.{Next}
 use Rattle.s2_receive.specs.declared.window.Next.TheVariants as next
 use Rattle.s2_report.specs.ReportLines.{step_line}
+use Rattle.s2_report.specs.Styles.{plain}
 use Rattle.s2_report.specs.declared.report.Step.{Step}
 use Rattle.s2_report.specs.declared.totals.Totals.{Totals}
 
@@ -43,7 +44,7 @@ follower_of phase s limit held t found packets =
 
 -- its rules, whatever decides its frames
 abbrev pub rules_with : (List Symbol → Decision) → Follower → Rules
-rules_with decide f = record { finds = found_as f.sought f.max_header_errors; size = symbols_in f.sought.mode; resync = f.resync; decide = decide; limit = f.limit }
+rules_with decide f = record { finds = found_as f.sought f.max_header_errors; size = symbols_in f.sought.mode; resync = f.resync; decide = decide; limit = f.limit; style = plain }
 
 -- the number of bytes that it needs next
 abbrev pub asked_of : Follower → ℕ

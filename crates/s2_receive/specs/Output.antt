@@ -45,7 +45,7 @@ IsFew counts = (counts.delivered ≤ 1) × (counts.good + counts.bad ≤ header_
 
 -- the totals after the thing met, by its counts, and by the last decision
 abbrev pub counted : Totals → Next → StepCounts → Decision → Totals
-counted t (next.Frame at skipped) counts last = frame_totals (with_gap t skipped) counts last.outcome last.energy last.figures
+counted t (next.Frame at skipped) counts last = frame_totals (with_gap t skipped) counts last.outcome last.verdict last.energy last.figures
 counted t (next.Cut at skipped count) counts last = cut_totals (with_gap t skipped) counts.incomplete
 counted t (next.End at skipped) counts last = with_gap t (at_end skipped)
 

@@ -14,6 +14,7 @@ pub record Fits (limit : ℕ) (window : Window) (t : Totals) : Type 0 where
   pub most : limit ≤ max_symbols
   pub place : reached window ≤ limit
   pub frames : t.frames ≤ window.at
+  pub certified : t.certified ≤ t.frames
   -- a delivered frame has at least the symbols of a header, and completes no more packets than that; none of its symbols is in
   -- a later frame
   pub delivered : header_symbols * t.delivered ≤ window.at

@@ -14,11 +14,12 @@ use Rattle.s2_bbframe.specs.Joining.{Event, field, gap, Joined, step, begun_body
 use Rattle.s2_receive.specs.declared.packet_buffer.StepCounts.{StepCounts}
 use Rattle.s2_report.specs.declared.figures.Figures.{Figures}
 use Rattle.s2_receive.specs.declared.gap.Gap.{Gap}
-use Rattle.s2_report.specs.Figures.{no_totals, refused_in, saturated, sums_after}
+use Rattle.s2_report.specs.Figures.{certified_in, no_totals, refused_in, saturated, sums_after}
 use Rattle.s2_receive.specs.Meeting.{Met, frame, cut, ended, no_gap, is_gap}
 use Rattle.s2_receive.specs.Synchronization.{Window, Follows, met_within, reached, room_for, wanted, window_at}
 use Rattle.s2_receive.specs.Windows.{found_as}
-use Rattle.s2_report.specs.ReportLines.{step_line}
+use Rattle.s2_report.specs.Styles.{plain, step_text}
+use Rattle.s2_report.specs.declared.style.Style.{Style}
 use Rattle.s2_receive.specs.ReceiverCore.{FailsIn}
 use Rattle.s2_check.specs.declared.verdict.Verdict.{Verdict}
 use Rattle.s2_check.specs.Verdicts.{is_certified}
@@ -64,7 +65,7 @@ abbrev pub is_lost : Decision → Bool
 is_lost decision = is_none decision.delivered
 
 -- the rules of a receiver: the header test, the size of a frame, whether lost frames are searched again, the decision on a
--- frame, and the limit of symbols
+-- frame, the limit of symbols, and the style of its report
 pub record Rules : Type 0 where
   -- the header test, right after a frame (`true`) and elsewhere
   pub finds : Bool → List Symbol → Found
@@ -73,6 +74,11 @@ pub record Rules : Type 0 where
   pub decide : List Symbol → Decision
   -- the limit of symbols in all
   pub limit : ℕ
+  pub style : Style
+
+-- the same rules, with another style
+abbrev pub styled : Style → Rules → Rules
+styled style rules = record rules { style = style }
 
 -- the frames that are searched again: lost ones, if the rules say so
 abbrev pub searched_again : Rules → List Symbol → Bool
@@ -124,13 +130,14 @@ abbrev pub counts_after : Option (List ℕ) → Gap → Option (Header × List �
 counts_after held skipped delivered =
     record { delivered = count_of delivered; good = length (joined_after held skipped delivered).good; bad = (joined_after held skipped delivered).bad; incomplete = incomplete_after held skipped delivered }
 
--- the totals with one more frame, with these counts, and with the outcome, the header's energy and the figures of its
--- decision
-abbrev pub frame_totals : Totals → StepCounts → Outcome → (energy : ℕ) → Option Figures → Totals
-frame_totals t counts outcome energy figures =
+-- the totals with one more frame, with these counts, and with the outcome, the verdict, the header's energy and the figures of
+-- its decision
+abbrev pub frame_totals : Totals → StepCounts → Outcome → Verdict → (energy : ℕ) → Option Figures → Totals
+frame_totals t counts outcome verdict energy figures =
     record t {
       frames = t.frames + 1;
       delivered = t.delivered + counts.delivered;
+      certified = t.certified + certified_in outcome verdict;
       packets = t.packets + counts.good;
       bad = t.bad + counts.bad;
       incomplete = t.incomplete + counts.incomplete;
@@ -148,7 +155,7 @@ report_for decision t at = record { number = t.frames + 1; at = at; verdict = de
 
 -- the totals with one more frame, for the joiner's body before it
 abbrev pub decided_totals : Totals → Option (List ℕ) → Gap → Decision → Totals
-decided_totals t held skipped decision = frame_totals (with_gap t skipped) (counts_after held skipped decision.delivered) decision.outcome decision.energy decision.figures
+decided_totals t held skipped decision = frame_totals (with_gap t skipped) (counts_after held skipped decision.delivered) decision.outcome decision.verdict decision.energy decision.figures
 
 abbrev pub report_of : Rules → Totals → ℕ → List Symbol → Report
 report_of rules t at symbols = report_for (rules.decide symbols) t at
@@ -174,9 +181,9 @@ step_of rules s (frame at skipped symbols) = steps.Frame (report_of rules s.tota
 step_of rules s (cut at skipped count) = steps.Cut at count
 step_of rules s (ended skipped) = steps.End
 
--- its line of the report, with the totals after it
+-- what it prints, with the totals after it
 abbrev pub line_of : Rules → Standing → Met → List ℕ
-line_of rules s met = step_line (step_of rules s met) (after rules s met).totals
+line_of rules s met = step_text rules.style (step_of rules s met) (after rules s met).totals
 
 -- the joiner's body and the totals after all these things
 abbrev pub after_all : Rules → Standing → List Met → Standing
@@ -232,9 +239,9 @@ pub record Receiver (D : Type 0) : Type 0 where
   pub state : State
   pub packets : List ℕ
 
--- its rules, by the decision of its decider
+-- its rules, by the decision of its decider, with a line for each frame
 abbrev pub rules_of : {D : Type 0} → (D → List Symbol → Decision) → Receiver D → Rules
-rules_of decide r = record { finds = found_as r.sought r.max_header_errors; size = symbols_in r.sought.mode; resync = r.resync; decide = decide r.decider; limit = r.limit }
+rules_of decide r = record { finds = found_as r.sought r.max_header_errors; size = symbols_in r.sought.mode; resync = r.resync; decide = decide r.decider; limit = r.limit; style = plain }
 
 -- a receiver's state, from its phase, the symbols held, the body that its joiner holds, and its totals
 abbrev pub state_of : Phase → Window → Option (List ℕ) → Totals → State

@@ -11,10 +11,11 @@ use Rattle.s2_receive.specs.declared.report.Phase.TheVariants as phases
 use Rattle.s2_receive.specs.declared.report.Received.{Received}
 use Rattle.s2_receive.specs.declared.sinks.FrameStart.{FrameStart}
 use Rattle.s2_report.specs.declared.report.Step.{Step}
+use Rattle.s2_report.specs.declared.style.Style.{Style}
 use Rattle.s2_report.specs.declared.report.Step.TheVariants as steps
 use Rattle.s2_receive.specs.Meeting.{Met, frame, cut, ended, is_gap}
-use Rattle.s2_receive.specs.Receiving.{Rules, Decision, State, Receiver, IsLive, Meets, Reaches, StepAnswers, Processed, BreaksOff, StopsAfter, BreaksAfter, left_in, rules_of, taken}
-use Rattle.s2_receive.specs.Answers.{Between, Seen, NextAnswers, RunAnswers, seen_by}
+use Rattle.s2_receive.specs.Receiving.{Rules, Decision, State, Receiver, IsLive, Meets, Reaches, StepAnswers, Processed, BreaksOff, StopsAfter, BreaksAfter, left_in, rules_of, styled, taken}
+use Rattle.s2_receive.specs.Answers.{Between, Seen, NextAnswers, RunAnswers, printing, seen_by}
 
 -- ---- sinks
 
@@ -123,12 +124,12 @@ pub record NextWith {S : Type 0} (takes fails : Taking S) (count : S → ℕ) (o
   pub bounded : taken new.state ≤ old.rules.limit
   pub counts : OnlyFailedWith (result ≡ Err faults.Read) (result ≡ Err faults.Write) (count sink_old) (count sink_new) before behind
 
--- the same from a receiver to another, with a sink, a reader and two writers
-abbrev pub StepsWith :
-    {D S R P W : Type 0} → (D → List Symbol → Decision) → (D → Decision) → (takes fails : Taking S) → (S → ℕ) → (R → Option (List ℕ)) → (R → ℕ) → (P → Option (List ℕ)) → (P → ℕ) → (W → Option (List ℕ)) → (W → ℕ)
+-- the same in a report of this style, from a receiver to another, with a sink, a reader and two writers
+abbrev pub StepsIn :
+    {D S R P W : Type 0} → (D → List Symbol → Decision) → (D → Decision) → Style → (takes fails : Taking S) → (S → ℕ) → (R → Option (List ℕ)) → (R → ℕ) → (P → Option (List ℕ)) → (P → ℕ) → (W → Option (List ℕ)) → (W → ℕ)
     → Receiver D → S → R → P → W → Receiver D → S → R → P → W → Result Step Fault → Type 0
-StepsWith decide last takes fails count taken reads given writes out prints old k r p w new k' r' p' w' =
-    Between (NextWith takes fails count (seen_by decide last old) (seen_by decide last new) k k') taken reads given writes out prints r p w r' p' w'
+StepsIn decide last style takes fails count taken reads given writes out prints old k r p w new k' r' p' w' =
+    Between (NextWith takes fails count (printing style (seen_by decide last old)) (printing style (seen_by decide last new)) k k') taken reads given writes out prints r p w r' p' w'
 
 -- ---- whole runs with a sink
 
@@ -154,10 +155,10 @@ RunAnswersWith takes fails rules old new sink_old sink_new before behind (Err st
     ((run : BreaksAfter rules old before behind) × TakesFrames takes sink_old sink_new (frames_of rules (run.met ++ run.breaks.met ∷ [])))
     ⊎ FailsAfter takes fails rules old sink_old sink_new before behind
 
--- a run to the end of the stream with a sink, from a receiver's state to another
-abbrev pub RunsWith : {D S : Type 0} → (D → List Symbol → Decision) → (takes fails : Taking S) → (old new : Receiver D) → (sink_old sink_new : S) → (before behind : Streams) → Result Received StreamFault → Type 0
-RunsWith decide takes fails old new sink_old sink_new before behind result =
-    RunAnswersWith takes fails (rules_of decide old) old.state new.state sink_old sink_new before behind result
+-- a run to the end of the stream with a sink, in a report of this style, from a receiver's state to another
+abbrev pub RunsIn : {D S : Type 0} → (D → List Symbol → Decision) → Style → (takes fails : Taking S) → (old new : Receiver D) → (sink_old sink_new : S) → (before behind : Streams) → Result Received StreamFault → Type 0
+RunsIn decide style takes fails old new sink_old sink_new before behind result =
+    RunAnswersWith takes fails (styled style (rules_of decide old)) old.state new.state sink_old sink_new before behind result
 
 -- only failed calls were counted, as the fault of a stream says
 abbrev pub OnlyFaultsWith : (count_old count_new : ℕ) → (before behind : Streams) → Result Received StreamFault → Type 0

@@ -7,7 +7,7 @@ ghost use Rattle.s2_receive.specs.Halves.{Says};
 ghost use Rattle.s2_receive.specs.Limits.{max_symbols};
 ghost use Rattle.s2_receive.specs.Synchronization.{met_of};
 ghost use Rattle.s2_receive.specs.Receiving.{Decision, phase_after};
-ghost use Rattle.s2_report.specs.ReportLines.{step_line};
+ghost use Rattle.s2_report.specs.Styles.{step_text};
 ghost use Rattle.s2_receive.specs.ReceiverCore.{CanCountIn, FailsIn, Fits};
 ghost use Rattle.s2_receive.specs.Output.{IsFew, answer_for, counted};
 
@@ -18,11 +18,13 @@ use crate::synchronizer::Synchronizer;
 use crate::totals::{with_cut, with_frame, with_gap};
 use crate::window::Next;
 use s2_mode::{CountedWrite, WriteFault, write_full};
-use s2_report::{Step, Totals, line_of};
+use s2_report::{Step, Style, Totals, print_step};
 
-/// Writes the packets of a step, and then its line, each with one write if the writer takes it whole.
+/// Writes the packets of a step, and then what it prints in this style. The packets and each line are one write if the writer takes
+/// them whole.
 pub(crate) fn write_step<P: CountedWrite, W: CountedWrite>(
     given: &[u8],
+    style: Style,
     step: Step,
     totals: Totals,
     packets: &mut P,
@@ -31,13 +33,13 @@ pub(crate) fn write_step<P: CountedWrite, W: CountedWrite>(
     requires packets { CanCount (P.count packets.old) }
     requires report { CanCount (W.count report.old) }
     ensures packets { OnOk result (Appends (P.contents packets.old) (P.contents packets.new) given.now) }
-    ensures line { OnOk result (Appends (W.contents report.old) (W.contents report.new) (step_line step totals)) }
-    ensures part { OnErr result (FailsIn given.now (step_line step totals) (P.contents packets.old) (P.contents packets.new) (W.contents report.old) (W.contents report.new)) }
+    ensures line { OnOk result (Appends (W.contents report.old) (W.contents report.new) (step_text style step totals)) }
+    ensures part { OnErr result (FailsIn given.now (step_text style step totals) (P.contents packets.old) (P.contents packets.new) (W.contents report.old) (W.contents report.new)) }
     ensures write { OnErr result (OneFailed (P.count packets.old) (P.count packets.new) (W.count report.old) (W.count report.new)) }
     ensures no_write { OnOk result (NoneFailed (P.count packets.old) (P.count packets.new) (W.count report.old) (W.count report.new)) }
 {
     write_full(packets, given)?;
-    write_full(report, line_of(step, totals).as_bytes())
+    print_step(report, style, step, totals)
 }
 
 /// The status of a receiver: its phase, and its totals so far.

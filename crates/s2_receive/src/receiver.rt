@@ -6,7 +6,7 @@ ghost use Rattle.s2_mode.specs.Mode.{symbols_in};
 ghost use Rattle.s2_receive.specs.declared.report.Phase.TheVariants as phases;
 ghost use Rattle.s2_receive.specs.Receiving.{IsLive, asked, begun, is_at_frame, rules_of, taken};
 ghost use Rattle.s2_receive.specs.Answers.{Advances, Finds, IsSame, Reads, StepsBy, seen_by};
-ghost use Rattle.s2_receive.specs.Sinks.{StepsWith};
+ghost use Rattle.s2_receive.specs.Sinks.{StepsIn};
 ghost use Rattle.s2_receive.specs.Synchronization.{room_for};
 ghost use Rattle.s2_plframe.specs.Turns.{sought_of};
 
@@ -19,7 +19,7 @@ use crate::supplied::Supplied;
 use crate::synchronizer::room_for;
 use s2_mode::{CountedRead, CountedWrite, Mode, ReadFault, read_full};
 use s2_plframe::HeaderTolerance;
-use s2_report::{Step, Totals};
+use s2_report::{Step, Style, Totals};
 use std::alloc::{AllocError, Global};
 use std::marker::Model;
 
@@ -257,13 +257,14 @@ impl<D: Decide> Receiver<D> {
         ensures unwritten { IsErrOf result Fault.Read → (packets.new ≡ packets.old) × (report.new ≡ report.old) }
         ensures counted { IfOk result (λ _. self.new.state.standing.totals.frames ≤ max_symbols) }
     {
-        self.next_with(reader, &mut (), packets, report)
+        self.next_with(Style::plain(), reader, &mut (), packets, report)
     }
 
-    /// As [`Receiver::next`], with a sink that takes the step's frame before its packets and its line are written. A cut frame
+    /// As [`Receiver::next`], with the style of the report, and with a sink that takes the step's frame before its packets and its line are written. A cut frame
     /// and the end are not given to it. `Write` also means that the sink failed; then nothing of this frame is written.
     pub fn next_with<K: Sink, R: CountedRead, P: CountedWrite, W: CountedWrite>(
         &mut self,
+        style: Style,
         reader: &mut R,
         sink: &mut K,
         packets: &mut P,
@@ -275,7 +276,7 @@ impl<D: Decide> Receiver<D> {
         requires report { CanCount (W.count report.old) }
         ensures same { IsSame D.decide self.old self.new }
         ensures unaided { D.unaided self.new.decider ≡ D.unaided self.old.decider }
-        ensures steps { StepsWith D.decide D.last K.takes K.fails K.count R.remaining R.count P.contents P.count W.contents W.count
+        ensures steps { StepsIn D.decide D.last style K.takes K.fails K.count R.remaining R.count P.contents P.count W.contents W.count
             self.old sink.old reader.old packets.old report.old self.new sink.new reader.new packets.new report.new result }
         ensures nothing { (IsLive self.old.state.phase → ⊥) → (self.new ≡ self.old) × (reader.new ≡ reader.old)
             × (packets.new ≡ packets.old) × (report.new ≡ report.old) }
@@ -295,7 +296,7 @@ impl<D: Decide> Receiver<D> {
         let Ok(()) = give_frame(step, after_gap, &self.decider().frame(), sink) else {
             return Err(self.fail(Fault::Write));
         };
-        match write_step(self.packets(), step, self.totals(), packets, report) {
+        match write_step(self.packets(), style, step, self.totals(), packets, report) {
             Ok(()) => Ok(step),
             Err(_) => Err(self.fail(Fault::Write)),
         }

@@ -5,14 +5,14 @@ ghost use Rattle.s2_mode.specs.Streams.{streams_by, NoneFailed, OneFailed};
 ghost use Rattle.s2_receive.specs.Receiving.{IsLive, begun, is_certified_step, taken};
 ghost use Rattle.s2_receive.specs.declared.report.Phase.TheVariants as phases;
 ghost use Rattle.s2_receive.specs.Answers.{Between, IsSame, RunsSteps, OnlyStreamFaults, ReceivesBytes, bytes_by};
-ghost use Rattle.s2_receive.specs.Sinks.{OnlyFaultsWith, RunsWith};
+ghost use Rattle.s2_receive.specs.Sinks.{OnlyFaultsWith, RunsIn};
 
 use crate::decider::Decide;
 use crate::receiver::Receiver;
 use crate::report::Received;
 use crate::sinks::Sink;
 use s2_mode::{CountedRead, CountedWrite, InMemory, StreamFault, WriteFault};
-use s2_report::{Outcome, Step, Totals};
+use s2_report::{Outcome, Step, Style, Totals};
 
 /// Whether a step is a frame that was delivered with bits that are sole or most likely, or the end. It is false for a cut frame.
 pub fn is_certified_step(step: Step) -> bool
@@ -49,10 +49,10 @@ pub fn receive_all<D: Decide, R: CountedRead, P: CountedWrite, W: CountedWrite>(
     ensures bounded { taken receiver.new.state ≤ receiver.old.limit }
     ensures same { IsSame D.decide receiver.old receiver.new }
 {
-    receive_with(receiver, reader, &mut (), packets, report)
+    receive_with(receiver, Style::plain(), reader, &mut (), packets, report)
 }
 
-/// As [`receive_all`], with a sink that takes each frame before its packets and its line are written.
+/// As [`receive_all`], with the style of the report, and with a sink that takes each frame before its packets and its line are written.
 ///
 /// After `Ok` and after `Read`, the sink took all frames that were met, in order. `Write` has two causes. A packet or a
 /// line could not be written: then the sink took all frames up to the one at hand. Or the sink failed at a frame: then it
@@ -60,6 +60,7 @@ pub fn receive_all<D: Decide, R: CountedRead, P: CountedWrite, W: CountedWrite>(
 /// whole.
 pub fn receive_with<D: Decide, K: Sink, R: CountedRead, P: CountedWrite, W: CountedWrite>(
     receiver: &mut Receiver<D>,
+    style: Style,
     reader: &mut R,
     sink: &mut K,
     packets: &mut P,
@@ -70,7 +71,7 @@ pub fn receive_with<D: Decide, K: Sink, R: CountedRead, P: CountedWrite, W: Coun
     requires packets { CanCount (P.count packets.old) }
     requires report { CanCount (W.count report.old) }
     requires live { IsLive receiver.old.state.phase }
-    ensures runs { Between (RunsWith D.decide K.takes K.fails receiver.old receiver.new sink.old sink.new) R.remaining R.count
+    ensures runs { Between (RunsIn D.decide style K.takes K.fails receiver.old receiver.new sink.old sink.new) R.remaining R.count
         P.contents P.count W.contents W.count reader.old packets.old report.old reader.new packets.new report.new result }
     ensures counts { Between (OnlyFaultsWith (K.count sink.old) (K.count sink.new)) R.remaining R.count
         P.contents P.count W.contents W.count reader.old packets.old report.old reader.new packets.new report.new result }
@@ -80,7 +81,7 @@ pub fn receive_with<D: Decide, K: Sink, R: CountedRead, P: CountedWrite, W: Coun
 {
     let mut all_certified = true;
     'steps: loop {
-        match receiver.next_with(reader, sink, packets, report) {
+        match receiver.next_with(style, reader, sink, packets, report) {
             Ok(step) => {
                 if step == Step::End {
                     let totals = receiver.totals();

@@ -1,5 +1,5 @@
 //! How the totals grow.
-ghost use Rattle.std.specs.Prelude.{◌≡◌, ◌+◌, ◌^◌, ◌<◌};
+ghost use Rattle.std.specs.Prelude.{◌≡◌, ◌+◌, ◌^◌, ◌<◌, ◌≤◌};
 ghost use Rattle.s2_receive.specs.Receiving.{with_gap, cut_totals, frame_totals};
 ghost use Rattle.s2_receive.specs.Output.{IsFew};
 
@@ -28,15 +28,17 @@ pub(crate) fn with_gap(totals: Totals, skipped: Gap) -> Totals
 
 /// The totals with one more frame, with these counts and this decision.
 pub(crate) fn with_frame(totals: Totals, counts: StepCounts, decided: Decided) -> Totals
-    requires frames { (totals.frames < 2 ^ 62) × (totals.delivered < 2 ^ 62) }
+    requires frames { (totals.frames < 2 ^ 62) × (totals.delivered < 2 ^ 62) × (totals.certified < 2 ^ 62) }
     requires packets { (totals.packets < 2 ^ 62) × (totals.bad < 2 ^ 62) }
     requires incomplete { totals.incomplete < 2 ^ 62 }
     requires few { IsFew counts }
-    ensures { result ≡ frame_totals totals counts decided.outcome decided.energy decided.figures }
+    ensures is { result ≡ frame_totals totals counts decided.outcome decided.verdict decided.energy decided.figures }
+    ensures certified { result.certified ≤ totals.certified + 1 }
 {
     Totals {
         frames: totals.frames + 1,
         delivered: totals.delivered + counts.delivered,
+        certified: totals.certified + decided.outcome.certified(decided.verdict),
         packets: totals.packets + counts.good,
         bad: totals.bad + counts.bad,
         incomplete: totals.incomplete + counts.incomplete,

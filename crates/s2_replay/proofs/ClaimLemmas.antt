@@ -1,4 +1,5 @@
 -- The step of a frame that was settled.
+use Rattle.s2_report.specs.Styles.{plain}
 use Rattle.std.proofs.Common.{◌≡◌, ℕ, [], refl, sym, ap, ◌∙◌}
 use Rattle.s2_mode.specs.Mode.{symbols_in}
 use Rattle.s2_report.specs.declared.report.Step.{Step}
@@ -12,7 +13,7 @@ use Rattle.s2_replay.specs.Replayers.{IsFrameAt}
 
 -- rules that decide each frame so
 abbrev rules_so : Follower → Decision → Rules
-rules_so f d = record { finds = found_as f.sought f.max_header_errors; size = symbols_in f.sought.mode; resync = f.resync; decide = λ symbols. d; limit = f.limit }
+rules_so f d = record { finds = found_as f.sought f.max_header_errors; size = symbols_in f.sought.mode; resync = f.resync; decide = λ symbols. d; limit = f.limit; style = plain }
 
 -- it is the step of this frame, with the next number
 pub frame_step : (old new : Follower) (found : Next) (at : ℕ) (d : Decision) (step : Step) → IsFrameAt found at → Settles old new found d step → step ≡ steps.Frame (report_for d old.state.standing.totals at)

@@ -1,5 +1,6 @@
 -- The report and the packets of a receiver that comes to given decisions, and what shows these decisions (own). It is the
 -- receiver's own loop; only the decision on a frame is by evidence in place of a decoder.
+use Rattle.s2_report.specs.Styles.{plain}
 use Rattle.std.specs.Prelude.{◌≡◌, ◌⊎◌, ℕ, Bool, true, false, ◌&&◌, if◌then◌else◌, List, [], ◌∷◌, ◌++◌, Option, Some, None}
 use Rattle.s2_mode.specs.Mode.{Mode, symbols_in}
 use Rattle.s2_mode.specs.declared.symbols.Symbol.{Symbol}
@@ -114,6 +115,7 @@ rules_for t = record {
   resync = t.resync;
   decide = λ symbols. claimed_decision Broken true;
   limit = max_symbols;
+  style = plain;
 }
 
 -- The report and the packets are those of the receiver on this recording, by these decisions on its frames, in order, and each

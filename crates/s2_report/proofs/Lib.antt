@@ -3,4 +3,5 @@ mod LineLemmas
 mod NumberLemmas
 pub mod ReadBack
 mod Rooms
+mod StyleLemmas
 pub mod SaidVerdicts

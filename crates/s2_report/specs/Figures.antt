@@ -6,6 +6,8 @@ use Rattle.s2_report.specs.declared.figures.Tally.{Tally}
 use Rattle.s2_report.specs.declared.report.Outcome.{Outcome}
 use Rattle.s2_report.specs.declared.report.Outcome.TheVariants.{Delivered, NoWord, BadHeader}
 use Rattle.s2_report.specs.declared.totals.Totals.{Totals}
+use Rattle.s2_check.specs.Verdicts.{is_certified}
+use Rattle.s2_check.specs.declared.verdict.Verdict.{Verdict}
 
 -- the sum of two numbers, at most 2 ^ 64 - 1
 abbrev pub saturated : ℕ → ℕ → ℕ
@@ -49,12 +51,19 @@ refused_in (Delivered fixed) = 0
 refused_in NoWord = 0
 refused_in (BadHeader fault) = 1
 
+-- 1 for a delivered frame whose bits are certified, else 0
+abbrev pub certified_in : Outcome → Verdict → ℕ
+certified_in (Delivered fixed) verdict = if is_certified verdict then 1 else 0
+certified_in NoWord verdict = 0
+certified_in (BadHeader fault) verdict = 0
+
 -- no frames and no symbols
 abbrev pub no_totals : Totals
 no_totals =
     record {
       frames = 0;
       delivered = 0;
+      certified = 0;
       packets = 0;
       bad = 0;
       incomplete = 0;
@@ -74,6 +83,7 @@ totals_sum t u =
     record {
       frames = saturated t.frames u.frames;
       delivered = saturated t.delivered u.delivered;
+      certified = saturated t.certified u.certified;
       packets = saturated t.packets u.packets;
       bad = saturated t.bad u.bad;
       incomplete = saturated t.incomplete u.incomplete;

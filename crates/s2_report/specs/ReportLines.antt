@@ -91,6 +91,10 @@ sums_words (Some s) =
 unfoldable pub end_line : Totals → List ℕ
 end_line t = frames_words t ++ delivered_words t ++ packets_words t ++ sums_words t.sums ++ codes "\n"
 
+-- sum frames F delivered D certified C: the sums so far
+unfoldable pub sum_line : Totals → List ℕ
+sum_line t = codes "sum frames " ++ decimal t.frames ++ delivered_words t ++ codes " certified " ++ decimal t.certified ++ codes "\n"
+
 -- the line of a step, with the totals after it
 abbrev pub step_line : Step → Totals → List ℕ
 step_line (steps.Frame report) totals = frame_line report

@@ -4,7 +4,7 @@ ghost use Rattle.std.specs.Fmt.{signed_decimal};
 ghost use Rattle.s2_io.specs.Lines.{line_room};
 ghost use Rattle.s2_report.specs.Entries.{IsLine, IsReadAs, IsSmall, IsSmallEntry, entry_of_step, frame_of_report};
 ghost use Rattle.s2_report.specs.declared.entry.Entry.TheVariants as entries;
-ghost use Rattle.s2_report.specs.ReportLines.{cut_bytes_line, outcome_words, correlation_words, decoding_words, figures_words, turn_words, frame_line, cut_line, frames_words, delivered_words, packets_words, parts_words, removed_words, tally_words, sums_words, end_line, step_line};
+ghost use Rattle.s2_report.specs.ReportLines.{cut_bytes_line, outcome_words, correlation_words, decoding_words, figures_words, turn_words, frame_line, cut_line, frames_words, delivered_words, packets_words, parts_words, removed_words, tally_words, sum_line, sums_words, end_line, step_line};
 
 use crate::figures::{Correlation, Figures, Sums, Tally};
 use crate::report::{Outcome, Report, Step};
@@ -237,6 +237,19 @@ fn push_sums(line: &mut Line, sums: Option<Sums>)
     push_count(line, " power ", sums.known_power);
     push_tally(line, " payload ", sums.payload);
     push_count(line, " power ", sums.payload_power);
+}
+
+/// The sums so far, for a report in which only some frames have a line.
+#[tactic(auto, unfolding(crate::specs::ReportLines::sum_line))]
+pub(crate) fn sum_line(totals: Totals) -> Line
+    ensures { result ≡ sum_line totals }
+{
+    let mut line = Line::new();
+    push_count(&mut line, "sum frames ", totals.frames);
+    push_delivered(&mut line, totals);
+    push_count(&mut line, " certified ", totals.certified);
+    line.push("\n");
+    line
 }
 
 /// The last line of a report, with the totals. It is read as a line that is none of a frame.

@@ -1,6 +1,6 @@
 //! What a receiver reports: the steps of a receiver, and the report of a frame.
-ghost use Rattle.std.specs.Prelude.{◌≡◌};
-ghost use Rattle.s2_report.specs.Figures.{refused_in};
+ghost use Rattle.std.specs.Prelude.{◌≡◌, ◌≤◌};
+ghost use Rattle.s2_report.specs.Figures.{certified_in, refused_in};
 
 use crate::figures::Figures;
 use s2_bbframe::HeaderFault;
@@ -23,6 +23,17 @@ impl Outcome {
         match self {
             Outcome::Delivered { .. } | Outcome::NoWord => 0,
             Outcome::BadHeader(_) => 1,
+        }
+    }
+
+    /// 1 if a message is delivered whose bits have this verdict, and it certifies them, else 0.
+    pub fn certified(self, verdict: Verdict) -> u64
+        ensures is { result ≡ certified_in self verdict }
+        ensures most { result ≤ 1 }
+    {
+        match self {
+            Outcome::Delivered { .. } => u64::from(verdict.is_certified()),
+            Outcome::NoWord | Outcome::BadHeader(_) => 0,
         }
     }
 }

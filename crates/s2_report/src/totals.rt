@@ -9,6 +9,8 @@ use crate::figures::{Sums, sums_of_both};
 pub struct Totals {
     pub frames: u64,
     pub delivered: u64,
+    /// The number of delivered frames whose bits are certified.
+    pub certified: u64,
     pub packets: u64,
     pub bad: u64,
     /// Incomplete packets. The body of such a packet was begun, with at least a byte, and dropped: by a gap, or by a
@@ -39,6 +41,7 @@ impl Totals {
         Totals {
             frames: 0,
             delivered: 0,
+            certified: 0,
             packets: 0,
             bad: 0,
             incomplete: 0,
@@ -60,6 +63,7 @@ impl Totals {
         Totals {
             frames: self.frames.saturating_add(later.frames),
             delivered: self.delivered.saturating_add(later.delivered),
+            certified: self.certified.saturating_add(later.certified),
             packets: self.packets.saturating_add(later.packets),
             bad: self.bad.saturating_add(later.bad),
             incomplete: self.incomplete.saturating_add(later.incomplete),

@@ -1,5 +1,6 @@
 -- A run by the decisions of records, step by step.
 use Rattle.std.proofs.Common.{◌≡◌, ◌≢◌, ℕ, ◌+◌, ◌<◌, ◌≤◌, ◌⊎◌, Bool, true, false, List, [], Option, Some, None, IfSome, Result, Ok, Err, inl, inr, refl, sym, ap, subst, ◌∙◌, arith}
+use Rattle.s2_report.specs.Styles.{plain}
 use Rattle.std.proofs.lemmas.Bool.{cases_lt}
 use Rattle.s2_mode.specs.Mode.{symbols_in}
 use Rattle.s2_mode.specs.Streams.{NoneFailed, OneFailed, Streams}
@@ -104,7 +105,7 @@ module _ {D : Type 0} (decide : D → List Symbol → Decision) where
       let resync = ap (λ (r : Receiver (Recalling D)). r.resync) rest in
       let limit = ap (λ (r : Receiver (Recalling D)). r.limit) rest in
       record {
-        rules = λ i. record { finds = found_as (sought i) (errors i); size = symbols_in (sought i).mode; resync = resync i; decide = decide (kept i); limit = limit i };
+        rules = λ i. record { finds = found_as (sought i) (errors i); size = symbols_in (sought i).mode; resync = resync i; decide = decide (kept i); limit = limit i; style = plain };
         sought = sought;
         max_header_errors = errors;
         resync = resync;
@@ -114,7 +115,7 @@ module _ {D : Type 0} (decide : D → List Symbol → Decision) where
   -- so does a step
   pub same_stepped : (old new : Receiver (Recalling D)) → IsSame (recall_rule decide) old new → own_rule decide new.decider ≡ own_rule decide old.decider → IsSame (own_rule decide) old new
   same_stepped old new same own = record {
-    rules = λ i. record { finds = found_as (same.sought i) (same.max_header_errors i); size = symbols_in (same.sought i).mode; resync = same.resync i; decide = own i; limit = same.limit i };
+    rules = λ i. record { finds = found_as (same.sought i) (same.max_header_errors i); size = symbols_in (same.sought i).mode; resync = same.resync i; decide = own i; limit = same.limit i; style = plain };
     sought = same.sought;
     max_header_errors = same.max_header_errors;
     resync = same.resync;
@@ -131,7 +132,7 @@ module _ {D : Type 0} (decide : D → List Symbol → Decision) where
 
   -- if all is true, the rules are those of the receiver that decides by itself
   rules_own : (r : Receiver (Recalling D)) → recall_rule decide r.decider ≡ own_rule decide r.decider → rules_of (recall_rule decide) r ≡ own_rules decide r
-  rules_own r is = λ i. record { finds = found_as r.sought r.max_header_errors; size = symbols_in r.sought.mode; resync = r.resync; decide = is i; limit = r.limit }
+  rules_own r is = λ i. record { finds = found_as r.sought r.max_header_errors; size = symbols_in r.sought.mode; resync = r.resync; decide = is i; limit = r.limit; style = plain }
 
   pub rules_true : (start mid : Receiver (Recalling D)) (s : RecordSource) → IsSame (own_rule decide) start mid → AreTrue decide mid.decider s → rules_of (recall_rule decide) mid ≡ own_rules decide start
   rules_true start mid s same all = rules_own mid all.held ∙ same.rules

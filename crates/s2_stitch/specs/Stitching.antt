@@ -5,11 +5,12 @@ use Rattle.s2_mode.specs.declared.stream_fault.StreamFault.TheVariants as stream
 use Rattle.s2_mode.specs.declared.symbols.Symbol.{Symbol}
 use Rattle.s2_receive.specs.Answers.{Between}
 use Rattle.s2_receive.specs.Meeting.{Met}
-use Rattle.s2_receive.specs.Receiving.{Decision, IsLive, Processed, Receiver, Rules, State, rules_of}
+use Rattle.s2_receive.specs.Receiving.{Decision, IsLive, Processed, Receiver, Rules, State, rules_of, styled}
 use Rattle.s2_receive.specs.Sinks.{OnlyFailedWith, RunAnswersWith, TakesFrames, Taking, frames_of}
 use Rattle.s2_receive.specs.declared.report.Phase.{Phase}
 use Rattle.s2_receive.specs.declared.report.Phase.TheVariants as phases
 use Rattle.s2_receive.specs.declared.report.Received.{Received}
+use Rattle.s2_report.specs.declared.style.Style.{Style}
 use Rattle.s2_stitch.specs.Recalling.{Recalling, is_ahead, recalls}
 use Rattle.s2_stitch.specs.Sources.{AreTrueLeft, Gives, RecordSource}
 use Rattle.s2_stitch.specs.declared.fault.SourceFault.{SourceFault}
@@ -59,11 +60,11 @@ StitchesAs takes fails rules old new sink_old sink_new before behind (Err (fault
 
 -- the same from a receiver to another, with a source, a sink, a reader and two writers, if the frame that is held and the records that
 -- are left are true
-abbrev pub Stitches :
-    {D S R P W : Type 0} → (D → List Symbol → Decision) → (takes fails : Taking S) → (R → Option (List ℕ)) → (R → ℕ) → (P → Option (List ℕ)) → (P → ℕ) → (W → Option (List ℕ)) → (W → ℕ)
+abbrev pub Runs :
+    {D S R P W : Type 0} → (D → List Symbol → Decision) → Style → (takes fails : Taking S) → (R → Option (List ℕ)) → (R → ℕ) → (P → Option (List ℕ)) → (P → ℕ) → (W → Option (List ℕ)) → (W → ℕ)
     → Receiver (Recalling D) → RecordSource → S → R → P → W → Receiver (Recalling D) → S → R → P → W → Result Received StitchFault → Type 0
-Stitches decide takes fails taken reads given writes out prints old source k r p w new k' r' p' w' result =
-    AreTrue decide old.decider source → Between (StitchesAs takes fails (own_rules decide old) old.state new.state k k') taken reads given writes out prints r p w r' p' w' result
+Runs decide style takes fails taken reads given writes out prints old source k r p w new k' r' p' w' result =
+    AreTrue decide old.decider source → Between (StitchesAs takes fails (styled style (own_rules decide old)) old.state new.state k k') taken reads given writes out prints r p w r' p' w' result
 
 -- only failed calls of the streams and of the sink were counted, as the fault says
 abbrev pub OnlyFaultsOf : (count_old count_new : ℕ) → (before behind : Streams) → Result Received StitchFault → Type 0

@@ -4,17 +4,17 @@ ghost use Rattle.s2_mode.specs.Counts.{CanCount};
 ghost use Rattle.s2_receive.specs.Answers.{Between, IsSame};
 ghost use Rattle.s2_receive.specs.Receiving.{IsLive, taken};
 ghost use Rattle.s2_stitch.specs.Sources.{CountsSource};
-ghost use Rattle.s2_stitch.specs.Stitching.{IsLeftIn, OnlyFaultsOf, Stitches, own_rule, source_fault};
+ghost use Rattle.s2_stitch.specs.Stitching.{IsLeftIn, OnlyFaultsOf, Runs, own_rule, source_fault};
 
 use crate::fault::StitchFault;
 use crate::recalling::Recalling;
 use crate::source::RecordSource;
 use s2_mode::{CountedRead, CountedWrite};
 use s2_receive::{Decide, Received, Receiver, Sink, is_certified_step};
-use s2_report::Step;
+use s2_report::{Step, Style};
 use std::alloc::Global;
 
-/// Takes all remaining steps of a receiver, up to the end line, by the decisions of the records of a source. If the frame that is
+/// Takes all remaining steps of a receiver, up to the end line, by the decisions of the records of a source. The report has this style. If the frame that is
 /// held and all records that are left are true, packets, report and frames are those of the receiver that decides all frames by
 /// itself ([`s2_receive::receive_with`]). Returns the totals, and whether all frames were delivered with certified bits and none
 /// was cut.
@@ -33,6 +33,7 @@ pub fn stitch_with<
 >(
     alloc: Global,
     receiver: &mut Receiver<Recalling<'a, D>>,
+    style: Style,
     source: &mut RecordSource<'a, Q, C>,
     reader: &mut R,
     sink: &mut K,
@@ -47,7 +48,7 @@ pub fn stitch_with<
     requires report { CanCount (W.count report.old) }
     requires live { IsLive receiver.old.state.phase }
     requires whole { source.old.fault ≡ None }
-    ensures runs { Stitches D.decide K.takes K.fails R.remaining R.count P.contents P.count W.contents W.count
+    ensures runs { Runs D.decide style K.takes K.fails R.remaining R.count P.contents P.count W.contents W.count
         receiver.old source.old sink.old reader.old packets.old report.old receiver.new sink.new reader.new packets.new report.new result }
     ensures counts { Between (OnlyFaultsOf (K.count sink.old) (K.count sink.new)) R.remaining R.count
         P.contents P.count W.contents W.count reader.old packets.old report.old reader.new packets.new report.new result }
@@ -62,7 +63,7 @@ pub fn stitch_with<
         if let Some(fault) = source.fault() {
             return Err(StitchFault::Source(fault));
         }
-        match receiver.next_with(reader, sink, packets, report) {
+        match receiver.next_with(style, reader, sink, packets, report) {
             Ok(step) => {
                 if step == Step::End {
                     let totals = receiver.totals();

@@ -4,9 +4,10 @@ use Rattle.s2_mode.specs.Streams.{Streams}
 use Rattle.s2_mode.specs.declared.symbols.Symbol.{Symbol}
 use Rattle.s2_link.specs.Link.{Link}
 use Rattle.s2_tuning.specs.Tuning.{Tuning}
-use Rattle.s2_receive.specs.Receiving.{Decision, Rules, State, begun}
+use Rattle.s2_receive.specs.Receiving.{Decision, Rules, State, begun, styled}
 use Rattle.s2_receive.specs.Sinks.{Taking}
 use Rattle.s2_receive.specs.declared.report.Received.{Received}
+use Rattle.s2_report.specs.declared.style.Style.{Style}
 use Rattle.s2_io.specs.declared.fault.Fault.{Fault}
 use Rattle.s2_commands.specs.Ends.{BeginsWith, Ends, ends_of}
 use Rattle.s2_stitch.specs.Recalling.{Recalling, recalls}
@@ -42,16 +43,16 @@ begins_so P Q truncated old new ended so (is, inl does) = (is, inl (so old new d
 begins_so P Q truncated old new ended so (is, inr cannot) = (is, inr cannot)
 
 -- a receiver of a link with such a source receives on the link
-pub stitches_on : {D K Q C : Type 0} (takes fails : Taking K) (decide : D → List Symbol → Decision) (records : Q → Option (List ℕ)) (record_reads : Q → ℕ) (copy : C → Option (List ℕ)) (copy_reads : C → ℕ) (r : Recalling D) (source : RecordSource) (rules : Rules) (link : Link) (tuning : Tuning) (seed : ℕ) (q : Q) (c : C)
+pub stitches_on : {D K Q C : Type 0} (style : Style) (takes fails : Taking K) (decide : D → List Symbol → Decision) (records : Q → Option (List ℕ)) (record_reads : Q → ℕ) (copy : C → Option (List ℕ)) (copy_reads : C → ℕ) (r : Recalling D) (source : RecordSource) (rules : Rules) (link : Link) (tuning : Tuning) (seed : ℕ) (q : Q) (c : C)
     → r.held ≡ None → source ≡ source_by records record_reads copy copy_reads (terms_on seed link tuning) q c 0 None → rules ≡ rules_with (decide r.decider) link tuning
     → (begun : Bool) (old new : Ends K) (ended : Result Received Fault)
-    → BeginsWith (λ before behind result. AreTrue decide r source → StitchesToEnd takes fails rules before behind result) begun old new ended
-    → StitchesOn takes fails (decide r.decider) tuning (unread_by records copy seed q c) link begun old new ended
-stitches_on takes fails decide records record_reads copy copy_reads r source rules link tuning seed q c none is same begun old new ended h =
-    inl (begins_so (λ before behind result. AreTrue decide r source → StitchesToEnd takes fails rules before behind result) (λ before behind result. AreTrueBy (decide r.decider) link tuning (unread_by records copy seed q c) → StitchesToEnd takes fails (rules_with (decide r.decider) link tuning) before behind result) begun old new ended (λ before behind does are.
-    subst (λ rs. StitchesToEnd takes fails rs before behind ended) same (does (true_from decide records record_reads copy copy_reads r source link tuning seed q c none is are))) h)
+    → BeginsWith (λ before behind result. AreTrue decide r source → StitchesToEnd takes fails (styled style rules) before behind result) begun old new ended
+    → StitchesOn takes fails (decide r.decider) style tuning (unread_by records copy seed q c) link begun old new ended
+stitches_on style takes fails decide records record_reads copy copy_reads r source rules link tuning seed q c none is same begun old new ended h =
+    inl (begins_so (λ before behind result. AreTrue decide r source → StitchesToEnd takes fails (styled style rules) before behind result) (λ before behind result. AreTrueBy (decide r.decider) link tuning (unread_by records copy seed q c) → StitchesToEnd takes fails (styled style (rules_with (decide r.decider) link tuning)) before behind result) begun old new ended (λ before behind does are.
+    subst (λ rs. StitchesToEnd takes fails (styled style rs) before behind ended) same (does (true_from decide records record_reads copy copy_reads r source link tuning seed q c none is are))) h)
 
 -- the same by the decisions of an equal rule
-pub stitches_so : {K : Type 0} (takes fails : Taking K) (one other : List Symbol → Decision) (tuning : Tuning) (unread : Unread) (link : Link) (begun : Bool) (old new : Ends K) (ended : Result Received Fault) → one ≡ other
-    → StitchesOn takes fails one tuning unread link begun old new ended → StitchesOn takes fails other tuning unread link begun old new ended
-stitches_so takes fails one other tuning unread link begun old new ended same h = subst (λ decide. StitchesOn takes fails decide tuning unread link begun old new ended) same h
+pub stitches_so : {K : Type 0} (style : Style) (takes fails : Taking K) (one other : List Symbol → Decision) (tuning : Tuning) (unread : Unread) (link : Link) (begun : Bool) (old new : Ends K) (ended : Result Received Fault) → one ≡ other
+    → StitchesOn takes fails one style tuning unread link begun old new ended → StitchesOn takes fails other style tuning unread link begun old new ended
+stitches_so style takes fails one other tuning unread link begun old new ended same h = subst (λ decide. StitchesOn takes fails decide style tuning unread link begun old new ended) same h

@@ -5,9 +5,10 @@ use Rattle.s2_link.specs.Link.{Link, setup_of}
 use Rattle.s2_link.specs.declared.setup.LinkSetup.{LinkSetup}
 use Rattle.s2_tuning.specs.Tuning.{Tuning}
 use Rattle.s2_receive.specs.Limits.{max_symbols}
-use Rattle.s2_receive.specs.Receiving.{Decision, Rules, State, begun}
+use Rattle.s2_receive.specs.Receiving.{Decision, Rules, State, begun, styled}
 use Rattle.s2_receive.specs.Sinks.{Taking}
 use Rattle.s2_receive.specs.declared.report.Received.{Received}
+use Rattle.s2_report.specs.declared.style.Style.{Style}
 use Rattle.s2_stitch.specs.Frames.{Terms}
 use Rattle.s2_stitch.specs.Laws.{uncertified}
 use Rattle.s2_stitch.specs.Sources.{AreTrueLeft, RecordSource}
@@ -81,18 +82,18 @@ StopsAtRecord takes rules old new ended =
 abbrev pub StitchesToEnd : {K : Type 0} → (takes fails : Taking K) → Rules → (old new : Ends K) → Result Received Fault → Type 0
 StitchesToEnd takes fails rules old new ended = ReceivesToEnd takes fails rules old new ended ⊎ StopsAtRecord takes rules old new ended
 
--- `stitch` on a link, whose receiver makes these decisions: it begins its output, and if the records are true, it receives to the end
-abbrev pub StitchesBy : {K : Type 0} → (takes fails : Taking K) → (List Symbol → Decision) → Tuning → Unread → LinkCommand (Ends K) Received
-StitchesBy takes fails decide tuning unread link begun old new ended =
-    BeginsWith (λ before behind result. AreTrueBy decide link tuning unread → StitchesToEnd takes fails (rules_with decide link tuning) before behind result) begun old new ended
+-- `stitch` on a link, whose receiver makes these decisions and whose report has this style: it begins its output, and if the records are true, it receives to the end
+abbrev pub StitchesBy : {K : Type 0} → (takes fails : Taking K) → (List Symbol → Decision) → Style → Tuning → Unread → LinkCommand (Ends K) Received
+StitchesBy takes fails decide style tuning unread link begun old new ended =
+    BeginsWith (λ before behind result. AreTrueBy decide link tuning unread → StitchesToEnd takes fails (styled style (rules_with decide link tuning)) before behind result) begun old new ended
 
 -- the same, unless memory runs out before it begins
-abbrev pub StitchesOn : {K : Type 0} → (takes fails : Taking K) → (List Symbol → Decision) → Tuning → Unread → LinkCommand (Ends K) Received
-StitchesOn takes fails decide tuning unread link = DoesOn (StitchesBy takes fails decide tuning unread) (Ok link)
+abbrev pub StitchesOn : {K : Type 0} → (takes fails : Taking K) → (List Symbol → Decision) → Style → Tuning → Unread → LinkCommand (Ends K) Received
+StitchesOn takes fails decide style tuning unread link = DoesOn (StitchesBy takes fails decide style tuning unread) (Ok link)
 
 -- `stitch` on a link, by the decisions of its receiver
-abbrev pub Stitches : {K : Type 0} → (takes fails : Taking K) → (certified : Bool) → Tuning → Unread → LinkCommand (Ends K) Received
-Stitches takes fails certified tuning unread link = StitchesBy takes fails (decides_on certified link tuning) tuning unread link
+abbrev pub Stitches : {K : Type 0} → (takes fails : Taking K) → (certified : Bool) → Style → Tuning → Unread → LinkCommand (Ends K) Received
+Stitches takes fails certified style tuning unread link = StitchesBy takes fails (decides_on certified link tuning) style tuning unread link
 
 -- ---- the command
 
@@ -102,5 +103,5 @@ abbrev pub StitchExits :
     {K E : Type 0} → (takes fails : Taking K) → (count : K → ℕ) → (certified : Bool) → Unread → LinkSetup → DemodOptions → (contents : E → Option (List ℕ)) → (prints : E → ℕ) → (notes notes_new : E) → Files → Files → K → K → Screen → Screen → Exit → Type 0
 StitchExits takes fails count certified unread setup words contents prints notes notes_new files left sinks_old sinks_new old new exit =
     (reception : Result Received Fault)
-    × OnLink (Stitches takes fails certified words.tuning unread) (CausesWith count) (noted_by contents prints notes notes_new words.notes.quiet setup.mode) (setup_of setup) files left (ends_of (reporting files old) sinks_old) (ends_of (reporting left new) sinks_new) reception
+    × OnLink (Stitches takes fails certified words.style words.tuning unread) (CausesWith count) (noted_by contents prints notes notes_new words.notes.quiet setup.mode) (setup_of setup) files left (ends_of (reporting files old) sinks_old) (ends_of (reporting left new) sinks_new) reception
     × Finishes words.notes setup.mode reception exit old new

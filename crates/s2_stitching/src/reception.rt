@@ -3,7 +3,7 @@ ghost use Rattle.std.specs.Prelude.{◌≡◌, ◌+◌, ◌≤◌, Ok, None, fal
 ghost use Rattle.s2_mode.specs.Counts.{CanCount};
 ghost use Rattle.s2_mode.specs.Mode.{symbols_in};
 ghost use Rattle.s2_mode.specs.Streams.{streams_by};
-ghost use Rattle.s2_receive.specs.Receiving.{begun};
+ghost use Rattle.s2_receive.specs.Receiving.{begun, styled};
 ghost use Rattle.s2_stitch.specs.Stitching.{AreTrue, own_rules};
 ghost use Rattle.s2_commands.specs.Ends.{BeginsWith, CausesWith, ends_of};
 ghost use Rattle.s2_stitching.specs.Stitches.{StitchesOn, StitchesToEnd, rules_with, unread_by};
@@ -14,6 +14,7 @@ use s2_io::{Destination, Fault, Output};
 use s2_link::Link;
 use s2_mode::{CountedRead, CountedWrite, StreamFault};
 use s2_receive::{Decide, Received, Receiver, Sink};
+use s2_report::Style;
 use s2_stitch::{Recalling, RecordSource, StitchFault, stitch_with};
 use s2_tuning::Tuning;
 use std::alloc::Global;
@@ -32,6 +33,7 @@ fn stitch_to_end<
 >(
     alloc: Global,
     receiver: &mut Receiver<Recalling<'a, D>>,
+    style: Style,
     source: &mut RecordSource<'a, Q, C>,
     symbols: &mut S,
     sinks: &mut K,
@@ -47,13 +49,13 @@ fn stitch_to_end<
     requires out { CanCount (O.count out.old) }
     requires begun { receiver.old.state ≡ begun }
     ensures receives { let ends = streams_by S.remaining S.count W.contents W.count O.contents O.count in
-        AreTrue D.decide receiver.old.decider source.old → StitchesToEnd K.takes K.fails (own_rules D.decide receiver.old)
+        AreTrue D.decide receiver.old.decider source.old → StitchesToEnd K.takes K.fails (styled style (own_rules D.decide receiver.old))
         (ends_of (ends symbols.old packets.old out.old) sinks.old) (ends_of (ends symbols.new packets.new out.new) sinks.new) result }
     ensures causes { let ends = streams_by S.remaining S.count W.contents W.count O.contents O.count in
         CausesWith K.count (ends_of (ends symbols.old packets.old out.old) sinks.old) (ends_of (ends symbols.new packets.new out.new) sinks.new) result }
     ensures few { K.count sinks.new ≤ K.count sinks.old + 1 }
 {
-    match stitch_with(alloc, receiver, source, symbols, sinks, packets, out) {
+    match stitch_with(alloc, receiver, style, source, symbols, sinks, packets, out) {
         Ok(received) => Ok(received),
         Err(StitchFault::Stream(StreamFault::Read)) => Err(Fault::Read),
         Err(StitchFault::Stream(StreamFault::Write)) => Err(Fault::Write),
@@ -74,6 +76,7 @@ fn stitch_begun<
 >(
     alloc: Global,
     receiver: &mut Receiver<Recalling<'a, D>>,
+    style: Style,
     source: &mut RecordSource<'a, Q, C>,
     symbols: &mut S,
     sinks: &mut K,
@@ -90,7 +93,7 @@ fn stitch_begun<
     requires out { CanCount (O.count out.old) }
     requires begun { receiver.old.state ≡ begun }
     ensures receives { let ends = streams_by S.remaining S.count W.contents W.count O.contents O.count in
-        BeginsWith (λ before behind ended. AreTrue D.decide receiver.old.decider source.old → StitchesToEnd K.takes K.fails (own_rules D.decide receiver.old) before behind ended)
+        BeginsWith (λ before behind ended. AreTrue D.decide receiver.old.decider source.old → StitchesToEnd K.takes K.fails (styled style (own_rules D.decide receiver.old)) before behind ended)
         packets.new.begun (ends_of (ends symbols.old packets.old.to out.old) sinks.old) (ends_of (ends symbols.new packets.new.to out.new) sinks.new) result }
     ensures causes { let ends = streams_by S.remaining S.count W.contents W.count O.contents O.count in
         CausesWith K.count (ends_of (ends symbols.old packets.old.to out.old) sinks.old) (ends_of (ends symbols.new packets.new.to out.new) sinks.new) result }
@@ -102,6 +105,7 @@ fn stitch_begun<
     stitch_to_end(
         alloc,
         receiver,
+        style,
         source,
         symbols,
         sinks,
@@ -126,6 +130,7 @@ fn stitch_records<
     tuning: Tuning,
     seed: u64,
     receiver: &mut Receiver<Recalling<'a, D>>,
+    style: Style,
     records: Q,
     copy: C,
     symbols: &mut S,
@@ -144,7 +149,7 @@ fn stitch_records<
     requires none { receiver.old.decider.held ≡ None }
     requires rules { own_rules D.decide receiver.old ≡ rules_with (D.decide receiver.old.decider.decider) link.now tuning }
     ensures receives { let ends = streams_by S.remaining S.count W.contents W.count O.contents O.count in
-        StitchesOn K.takes K.fails (D.decide receiver.old.decider.decider) tuning (unread_by Q.remaining C.remaining seed records copy) link.now packets.new.begun
+        StitchesOn K.takes K.fails (D.decide receiver.old.decider.decider) style tuning (unread_by Q.remaining C.remaining seed records copy) link.now packets.new.begun
         (ends_of (ends symbols.old packets.old.to out.old) sinks.old) (ends_of (ends symbols.new packets.new.to out.new) sinks.new) result }
     ensures causes { let ends = streams_by S.remaining S.count W.contents W.count O.contents O.count in
         CausesWith K.count (ends_of (ends symbols.old packets.old.to out.old) sinks.old) (ends_of (ends symbols.new packets.new.to out.new) sinks.new) result }
@@ -152,7 +157,16 @@ fn stitch_records<
 {
     match source_of(alloc, link, tuning, seed, records, copy) {
         Ok(mut source) => {
-            stitch_begun(alloc, receiver, &mut source, symbols, sinks, packets, out)
+            stitch_begun(
+                alloc,
+                receiver,
+                style,
+                &mut source,
+                symbols,
+                sinks,
+                packets,
+                out,
+            )
         }
         Err(_) => Err(Fault::NoMemory),
     }
@@ -172,6 +186,7 @@ pub(crate) fn stitch_by<
 >(
     alloc: Global,
     link: &Link<'a>,
+    style: Style,
     tuning: Tuning,
     seed: u64,
     decider: D,
@@ -191,7 +206,7 @@ pub(crate) fn stitch_by<
     requires unbegun { packets.old.begun ≡ false }
     requires out { CanCount (O.count out.old) }
     ensures receives { let ends = streams_by S.remaining S.count W.contents W.count O.contents O.count in
-        StitchesOn K.takes K.fails (D.decide decider) tuning (unread_by Q.remaining C.remaining seed records copy) link.now packets.new.begun
+        StitchesOn K.takes K.fails (D.decide decider) style tuning (unread_by Q.remaining C.remaining seed records copy) link.now packets.new.begun
         (ends_of (ends symbols.old packets.old.to out.old) sinks.old) (ends_of (ends symbols.new packets.new.to out.new) sinks.new) result }
     ensures causes { let ends = streams_by S.remaining S.count W.contents W.count O.contents O.count in
         CausesWith K.count (ends_of (ends symbols.old packets.old.to out.old) sinks.old) (ends_of (ends symbols.new packets.new.to out.new) sinks.new) result }
@@ -204,6 +219,7 @@ pub(crate) fn stitch_by<
             tuning,
             seed,
             &mut receiver,
+            style,
             records,
             copy,
             symbols,

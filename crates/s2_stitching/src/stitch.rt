@@ -16,6 +16,7 @@ use s2_link::{Link, LinkSetup};
 use s2_mode::{CountedRead, CountedWrite};
 use s2_modem::Decider;
 use s2_receive::{Received, Sink};
+use s2_report::Style;
 use s2_stitch::Uncertified;
 use s2_table::read_noted;
 use s2_tuning::Tuning;
@@ -33,6 +34,7 @@ fn stitch_link<
 >(
     alloc: Global,
     link: &Link<'_>,
+    style: Style,
     tuning: Tuning,
     certified: bool,
     seed: u64,
@@ -51,7 +53,7 @@ fn stitch_link<
     requires unbegun { packets.old.begun ≡ false }
     requires out { CanCount (O.count out.old) }
     ensures receives { let ends = streams_by S.remaining S.count W.contents W.count O.contents O.count in
-        StitchesOn K.takes K.fails (decides_on certified link.now tuning) tuning (unread_by Q.remaining C.remaining seed records copy) link.now packets.new.begun
+        StitchesOn K.takes K.fails (decides_on certified link.now tuning) style tuning (unread_by Q.remaining C.remaining seed records copy) link.now packets.new.begun
         (ends_of (ends symbols.old packets.old.to out.old) sinks.old) (ends_of (ends symbols.new packets.new.to out.new) sinks.new) result }
     ensures causes { let ends = streams_by S.remaining S.count W.contents W.count O.contents O.count in
         CausesWith K.count (ends_of (ends symbols.old packets.old.to out.old) sinks.old) (ends_of (ends symbols.new packets.new.to out.new) sinks.new) result }
@@ -59,12 +61,13 @@ fn stitch_link<
 {
     match Decider::new(alloc, link, tuning) {
         Ok(decider) if certified => stitch_by(
-            alloc, link, tuning, seed, decider, records, copy, symbols, sinks, packets, out,
+            alloc, link, style, tuning, seed, decider, records, copy, symbols, sinks, packets, out,
         ),
         Ok(decider) => {
             let decider = Uncertified::new(decider);
             stitch_by(
-                alloc, link, tuning, seed, decider, records, copy, symbols, sinks, packets, out,
+                alloc, link, style, tuning, seed, decider, records, copy, symbols, sinks, packets,
+                out,
             )
         }
         Err(_) => Err(Fault::NoMemory),
@@ -101,7 +104,7 @@ fn stitch_files<
     requires notes { CanCount (E.count notes.old) }
     ensures errors { (console.new.errors ≡ console.old.errors) × (console.new.errors_failed ≡ console.old.errors_failed) }
     ensures run { let noted = noted_by E.contents E.count notes.old notes.new words.now.notes.quiet setup.mode in
-        OnLink (Stitches K.takes K.fails certified words.now.tuning (unread_by Q.remaining C.remaining seed records copy)) (CausesWith K.count) noted (setup_of setup) files.old files.new
+        OnLink (Stitches K.takes K.fails certified words.now.style words.now.tuning (unread_by Q.remaining C.remaining seed records copy)) (CausesWith K.count) noted (setup_of setup) files.old files.new
         (ends_of (reporting files.old console.old) sinks.old) (ends_of (reporting files.new console.new) sinks.new) result }
     ensures few { K.count sinks.new ≤ K.count sinks.old + 1 }
 {
@@ -111,6 +114,7 @@ fn stitch_files<
     stitch_link(
         alloc,
         &link,
+        words.style,
         words.tuning,
         certified,
         seed,

@@ -6,7 +6,7 @@ mod options;
 mod serve;
 
 use crate::about::{printed_sum, sums_for};
-use crate::serve::{every_of, from_of, print_usage, request_of, run_request, words_given};
+use crate::serve::{print_usage, request_of, run_request, words_given};
 use s2_about::FileSums;
 use s2_io::Terminal;
 use s2_notes::{errors_of, note_typed, takes_output};
@@ -29,13 +29,11 @@ fn main(rt: HostRuntime) -> ExitCode {
     let exit = match request_of(rt.alloc(), &words) {
         Ok(request) => {
             note_if_typed(&rt, &terminal, &request);
-            let every = every_of(&request);
             let made = FileSums::new();
             let sums = sums_for(&request, &made);
             let printed = printed_sum(&request, sums);
-            let from = from_of(&request);
             let taken = takes_output(&request);
-            let mut screen = screen_beside(&terminal, taken, every, from, printed);
+            let mut screen = screen_beside(&terminal, taken, printed);
             let mut notes = errors_of(&terminal);
             run_request(&rt, &terminal, &request, sums, &mut screen, &mut notes)
         }

@@ -92,7 +92,7 @@ pub(crate) fn print_usage<R: Disk + AllocGlobal + Print + Eprint>(
     unread: &Unread,
 ) -> Exit {
     match unread {
-        Unread::NoMemory => lacks_memory(&mut screen_beside(terminal, false, 0, 0, None)),
+        Unread::NoMemory => lacks_memory(&mut screen_beside(terminal, false, None)),
         Unread::Asked(help) => match help.print(rt) {
             Ok(()) => Exit::Fine,
             Err(_) => Exit::Fault,
@@ -109,29 +109,6 @@ fn lacks_memory<O: CountedWrite, E: CountedWrite>(console: &mut Console<O, E>) -
     requires { CanNote console.old }
 {
     console.report_fault(Fault::NoMemory)
-}
-
-/// N if every N-th frame has a line in the report of a request, or 0 if each frame has one.
-pub(crate) fn every_of(request: &Request<'_>) -> u32 {
-    match request {
-        Request::Demod(words) => words.every,
-        Request::Run(words) => words.every,
-        Request::Stitch(words) => words.demod.every,
-        _ => 0,
-    }
-}
-
-/// The position of the recording at which the piece of a request begins, or 0 if it receives no piece.
-pub(crate) fn from_of(request: &Request<'_>) -> u64 {
-    match request {
-        Request::Demod(
-            DemodArguments {
-                piece: Some(piece),
-                ..
-            },
-        ) => piece.from,
-        _ => 0,
-    }
 }
 
 /// The fault of a request that is not served.

@@ -1,4 +1,4 @@
-use Rattle.s2_commands.proofs.Names.{rules, inl, rules_for, streams_by}
+use Rattle.s2_commands.proofs.Names.{rules, inl, rules_for, styled, streams_by}
 use Rattle.s2_commands.proofs.ReceiveLemmas.{same_streams, received_from}
 use Rattle.s2_commands.proofs.demod.receive_begun.Goals as goal
 
@@ -7,5 +7,5 @@ returns-clause-receives g c =
     let before = streams_by g.S.CountedRead.remaining g.S.Counted.count g.W.CountedWrite.contents g.W.Counted.count g.O.CountedWrite.contents g.O.Counted.count c.args.symbols.now c.args.packets.now.to c.args.out.now in
     let same = same_streams before (g.W.CountedWrite.contents c.writer.result.now) (g.W.Counted.count c.writer.result.now) (search rules) (search rules) in (
       c.truncate.ensures.begun,
-      inl (received_from g.K.Sink.takes g.K.Sink.fails (rules_for c.args.receiver.now) c.args.sinks.now _ before _ c.receive_to_end.result same c.receive_to_end.ensures.receives),
+      inl (received_from g.K.Sink.takes g.K.Sink.fails (styled c.args.style (rules_for c.args.receiver.now)) c.args.sinks.now _ before _ c.receive_to_end.result same c.receive_to_end.ensures.receives),
     )

@@ -12,6 +12,6 @@ returns-in-Ok-add_noise-clause-receives g c =
       search rules,
       (
         Some c.receive_begun.new.symbols.bytes.now,
-        begins_on g.K.Sink.takes g.K.Sink.fails c.args.link.now c.args.tuning c.in-Ok.receiver c.in-Ok.ensures _ _ _ _ c.receive_begun.ensures.receives,
+        begins_on c.args.style g.K.Sink.takes g.K.Sink.fails c.args.link.now c.args.tuning c.in-Ok.receiver c.in-Ok.ensures _ _ _ _ c.receive_begun.ensures.receives,
       ),
     )

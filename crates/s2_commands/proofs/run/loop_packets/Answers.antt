@@ -1,4 +1,4 @@
-use Rattle.s2_commands.proofs.Names.{◌≡◌, List, ℕ, rules, Ok, subst, ends_of, written_by, link_rules, max_symbols, ReceivesRuns}
+use Rattle.s2_commands.proofs.Names.{◌≡◌, List, ℕ, rules, Ok, subst, ends_of, written_by, link_rules, styled, max_symbols, ReceivesRuns}
 use Rattle.s2_commands.proofs.SentLemmas.{causes_sent, runs_beside}
 use Rattle.s2_commands.proofs.run.loop_packets.Goals as goal
 
@@ -9,7 +9,7 @@ returns-clause-loops g c =
     let behind = ends_of (ends c.receive_runs.new.to.to c.receive_runs.new.out) c.receive_runs.new.sinks in
     let sent = c.into_inner-symbols.result.items in
     let same : c.deref.result.now ≡ sent = search rules in
-    let rules_of = link_rules c.args.link.now c.args.words.now.tuning max_symbols in
+    let rules_of = styled c.args.words.now.style (link_rules c.args.link.now c.args.words.now.tuning max_symbols) in
     let heard = subst (λ (l : List ℕ). ReceivesRuns g.K.Sink.takes g.K.Sink.fails rules_of c.args.words.now.channel c.args.words.now.seeds l c.receive_runs.new.to.begun before behind c.receive_runs.result) same
     c.receive_runs.ensures.receives in (
       Ok c.in_default.field-0,

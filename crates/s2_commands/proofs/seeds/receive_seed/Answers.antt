@@ -12,6 +12,6 @@ returns-in-Ok-add_noise-clause-hears g c =
       search rules,
       (
         Some c.receive_to_end.new.symbols.bytes.now,
-        hears_on g.K.Sink.takes g.K.Sink.fails c.args.link.now c.args.tuning c.in-Ok.receiver c.in-Ok.ensures _ _ _ c.receive_to_end.ensures.receives,
+        hears_on c.args.style g.K.Sink.takes g.K.Sink.fails c.args.link.now c.args.tuning c.in-Ok.receiver c.in-Ok.ensures _ _ _ c.receive_to_end.ensures.receives,
       ),
     )

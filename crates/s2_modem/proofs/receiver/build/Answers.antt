@@ -1,3 +1,4 @@
+use Rattle.s2_report.specs.Styles.{plain}
 use Rattle.s2_modem.proofs.Names.{rules, ◌≤◌, sym, ap, subst, ◌∙◌, IfOk-weaker, shape_in, symbols_in, IsDivisor, found_as, frame_decision, IsUndecided, DeciderState, sought_of}
 use Rattle.s2_modem.proofs.HeadlineLemmas.{keeps_headline}
 use Rattle.s2_modem.proofs.receiver.build.Goals as goal
@@ -16,7 +17,7 @@ returns c =
           let lock = e.1 ∙ c.max_header_errors.ensures.is in
           let link = ap (λ (x : DeciderState). x.link) e.3 ∙ d.link in
           let tuning = ap (λ (x : DeciderState). x.tuning) e.3 ∙ d.tuning in
-          λ i. record { finds = found_as (sought i) (lock i); size = symbols_in (sought i).mode; resync = (e.2 ∙ c.has_resync.ensures) i; decide = frame_decision (link i) (tuning i); limit = e.4 i })) c.new-2.ensures.parts;
+          λ i. record { finds = found_as (sought i) (lock i); size = symbols_in (sought i).mode; resync = (e.2 ∙ c.has_resync.ensures) i; decide = frame_decision (link i) (tuning i); limit = e.4 i; style = plain })) c.new-2.ensures.parts;
       limit = search rules;
       begun = search rules;
       keeps = IfOk-weaker c.new-2.result _ _ (λ r e. all) c.new-2.ensures.parts;

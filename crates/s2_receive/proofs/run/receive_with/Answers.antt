@@ -1,4 +1,4 @@
-use Rattle.s2_receive.proofs.Names.{[], refl, sym, ap, ◌∙◌, Err, rules as common}
+use Rattle.s2_receive.proofs.Names.{[], refl, sym, ap, ◌∙◌, Err, styled, rules as common}
 use Rattle.s2_receive.proofs.RunLemmas.{processed_none, goes, finishes, breaks_off}
 use Rattle.s2_receive.proofs.run.receive_with.Goals as goal
 
@@ -8,13 +8,13 @@ steps-init g c = record { came = ([], processed_none _ _ _, refl, refl); same = 
 pub returns-then-eq-clause-runs : goal.returns-then-eq-clause-runs
 returns-then-eq-clause-runs g c =
     let so = c.steps.invariant in
-    let (run, took) = finishes _ g.K.Sink.takes g.K.Sink.fails _ _ _ so.same.rules c.in-Ok.step c.steps.all_certified (search common) so.came (c.in-Ok.ensures.steps.live so.live) in
+    let (run, took) = finishes _ g.K.Sink.takes g.K.Sink.fails _ _ _ (ap (styled c.args.style) so.same.rules) c.in-Ok.step c.steps.all_certified (search common) so.came (c.in-Ok.ensures.steps.live so.live) in
     ((run, search common, search common), took)
 
 pub steps-preserved : goal.steps-preserved
 steps-preserved g c =
     let so = c.steps.invariant in
-    let on = goes _ g.K.Sink.takes g.K.Sink.fails _ _ _ so.same.rules c.in-Ok.step c.steps.all_certified (λ e. search common) so.came (c.in-Ok.ensures.steps.live so.live) so.live in
+    let on = goes _ g.K.Sink.takes g.K.Sink.fails _ _ _ (ap (styled c.args.style) so.same.rules) c.in-Ok.step c.steps.all_certified (λ e. search common) so.came (c.in-Ok.ensures.steps.live so.live) so.live in
     let (none, kept_count) = c.in-Ok.ensures.steps.counts.no_write (λ x. cc) in
     let kept = c.next_with.ensures.same in
     record {
@@ -31,5 +31,5 @@ pub returns-in-Err-clause-runs : goal.returns-in-Err-clause-runs
 returns-in-Err-clause-runs g c =
     let so = c.steps.invariant in
     let told = sym c.of_stream.ensures in
-    breaks_off _ g.K.Sink.takes g.K.Sink.fails _ _ _ so.same.rules c.steps.all_certified c.of_stream.result so.came (rw told at (c.in-Err.ensures.steps.live so.live)) so.counts.0
+    breaks_off _ g.K.Sink.takes g.K.Sink.fails _ _ _ (ap (styled c.args.style) so.same.rules) c.steps.all_certified c.of_stream.result so.came (rw told at (c.in-Err.ensures.steps.live so.live)) so.counts.0
     (λ read. (let (packets, report) = c.in-Err.ensures.unwritten (ap (λ f. Err f) (told ∙ read)) in (ap g.P.CountedWrite.contents packets, ap g.W.CountedWrite.contents report)))

@@ -1,4 +1,4 @@
-use Rattle.s2_receive.proofs.Names.{◌≡◌, ◌+◌, ◌-◌, max_symbols, streams_by, IsLive, IsSame, rank, rules_of}
+use Rattle.s2_receive.proofs.Names.{◌≡◌, ◌+◌, ◌-◌, max_symbols, streams_by, IsLive, IsSame, rank, rules_of, styled}
 use Rattle.s2_receive.proofs.RunLemmas.{Came}
 use Rattle.s2_receive.proofs.run.receive_with.Given as goal
 
@@ -7,7 +7,7 @@ abbrev pub invariant-steps : goal.invariant-steps
 invariant-steps g l =
     let ends = streams_by g.R.CountedRead.remaining g.R.Counted.count g.P.CountedWrite.contents g.P.Counted.count g.W.CountedWrite.contents g.W.Counted.count in
     record {
-      came : Came (rules_of g.D.Decide.decide l.fn.receiver) g.K.Sink.takes l.fn.receiver.state l.receiver.state (ends l.fn.reader l.fn.packets l.fn.report) (ends l.reader l.packets l.report) l.fn.sink l.sink l.all_certified;
+      came : Came (styled l.fn.style (rules_of g.D.Decide.decide l.fn.receiver)) g.K.Sink.takes l.fn.receiver.state l.receiver.state (ends l.fn.reader l.fn.packets l.fn.report) (ends l.reader l.packets l.report) l.fn.sink l.sink l.all_certified;
       same : IsSame g.D.Decide.decide l.fn.receiver l.receiver;
       live : IsLive l.receiver.state.phase;
       counts :

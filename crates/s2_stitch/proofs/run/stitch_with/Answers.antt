@@ -1,5 +1,5 @@
 use Rattle.std.proofs.Common.{◌≡◌, ◌+◌, ◌∙◌, [], None, Err, arith, refl, sym, ap, subst, rules as common}
-use Rattle.s2_receive.specs.Receiving.{IsLive, Receiver, State, rank}
+use Rattle.s2_receive.specs.Receiving.{IsLive, Receiver, State, rank, styled}
 use Rattle.s2_receive.proofs.RunLemmas.{breaks_off, finishes, goes, processed_none}
 use Rattle.s2_stitch.specs.Recalling.{Recalling}
 use Rattle.s2_stitch.proofs.StitchLemmas.{came_at, counted_fault, counted_none, counted_supplied, counts_fault, ends as ends_so, fails_so, from_start, met_so, nears, rank_few, rules_true, same_both, same_none, same_stepped, same_supplied, true_stepped, true_supplied}
@@ -46,7 +46,7 @@ returns-then-eq-clause-runs g c = λ all.
     let same = same_both decide c.args.receiver.now c.steps.receiver mid so.same (same_supplied decide c.steps.receiver mid c.supply.ensures.rest supplies.decider) in
     let rules = rules_true decide c.args.receiver.now mid c.supply.new.source same so_mid in
     let live = subst (λ (s : State). IsLive s.phase) (sym state) so.live in
-    let (run, took) = finishes _ g.K.Sink.takes g.K.Sink.fails _ _ _ rules c.in-Ok.step c.steps.all_certified (search common) (came_at g.K.Sink.takes _ _ _ mid.state _ _ _ _ _ state came) (c.in-Ok.ensures.steps.live live) in
+    let (run, took) = finishes _ g.K.Sink.takes g.K.Sink.fails _ _ _ (ap (styled c.args.style) rules) c.in-Ok.step c.steps.all_certified (search common) (came_at g.K.Sink.takes _ _ _ mid.state _ _ _ _ _ state came) (c.in-Ok.ensures.steps.live live) in
     ((run, search common, search common), took)
 
 pub returns-then-eq-clause-left : goal.returns-then-eq-clause-left
@@ -75,7 +75,7 @@ steps-preserved g c =
           let (now, came) = so.came all in
           let so_mid = true_supplied _ _ mid.decider _ source supplies so.whole decide whole now in
           let rules = rules_true decide c.args.receiver.now mid source same so_mid in
-          let on = goes _ g.K.Sink.takes g.K.Sink.fails _ _ _ rules c.in-Ok.step c.steps.all_certified (λ e. search common) (came_at g.K.Sink.takes _ _ _ mid.state _ _ _ _ _ state came) answers live in
+          let on = goes _ g.K.Sink.takes g.K.Sink.fails _ _ _ (ap (styled c.args.style) rules) c.in-Ok.step c.steps.all_certified (λ e. search common) (came_at g.K.Sink.takes _ _ _ mid.state _ _ _ _ _ state came) answers live in
           (true_stepped decide mid new source c.next_with.ensures.same c.next_with.ensures.unaided so_mid, rw c.is_certified_step-all_certified.ensures on.0)
           );
       same = same_both decide c.args.receiver.now mid new same (same_stepped decide mid new c.next_with.ensures.same c.next_with.ensures.unaided);
@@ -116,7 +116,7 @@ returns-in-Err-clause-runs g c = λ all.
     let rules = rules_true decide c.args.receiver.now mid c.supply.new.source same so_mid in
     let live = subst (λ (s : State). IsLive s.phase) (sym state) so.live in
     let told = sym c.of_stream.ensures in
-    breaks_off _ g.K.Sink.takes g.K.Sink.fails _ _ _ rules c.steps.all_certified c.of_stream.result (came_at g.K.Sink.takes _ _ _ mid.state _ _ _ _ _ state came) (rw told at (c.in-Err.ensures.steps.live live)) so.counts.0
+    breaks_off _ g.K.Sink.takes g.K.Sink.fails _ _ _ (ap (styled c.args.style) rules) c.steps.all_certified c.of_stream.result (came_at g.K.Sink.takes _ _ _ mid.state _ _ _ _ _ state came) (rw told at (c.in-Err.ensures.steps.live live)) so.counts.0
     (λ read. (let (packets, report) = c.in-Err.ensures.unwritten (ap (λ f. Err f) (told ∙ read)) in (ap g.P.CountedWrite.contents packets, ap g.W.CountedWrite.contents report)))
 
 pub returns-in-Err-clause-counts : goal.returns-in-Err-clause-counts

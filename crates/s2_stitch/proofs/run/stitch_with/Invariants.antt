@@ -2,7 +2,7 @@ use Rattle.std.proofs.Common.{◌≡◌, ◌+◌, ◌-◌, None}
 use Rattle.s2_mode.specs.Streams.{streams_by}
 use Rattle.s2_receive.specs.Answers.{IsSame}
 use Rattle.s2_receive.specs.Limits.{max_symbols}
-use Rattle.s2_receive.specs.Receiving.{IsLive, rank}
+use Rattle.s2_receive.specs.Receiving.{IsLive, rank, styled}
 use Rattle.s2_receive.proofs.RunLemmas.{Came}
 use Rattle.s2_stitch.specs.Stitching.{AreTrue, own_rule, own_rules}
 use Rattle.s2_stitch.proofs.run.stitch_with.Given as goal
@@ -14,7 +14,7 @@ invariant-steps g l =
     record {
       came : AreTrue g.D.Decide.decide l.fn.receiver.decider l.fn.source
           → AreTrue g.D.Decide.decide l.receiver.decider l.source
-          × Came (own_rules g.D.Decide.decide l.fn.receiver) g.K.Sink.takes l.fn.receiver.state l.receiver.state (ends l.fn.reader l.fn.packets l.fn.report) (ends l.reader l.packets l.report) l.fn.sink l.sink l.all_certified;
+          × Came (styled l.fn.style (own_rules g.D.Decide.decide l.fn.receiver)) g.K.Sink.takes l.fn.receiver.state l.receiver.state (ends l.fn.reader l.fn.packets l.fn.report) (ends l.reader l.packets l.report) l.fn.sink l.sink l.all_certified;
       same : IsSame (own_rule g.D.Decide.decide) l.fn.receiver l.receiver;
       live : IsLive l.receiver.state.phase;
       whole : l.source.fault ≡ None;

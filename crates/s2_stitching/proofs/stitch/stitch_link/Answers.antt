@@ -14,7 +14,7 @@ returns-in-Ok-clause-receives g c =
     let d = c.in-Ok.decider in
     let own : frame_decision d.link d.tuning ≡ frame_decision link tuning = λ i. frame_decision (c.in-Ok.ensures.link i) (c.in-Ok.ensures.tuning i) in
     let same = own ∙ sym (ap (λ (b : Bool). decides_on b link tuning) c.if-certified.true) in
-    stitches_so g.K.Sink.takes g.K.Sink.fails (frame_decision d.link d.tuning) (decides_on c.args.certified link tuning) tuning (unread_by g.Q.CountedRead.remaining g.C.CountedRead.remaining c.args.seed c.args.records c.args.copy)
+    stitches_so c.args.style g.K.Sink.takes g.K.Sink.fails (frame_decision d.link d.tuning) (decides_on c.args.certified link tuning) tuning (unread_by g.Q.CountedRead.remaining g.C.CountedRead.remaining c.args.seed c.args.records c.args.copy)
     link c.stitch_by.new.packets.begun _ _ c.stitch_by.result same c.stitch_by.ensures.receives
 
 pub returns-in-Ok-2-clause-receives : goal.returns-in-Ok-2-clause-receives
@@ -27,5 +27,5 @@ returns-in-Ok-2-clause-receives g c =
     let tuning_is = ap (λ x. x.tuning) d_is ∙ c.in-Ok.ensures.tuning in
     let own : uncertified (frame_decision d.link d.tuning) ≡ uncertified (frame_decision link tuning) = λ i. uncertified (frame_decision (link_is i) (tuning_is i)) in
     let same = own ∙ sym (ap (λ (b : Bool). decides_on b link tuning) c.if-certified.false) in
-    stitches_so g.K.Sink.takes g.K.Sink.fails (uncertified (frame_decision d.link d.tuning)) (decides_on c.args.certified link tuning) tuning (unread_by g.Q.CountedRead.remaining g.C.CountedRead.remaining c.args.seed c.args.records c.args.copy)
+    stitches_so c.args.style g.K.Sink.takes g.K.Sink.fails (uncertified (frame_decision d.link d.tuning)) (decides_on c.args.certified link tuning) tuning (unread_by g.Q.CountedRead.remaining g.C.CountedRead.remaining c.args.seed c.args.records c.args.copy)
     link c.stitch_by-in-Ok-2.new.packets.begun _ _ c.stitch_by-in-Ok-2.result same c.stitch_by-in-Ok-2.ensures.receives

@@ -1,0 +1,41 @@
+-- The style of a report changes nothing that a receiver meets.
+use Rattle.s2_receive.proofs.Names.{◌≡◌, ℕ, [], ◌∷◌, List, Option, Some, None, Result, Ok, Err, refl, sym, subst, Met, frame, cut, ended, Rules, State, Phase, Window, Handles, Meets, Seen, Finds, Step, Style, left_known, left_in, printing, styled}
+use Rattle.s2_receive.proofs.Names.phases
+use Rattle.s2_mode.specs.declared.counts.ReadFault.{ReadFault}
+use Rattle.s2_receive.specs.Receiving.{EndsBehind, room_in}
+
+module _ (style : Style) where
+  left_styled : (rules : Rules) (phase : Phase) (window : Window) (bytes : Option (List ℕ)) → left_known (styled style rules) phase window bytes ≡ left_known rules phase window bytes
+  left_styled rules phases.Searching window None = refl
+  left_styled rules phases.Searching window (Some bytes) = refl
+  left_styled rules phases.Closing window bytes = refl
+  left_styled rules phases.Ended window bytes = refl
+  left_styled rules phases.Failed window bytes = refl
+
+  handles_styled : (rules : Rules) (old new : State) (met : Met) (packets : List ℕ) (step : Step) → Handles rules old new met packets step → Handles (styled style rules) old new met packets step
+  handles_styled rules old new (frame at skipped symbols) packets step h = record { step_is = h.step_is; phase = h.phase; standing = h.standing; packets_are = h.packets_are }
+  handles_styled rules old new (cut at skipped count) packets step h = record { step_is = h.step_is; phase = h.phase; standing = h.standing; packets_are = h.packets_are }
+  handles_styled rules old new (ended skipped) packets step h = record { step_is = h.step_is; phase = h.phase; standing = h.standing; packets_are = h.packets_are }
+
+  meets_styled : (rules : Rules) (old new : State) (r r' : Option (List ℕ)) (met : List Met) → Meets (left_in rules old r) (left_in rules new r') met → Meets (left_in (styled style rules) old r) (left_in (styled style rules) new r') met
+  meets_styled rules old new r r' met meets =
+      subst (λ l. Meets l (left_in (styled style rules) new r') met) (sym (left_styled rules old.phase old.window r))
+      (subst (λ l. Meets (left_in rules old r) l met) (sym (left_styled rules new.phase new.window r')) meets)
+
+  pub finds_styled : (old mid : Seen) (r r' : Option (List ℕ)) (n n' : ℕ) (result : Result Step ReadFault) → Finds old mid r r' n n' result → Finds (printing style old) (printing style mid) r r' n n' result
+  finds_styled old mid r r' n n' (Ok step) (met, handles, decided, kept, meets, more) =
+      (met, handles_styled old.rules old.state mid.state met mid.packets step handles, decided, kept, meets_styled old.rules old.state mid.state r r' (met ∷ []) meets, more)
+  finds_styled old mid r r' n n' (Err fault) (searching, standing, last, short, within) =
+      let ends : (place : ℕ) → EndsBehind (room_in old.rules) place (left_in old.rules old.state r) → EndsBehind (room_in old.rules) place (left_in (styled style old.rules) old.state r) =
+      λ place. subst (EndsBehind (room_in old.rules) place) (sym (left_styled old.rules old.state.phase old.state.window r)) in (
+        searching,
+        standing,
+        last,
+        record {
+          bytes = short.bytes;
+          read = short.read;
+          short = ends _ short.short;
+          cause = λ other. (let (same, reached, few, behind) = short.cause other in (same, reached, few, ends _ behind));
+        },
+        within,
+      )
