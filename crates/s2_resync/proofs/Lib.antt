@@ -1,2 +1,3 @@
 pub mod ResyncLemmas
 pub mod StepLemmas
+pub mod PacketLaws

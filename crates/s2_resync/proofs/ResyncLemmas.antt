@@ -76,7 +76,7 @@ begun in_step (x ∷ xs) is long =
     ap (λ (b : Bool). if b then with_byte x (resync true 187 xs) else without_byte in_step (resync false 0 xs)) is
     ∙ ap (with_byte x) (rest_of true 187 xs (omega (arith, long)))
 
-not_begun : (in_step : Bool) (x : ℕ) (xs : List ℕ) → begins in_step (x ∷ xs) ≡ false → resync in_step 0 (x ∷ xs) ≡ without_byte in_step (resync false 0 xs)
+pub not_begun : (in_step : Bool) (x : ℕ) (xs : List ℕ) → begins in_step (x ∷ xs) ≡ false → resync in_step 0 (x ∷ xs) ≡ without_byte in_step (resync false 0 xs)
 unfolding resync
 not_begun in_step x xs none = ap (λ (b : Bool). if b then with_byte x (resync true 187 xs) else without_byte in_step (resync false 0 xs)) none
 

@@ -1,3 +1,4 @@
 pub mod Packets
 pub mod Steps
 pub mod Syncs
+pub mod Laws

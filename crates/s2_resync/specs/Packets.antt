@@ -1,7 +1,8 @@
 -- The packets of a damaged stream, by their sync bytes (own).
-use Rattle.std.specs.Prelude.{◌≡◌, ⊤, ℕ, zero, suc, ◌+◌, Bool, true, false, ◌&&◌, nat_le, if◌then◌else◌, List, [], ◌∷◌, ◌++◌, length, Option, None, Some}
+use Rattle.std.specs.Prelude.{◌≡◌, ◌⊎◌, ⊤, ℕ, zero, suc, ◌+◌, ◌^◌, ◌≤◌, Bool, true, false, ◌&&◌, nat_le, if◌then◌else◌, List, [], ◌∷◌, ◌++◌, length, Option, None, Some}
 use Rattle.std.specs.Option.{option_map}
 use Rattle.s2_bbframe.specs.Limits.{packet_bytes}
+use Rattle.s2_mode.specs.Counts.{counted_with}
 use Rattle.s2_resync.specs.Syncs.{has_sync, has_five}
 
 -- the result of a stream: the bytes of its packets, the number of bytes left out, and the number of their places
@@ -33,14 +34,16 @@ resync in_step zero (byte ∷ bytes) =
     if begins in_step (byte ∷ bytes) then with_byte byte (resync true 187 bytes) else without_byte in_step (resync false 0 bytes)
 
 -- A reader of packets: the rest of its packet; the bytes after that, if they are known, and whether a packet is expected
--- there; the bytes left out so far, and their places; and its failed calls
+-- there; the bytes left out so far, and their places. Then the failed calls of the reader that it holds, and the calls that it refused
+-- since what is left out could not be counted
 pub record Packets : Type 0 where
   pub packet : List ℕ
   pub coming : Option (List ℕ)
   pub in_step : Bool
   pub left_out : ℕ
   pub places : ℕ
-  pub failed : ℕ
+  pub inside : ℕ
+  pub refused : ℕ
 
 -- the result of bytes, after others were left out
 abbrev pub after_losses : ℕ → ℕ → Resynced → Resynced
@@ -61,6 +64,18 @@ outcome p = option_map (made_of p) p.coming
 -- the bytes that it still gives, if they are known
 abbrev pub given_by : Packets → Option (List ℕ)
 given_by p = option_map (λ r. r.given) (outcome p)
+
+-- its failed calls, as far as they can be counted
+abbrev pub failed_of : Packets → ℕ
+failed_of p = counted_with p.inside p.refused
+
+-- one count is so near its limit, 2^64, that the bytes that are held, at most 753, or one more place may not be counted
+abbrev pub AreFull : (left_out places : ℕ) → Type 0
+AreFull left_out places = (2 ^ 64 ≤ left_out + 753) ⊎ (2 ^ 64 ≤ places + 1)
+
+-- a call of the reader that is held failed; or none did, and what is left out cannot be counted
+abbrev pub IsForwarded : (inside inside_new : ℕ) → (left_out places : ℕ) → Type 0
+IsForwarded inside inside_new left_out places = (inside_new ≡ inside + 1) ⊎ ((inside_new ≡ inside) × AreFull left_out places)
 
 -- what it has left out at the end of its bytes is the same as before
 abbrev pub KeepsLosses : Option Resynced → Option Resynced → Type 0

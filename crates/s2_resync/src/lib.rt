@@ -14,6 +14,7 @@
 #![tactic(auto)]
 
 mod held;
+pub mod laws;
 mod packets;
 mod seek;
 mod source;

@@ -1,8 +1,8 @@
 //! A reader that gives the packets of a damaged stream.
-ghost use Rattle.std.specs.Prelude.{◌≡◌, ◌+◌, ◌<◌, ◌≤◌, ◌==◌, ◌^◌, true, false, [], Some, IfOk, OnOk, length, vec_len, if◌then◌else◌};
+ghost use Rattle.std.specs.Prelude.{◌≡◌, ◌+◌, ◌<◌, ◌≤◌, ◌==◌, ◌^◌, true, false, [], Some, IfOk, OnErr, OnOk, length, vec_len, if◌then◌else◌};
 ghost use Rattle.std.specs.Io.KnownBytes.{IsAtEnd, ReadConsumes};
-ghost use Rattle.s2_mode.specs.Counts.{CanCount, CountsFault, counted_with};
-ghost use Rattle.s2_resync.specs.Packets.{KeepsLosses, given_by, outcome};
+ghost use Rattle.s2_mode.specs.Counts.{CanCount, CountsFault};
+ghost use Rattle.s2_resync.specs.Packets.{IsForwarded, KeepsLosses, failed_of, given_by, outcome};
 
 use crate::held::{MOST_HELD, give};
 use crate::seek::{Step, refill};
@@ -44,7 +44,6 @@ impl<R: CountedRead + Drop> Drop for PacketReader<R> {
 impl<R: CountedRead> Model for PacketReader<R> {
     ghost use Rattle.std.specs.Prelude.{◌≤◌, length, vec_capacity};
     ghost use Rattle.std.specs.Io.KnownBytes.{prepend_known};
-    ghost use Rattle.s2_mode.specs.Counts.{counted_with};
     ghost use Rattle.s2_resync.specs.Packets.{Packets};
 
     ghost Value = { Packets };
@@ -55,7 +54,8 @@ impl<R: CountedRead> Model for PacketReader<R> {
       in_step = p.step.in_step;
       left_out = p.step.left_out;
       places = p.step.places;
-      failed = counted_with (R.count p.inner) p.step.refused;
+      inside = R.count p.inner;
+      refused = p.step.refused;
     } };
 
     ghost invariant = { λ p. (188 ≤ vec_capacity p.packet) × (753 ≤ vec_capacity p.ahead) × (length p.ahead.items ≤ 753) };
@@ -68,7 +68,7 @@ impl<R: CountedRead> PacketReader<R> {
         R: Drop,
         ensures coming { IfOk result (λ p. (p.packet ≡ []) × (p.coming ≡ R.remaining inner) × (p.in_step ≡ true)) }
         ensures none { IfOk result (λ p. (p.left_out ≡ 0) × (p.places ≡ 0)) }
-        ensures failed { IfOk result (λ p. p.failed ≡ counted_with (R.count inner) 0) }
+        ensures failed { IfOk result (λ p. (p.inside ≡ R.count inner) × (p.refused ≡ 0)) }
     {
         let packet = Vec::with_capacity(alloc, PACKET_BYTES)?;
         let ahead = Vec::with_capacity(alloc, MOST_HELD)?;
@@ -93,7 +93,9 @@ impl<R: CountedRead> PacketReader<R> {
 }
 
 impl<R: CountedRead> Counted for PacketReader<R> {
-    ghost count = { λ p. p.failed };
+    ghost use Rattle.s2_resync.specs.Packets.{failed_of};
+
+    ghost count = { failed_of };
 
     fn count(&self) -> u64 {
         self.inner.count().saturating_add(self.step.refused)
@@ -108,10 +110,11 @@ impl<R: CountedRead> CountedRead for PacketReader<R> {
     /// Gives bytes of one packet. A failed call is one inside, or the count of the bytes that were left out reached its limit,
     /// `u64::MAX`. A call after it goes on at the same place.
     fn read(&mut self, buf: &mut [u8]) -> Result<usize, ReadFault>
-        requires { CanCount self.old.failed }
+        requires { CanCount (failed_of self.old) }
         ensures bound { IfOk result (λ n. n ≤ length buf.new) }
         ensures bytes { ReadConsumes (given_by self.old) (given_by self.new) result buf.new }
-        ensures cause { CountsFault self.old.failed self.new.failed result }
+        ensures cause { CountsFault (failed_of self.old) (failed_of self.new) result }
+        ensures forwards { OnErr result (IsForwarded self.old.inside self.new.inside self.new.left_out self.new.places) }
         ensures end { IfOk result (λ n. n ≡ 0 → 0 < length buf.new → IsAtEnd self.new.coming) }
         ensures losses { KeepsLosses (outcome self.old) (outcome self.new) }
     {

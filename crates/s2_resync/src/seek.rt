@@ -1,9 +1,10 @@
 //! The search for the next packet.
-ghost use Rattle.std.specs.Prelude.{◌≡◌, ◌+◌, ◌^◌, ◌<◌, ◌≤◌, ℕ, true, false, [], IfOk, IfSome, OnOk, OnErr, length, take, drop, vec_len, vec_capacity, if◌then◌else◌};
+ghost use Rattle.std.specs.Prelude.{◌≡◌, ◌⊎◌, ◌+◌, ◌^◌, ◌<◌, ◌≤◌, ℕ, true, false, [], None, IfOk, IfSome, OnOk, OnErr, length, take, drop, vec_len, vec_capacity, if◌then◌else◌};
 ghost use Rattle.std.specs.Io.KnownBytes.{IsAtEnd, prepend_known};
 ghost use Rattle.s2_mode.specs.Counts.{CanCount, CountsFault, counted_with};
 ghost use Rattle.s2_resync.specs.Syncs.{has_sync};
 ghost use Rattle.s2_resync.specs.Packets as packets;
+ghost use Rattle.s2_resync.specs.Packets.{AreFull, IsForwarded};
 ghost use Rattle.s2_resync.specs.Steps.{Begins, Leads, after_gap, packet_outcome, step_outcome};
 
 use crate::held::{MOST_HELD, hold, remove_front};
@@ -39,6 +40,7 @@ impl Step {
     fn after_gap(self, count: usize) -> Option<Step>
         ensures gap { IfSome result (λ step. step ≡ after_gap count self) }
         ensures fits { IfSome result (λ step. step.left_out < 2 ^ 64) }
+        ensures full { result ≡ None → (2 ^ 64 ≤ self.left_out + count) ⊎ (2 ^ 64 ≤ self.places + 1) }
     {
         Some(Step {
             in_step: false,
@@ -101,12 +103,14 @@ fn gap_in(is_last: bool, bytes: &[u8]) -> usize
 /// Leaves out the first of the bytes that are held.
 fn leave_out(step: &mut Step, ahead: &mut Vec<u8>, count: usize) -> Result<(), ReadFault>
     requires there { count ≤ vec_len ahead.old }
+    requires few { count ≤ 753 }
     requires refused { CanCount step.old.refused }
     ensures gap { OnOk result (step.new ≡ after_gap count step.old) }
     ensures rest { OnOk result (ahead.new.items ≡ drop count ahead.old.items) }
     ensures fits { OnOk result (step.new.left_out < 2 ^ 64) }
     ensures fewer { vec_len ahead.new ≤ vec_len ahead.old }
     ensures full { OnErr result (step.new ≡ record step.old { refused = step.old.refused + 1 }) }
+    ensures uncounted { OnErr result (AreFull step.old.left_out step.old.places) }
     ensures kept { OnErr result (ahead.new ≡ ahead.old) }
     ensures room { vec_capacity ahead.new ≡ vec_capacity ahead.old }
 {
@@ -140,6 +144,7 @@ fn seek<R: CountedRead>(
     ensures held { vec_len ahead.new ≤ 753 }
     ensures room { 753 ≤ vec_capacity ahead.new }
     ensures cause { CountsFault (counted_with (R.count reader.old) step.old.refused) (counted_with (R.count reader.new) step.new.refused) result }
+    ensures forwards { OnErr result (IsForwarded (R.count reader.old) (R.count reader.new) step.new.left_out step.new.places) }
 {
     'seek: loop {
         let wanted = wanted(step.in_step);
@@ -175,6 +180,7 @@ pub(crate) fn refill<R: CountedRead>(
     ensures held { vec_len ahead.new ≤ 753 }
     ensures room { (188 ≤ vec_capacity packet.new) × (753 ≤ vec_capacity ahead.new) }
     ensures cause { CountsFault (counted_with (R.count reader.old) step.old.refused) (counted_with (R.count reader.new) step.new.refused) result }
+    ensures forwards { OnErr result (IsForwarded (R.count reader.old) (R.count reader.new) step.new.left_out step.new.places) }
 {
     if packet.is_empty() && seek(reader, ahead, step)? {
         begin_packet(packet, ahead, step);

@@ -1,5 +1,6 @@
 //! A reader that may be one of packets.
 ghost use Rattle.std.specs.Prelude.{◌≡◌};
+ghost use Rattle.either.specs.Either.{either};
 ghost use Rattle.either.specs.declared.Either.TheVariants as kinds;
 
 use crate::packets::{LeftOut, PacketReader};
@@ -35,7 +36,9 @@ impl<R, P> PacketSource<R, P> {
 
 impl<R: CountedRead> PacketSource<R, PacketReader<R>> {
     /// The bytes that a reader of packets has left out so far. A plain reader leaves out none.
-    pub fn left_out(&self) -> LeftOut {
+    pub fn left_out(&self) -> LeftOut
+        ensures { result ≡ either (λ plain. record { bytes = 0; places = 0 }) (λ packets. record { bytes = packets.left_out; places = packets.places }) self.now.reader }
+    {
         match &self.reader {
             Left(_) => LeftOut {
                 bytes: 0,
