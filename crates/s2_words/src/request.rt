@@ -81,8 +81,8 @@ pub enum CodeArguments {
     Mode { modcod: u8, short: bool },
 }
 
-/// `judge`: a code, whether there are several frames, whether the values are hard bits, whether notes are suppressed,
-/// the passes, the factor and the correction, whether there is no search for certificates after min-sum, and the files.
+/// `judge`: a code, whether there are several frames, whether the values are hard bits, and whether notes are suppressed.
+/// Then the passes, the factor and the correction, whether there is no search for certificates after min-sum, and the files.
 #[derive(Clone, Copy)]
 pub struct JudgeArguments<'a> {
     pub code: CodeArguments,
