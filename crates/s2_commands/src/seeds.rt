@@ -17,8 +17,8 @@ use s2_link::Link;
 use s2_mode::{CountedWrite, Counting, InMemory, write_full};
 use s2_modem::Receiver;
 use s2_receive::{Received, Sink};
+use s2_request::Seeds;
 use s2_tuning::Tuning;
-use s2_words::Seeds;
 use std::alloc::Global;
 
 /// Adds a channel's noise to symbols, and receives the result on a link.
