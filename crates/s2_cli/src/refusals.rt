@@ -97,6 +97,14 @@ fn push_refused(text: &mut String, command: &str, refused: Refused<'_>) -> Resul
     push_all(text, &[refused.accepted(), "; see s2 ", command, " --help"])
 }
 
+/// The usage error of a line without its end.
+fn fault_of(mut text: String) -> Result<Unread, AllocError>
+    ensures { IfOk result IsUsageError }
+{
+    text.push_str("\n")?;
+    Ok(Unread::Fault(text))
+}
+
 /// The usage error of a refused value.
 pub(crate) fn refusal(
     alloc: Global,
@@ -107,8 +115,7 @@ pub(crate) fn refusal(
 {
     let mut text = String::from_str(alloc, "s2: ")?;
     push_refused(&mut text, command, refused)?;
-    text.push_str("\n")?;
-    Ok(Unread::Fault(text))
+    fault_of(text)
 }
 
 /// The usage error of an argument that is not text.
@@ -118,6 +125,5 @@ pub fn not_text(alloc: Global, argument: &str) -> Result<Unread, AllocError>
     let mut text = String::from_str(alloc, "s2: ")?;
     push_word(&mut text, argument)?;
     text.push_str(" is not valid UTF-8; see s2 --help")?;
-    text.push_str("\n")?;
-    Ok(Unread::Fault(text))
+    fault_of(text)
 }
