@@ -1,4 +1,5 @@
 """The type of a case, comparisons, and inputs of many commands."""
+import re
 from dataclasses import dataclass, field
 
 FINE, FAULT, NO = 0, 1, 2
@@ -79,10 +80,11 @@ ANY = Rule("any", lambda got: True)
 
 
 def option(word, text):
-    """Holds for help that has this word in a line with this end."""
+    """Holds for help that has this word in a line with this end. clap has an option's meaning and default below it."""
 
     def told(got):
-        return any(line.strip().startswith(word) and line.endswith(text) for line in got.decode().split("\n"))
+        lines = re.sub(r"\n(?: *\n)? {10}(?=\S)", " ", got.decode()).split("\n")
+        return any(line.strip().startswith(word) and line.endswith(text) for line in lines)
 
     return Rule(f"..{word!r}..{text!r}..", told)
 
@@ -164,12 +166,62 @@ def fault(words, text, *notes, cause="No such file or directory", **more):
     return Case(words, FAULT, errors=noted(*notes, *failed, *opened) + f"s2: {text}\n", **more)
 
 
-# The commands, each with its own help.
-COMMANDS = "modes rows table judge check mod noise demod run scan join audit compare stitch".split()
+# The names of values in the help: of those that are not here it is the first letter of the option.
+VALUES = {"groups": "N", "seeds": "A..B", "esn0": "DB", "rounds": "K", "lock": "H", "first": "N", "exit-by": "BY", "every": "N", "piece": "FROM..TO"}
+FILES = {"certificates", "values", "codewords", "bbframes", "labels", "symbols-plain", "cert", "packets", "about", "again"}
 
 
-def misuse(words, text, way=None):
-    """A case of words that are refused with one line, whose end names the help of their command, or the list of modes."""
-    name = (words.split() or [""])[0]
-    help_of = f"s2 {name} --help" if name in COMMANDS else "s2 --help"
-    return Case(words, FAULT, errors=f"s2: {text}; see {way or ('s2 modes' if text.startswith('--modcod: ') and ' is not ' in text else help_of)}\n")
+def valued(option):
+    """An option with the name of its value, as clap shows it."""
+    name = option.removeprefix("--")
+    return f"--{name} <{'FILE' if name in FILES else VALUES.get(name, name[0].upper())}>"
+
+
+def unknown(word):
+    return f"unexpected argument '{word}' found"
+
+
+def missing(*names):
+    return "\n".join(["the following required arguments were not provided:", *(f"  {name}" for name in names)])
+
+
+def not_with(option, *others):
+    if len(others) == 1:
+        return f"the argument '{option}' cannot be used with '{others[0]}'"
+    return "\n".join([f"the argument '{option}' cannot be used with:", *(f"  {other}" for other in others)])
+
+
+def twice(option):
+    return f"the argument '{option}' cannot be used multiple times"
+
+
+def takes_none(option, value):
+    return f"unexpected value '{value}' for '{option}' found; no more were expected"
+
+
+def lacks(option):
+    return f"a value is required for '{valued(option)}' but none was supplied"
+
+
+def beyond(value, option, least, most):
+    """A value that is no number, or out of its range."""
+    why = f"{value} is not in {least}..={most}" if re.fullmatch("-?[0-9]+", str(value)) else "invalid digit found in string"
+    return f"invalid value '{value}' for '{valued(option)}': {why}"
+
+
+def no_choice(value, option, choices):
+    return f"invalid value '{value}' for '{valued(option)}'\n  [possible values: {', '.join(map(str, choices))}]"
+
+
+def refusal(text):
+    """Standard error after a mistake that the parser finds: its text, perhaps a tip and the usage, and a last line."""
+    begin, end = f"error: {text}\n", "\n\nFor more information, try '--help'.\n"
+    return Rule(f"{begin!r}..", lambda got: got.startswith(begin.encode()) and got.endswith(end.encode()))
+
+
+def misuse(words, text):
+    """A case of words that are refused: by the parser, or by one line for a value that the parser takes as text (`--option: ..`)."""
+    if not text.startswith("--"):
+        return Case(words, FAULT, errors=refusal(text))
+    way = "modes" if text.startswith("--modcod: ") else f"{words.split()[0]} --help"
+    return Case(words, FAULT, errors=f"s2: {text}; see s2 {way}\n")

@@ -1,7 +1,7 @@
 """`modes`, and modes by name: the expected output is computed here from the tables of the standard."""
 from fractions import Fraction
 
-from cases.common import Case, fault, misuse, option
+from cases.common import Case, beyond, fault, lacks, missing, misuse, option, takes_none, twice, unknown
 from cases.modes import MODES
 
 RATES = ["1/4", "1/3", "2/5", "1/2", "3/5", "2/3", "3/4", "4/5", "5/6", "8/9", "9/10", "3/5", "2/3", "3/4", "5/6", "8/9", "9/10"]
@@ -48,7 +48,6 @@ assert [f"{(kbch(m, False, 360 * g) - 80) / frame(m, False, 0):.6f}" for m, word
 RATE_TEXTS = "27500000 27.5M 27500k 27500K 27.5e6 27.5E6 275e5 27500000.0 0027.500M 0.0275e9".split()
 QPSK, PSK = f"a mode: QPSK has {', '.join(NAMES[:11])}", f"a mode: 8PSK has {', '.join(NAMES[11:])}"
 NOTHING, FORMS = '""', "1 to 17 or the name of a mode"
-SWITCH = "--pilots takes no value"
 REST = {
     "modes": "",
     "table": "made",
@@ -63,10 +62,6 @@ REST = {
 
 def no_mode(name, accepted=FORMS):
     return f"--modcod: {name or NOTHING} is not {accepted}"
-
-
-def no_roll_off(name):
-    return f"--ro: {name or NOTHING} is not 0 for 0.35, 1 for 0.25 or 2 for 0.20"
 
 
 def no_rate(text):
@@ -98,26 +93,25 @@ NO_NAMES = [
     ("3/4", FORMS),
 ]
 LINKED = ("audit", "mod", "demod", "run")
-SWITCHES = [f"--pilots {text}" for text in ("on", "off", "yes", "no", "true", "false", "1", "0", "OFF", "True", "FALSE")]
-SWITCHES += ["--pilots=1", "--pilots=0", "--pilots=off", "--pilots=false", "--pilots="]
+SWITCHES = ("1", "0", "off", "false")
 MISUSES = [
     ("mod --modcod -1 made packets out", no_mode(-1)),
     ("table --modcod 18 made", no_mode(18)),
-    ("mod --modcod qpsk3/4 --modcod 7 made packets out", "--modcod <M> is given twice"),
-    ("mod --modcod 1 --ro", "--ro: the value is missing"),
+    ("mod --modcod qpsk3/4 --modcod 7 made packets out", twice("--modcod <M>")),
+    ("mod --modcod 1 --ro", lacks("--ro")),
     # the fault is another word's
-    ("mod --modcod 1 --short=1 --pilots made packets out", "--short takes no value"),
-    ("mod --modcod 1 --pilots made packets out more", "more is an unexpected argument"),
-    ("mod --modcod 1 --pilot made packets out", "--pilot is not an option of mod"),
-    ("noise --seed 1 --level 1 --pilots packets out", "--pilots is not an option of noise"),
-    ("noise --seed 1 --level 1 --ro 0 packets out", "--ro is not an option of noise"),
-    ("table --modcod 1 --ro 0 made", "--ro is not an option of table"),
+    ("mod --modcod 1 --short=1 --pilots made packets out", takes_none("--short", "1")),
+    ("mod --modcod 1 --pilots made packets out more", unknown("more")),
+    ("mod --modcod 1 --pilot made packets out", unknown("--pilot")),
+    ("noise --seed 1 --level 1 --pilots packets out", unknown("--pilots")),
+    ("noise --seed 1 --level 1 --ro 0 packets out", unknown("--ro")),
+    ("table --modcod 1 --ro 0 made", unknown("--ro")),
     *((f"modes --rate {text}", no_rate(text)) for text in NO_RATES),
-    ("modes --short", "missing: --modcod <M>"),
+    ("modes --short", missing("--modcod <M>")),
     ("modes --modcod 18", no_mode(18)),
-    ("modes --modcod 7 --pilots", "--pilots is not an option of modes"),
-    ("modes --rate", "--rate: the value is missing"),
-    ("modes all", "all is an unexpected argument"),
+    ("modes --modcod 7 --pilots", unknown("--pilots")),
+    ("modes --rate", lacks("--rate")),
+    ("modes all", unknown("all")),
 ]
 
 CASES = [
@@ -133,9 +127,9 @@ CASES = [
     fault("modes", "cannot write", to="/dev/full"),
     *(misused(name, f"--modcod {text}", no_mode(text, says)) for name in REST for text, says in NO_NAMES),
     *(misused(name, f"--modcod={text}", no_mode(text, says)) for name in REST for text, says in [*NO_NAMES, ("", FORMS)]),
-    *(misused(name, f"--modcod 1 --ro {text}", no_roll_off(text)) for name in LINKED for text in ("3", "5", "0.35", "35", "x", "-1", "-0.35")),
-    *(misused(name, f"--modcod qpsk1/4 --ro={text}", no_roll_off(text)) for name in LINKED for text in ("5", "")),
-    *(misused(name, f"--modcod 1 {words}", SWITCH) for name in LINKED for words in SWITCHES),
+    *(misused(name, f"--modcod 1 --ro {text}", beyond(text, "ro", 0, 2)) for name in LINKED for text in ("3", "5", "0.35", "35", "x", "-1", "-0.35")),
+    *(misused(name, "--modcod qpsk1/4 --ro=5", beyond(5, "ro", 0, 2)) for name in LINKED),
+    *(misused(name, f"--modcod 1 --pilots={text}", takes_none("--pilots", text)) for name in LINKED for text in SWITCHES),
     *(misuse(words, text) for words, text in MISUSES),
     Case("demod --help", out=option("parity", "with `fixed` the packets are good")),
     Case("demod --help", out=option("broken", "the packets are good all the same")),

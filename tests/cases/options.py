@@ -5,7 +5,7 @@ from dataclasses import dataclass, field
 
 from cases import about, audit, comparing, corrected, equalized, figured, links, listing, pieces, progress, records, rotations, slips
 from cases.common import (
-    ANY, FINE, LINK, NO, ONE, PACKET, PAIR, SLIPPED, STORED, STORED_CERTIFICATE, STORED_MOVED, TOY, TWO, UNDECODED, WANTED, Case, Rule, digest, ending, noted, unfound,
+    ANY, FINE, LINK, NO, ONE, PACKET, PAIR, SLIPPED, STORED, STORED_CERTIFICATE, STORED_MOVED, TOY, TWO, UNDECODED, WANTED, Case, Rule, digest, ending, missing, noted, refusal, unfound,
 )  # fmt: skip
 from cases.drawn import gaussian, made_rows, spoilt
 from cases.judging import HARD_NOTE, LEFT
@@ -74,11 +74,11 @@ def rows_effects():
 
 def judge_effects():
     sole, parity = ended("sole cost -45\n"), ended("parity cost -2\n", NO)
-    missing = {"group": "<--group <G>|--modcod <M>>", "groups": "--groups <N>", "q": "--q <Q>"}
+    lacking = {"group": "<--group <G>|--modcod <M>>", "groups": "--groups <N>", "q": "--q <Q>"}
     shapes = {"group": (4, 2, "rows: address too large in line 1"), "groups": (2, 1, "rows: too many rows"), "q": (3, 4, "values: too few")}
     for name, (usual, other, text) in shapes.items():
         words = TOY.replace(f"--{name} {usual}", "{}")
-        lacks = ended("", 1, f"s2: missing: {missing[name]}; see s2 judge --help\n")
+        lacks = ended("", 1, refusal(missing(lacking[name])))
         yield Effect(f"--{name}", f"judge {words} toy stored", {"": lacks} | each(f"--{name}", (usual, other), (sole, refused(text))))
     zero, long = ended("sole cost 0\n"), {"reads": {"values": 16_200 * b"10 "}}
     yield Effect("--modcod", "judge {} --short made values", each("--modcod", (1, "qpsk1/4", 2), (zero, zero, refused(OTHER_SHORT[0]))), long)
@@ -107,14 +107,14 @@ def judge_effects():
 def compare_effects(certificates, bbframes):
     """The toy word, and the first frame of a link."""
     same = ended(comparing.printed(["same sole cost -45"]))
-    missing = {"group": "<--group <G>|--modcod <M>>", "groups": "--groups <N>", "q": "--q <Q>"}
+    lacking = {"group": "<--group <G>|--modcod <M>>", "groups": "--groups <N>", "q": "--q <Q>"}
     large, many = refused("rows: address too large in line 1"), refused("rows: too many rows")
     # with another q the certificate has another shape, and a word, of 24 bits then, still has three bytes
     shapes = {"group": (4, 2, large), "groups": (2, 1, many), "q": (3, 4, ended(comparing.printed(["refused"]), NO))}
     toy = {"reads": {"c": STORED_MOVED, "w": b"\x80\xf0\xf0"}}
     for name, (usual, other, end) in shapes.items():
         words = TOY.replace(f"--{name} {usual}", "{}")
-        lacks = ended("", 1, f"s2: missing: {missing[name]}; see s2 compare --help\n")
+        lacks = ended("", 1, refusal(missing(lacking[name])))
         yield Effect(f"--{name}", f"compare {words} toy c w", {"": lacks} | each(f"--{name}", (usual, other), (same, end)), toy)
     text = {"reads": {"c": STORED_MOVED, "w": b"10000000111100001111\n"}}
     yield Effect("--bits", f"compare {TOY} {{}} toy c w", {"": ended("frame 1 no-codeword checks 6 changed 8\n", 1, "s2: words: more than certificates\n"), "--bits": same}, text)
@@ -433,9 +433,9 @@ SHOWN = {(name, option) for name in progress.WORDS for option in ("--quiet", "--
 
 
 def told(text):
-    """The options in the help of a command, each with its default and whether it is required."""
+    """The options in the short help of a command, each with its default and whether it is required."""
     usage = re.search(r"^Usage: (.*)$", text, re.M)[1]
-    found = re.findall(r"^ +(?:-\w, )?(--[\w-]+)(.*)$", text.partition("\nOptions:\n")[2].partition("\n\n")[0], re.M)
+    found = re.findall(r"^ +(?:-\w, )?(--[\w-]+)(.*)$", text, re.M)
     defaults = {option: re.search(r"\[default: (\S+?)\]", rest) for option, rest in found if option != "--help"}
     return {option: (default and default[1], f"{option} " in usage) for option, default in defaults.items()}
 

@@ -1,6 +1,6 @@
 """`table`, and the note on rows that are not the standard's. The standard's rows are not part of the repository: `bench/rows_sums --check`
 tries those that a user has."""
-from cases.common import ANY, LINK, NO, WANTED, Case, fault, first_line, misuse, option
+from cases.common import ANY, LINK, NO, WANTED, Case, fault, first_line, missing, misuse, option, unknown
 from cases.drawn import made_rows
 from cases.words import WANTED_NORMAL
 
@@ -37,9 +37,9 @@ CASES = [
     fault(f"table {LINK} /dev/zero", "file too long"),
     fault("table --modcod 11 --short none", "no such mode"),
     fault(f"table {LINK} made", "cannot write", to="/dev/full"),
-    misuse("table made", "missing: --modcod <M>"),
-    misuse(f"table {LINK}", "missing: <ROWS>"),
-    misuse(f"table {LINK} --pilots made", "--pilots is not an option of table"),
+    misuse("table made", missing("--modcod <M>")),
+    misuse(f"table {LINK}", missing("<ROWS>")),
+    misuse(f"table {LINK} --pilots made", unknown("--pilots")),
     Case("table --help", out=first_line("Checks whether a row file is the standard's table")),
     Case("table --help", out=option("2  ", "other")),
     # a note is printed if there is no fault, and before a report on standard error

@@ -2,7 +2,8 @@
 import itertools
 
 from cases.audit import HINT
-from cases.common import ANY, DIVISORS, FAULT, LINK, NO, PACKET, PAIR, STORED, TOY, TWO, WANTED, Case, fault, first_line, misuse, noted, option, size
+from cases.common import ANY, DIVISORS, FAULT, LINK, NO, PACKET, PAIR, STORED, TOY, TWO, WANTED, Case, Rule, fault, first_line, misuse, noted, option, size
+from cases.common import beyond, lacks, missing, no_choice, not_with, takes_none, twice, unknown
 from cases.drawn import made_rows
 from cases.strength import nothing_found
 
@@ -45,13 +46,23 @@ CHECK_HELP = """Verifies a certificate
 Usage: s2 check [OPTIONS] <ROWS> <CERT>
 
 Arguments:
-  <ROWS>  Row file
-  <CERT>  Certificate file
+  <ROWS>
+          Row file
+
+  <CERT>
+          Certificate file
 
 Options:
-      --each   Read any number of certificates, one after another: a line of the report per certificate
-      --quiet  No notes on standard error
-  -h, --help   Print help
+  -h, --help
+          Print help (see a summary with '-h')
+
+Input:
+      --each
+          Read any number of certificates, one after another: a line of the report per certificate
+
+Report:
+      --quiet
+          No notes on standard error
 
 The report, a line per certificate:
   sole cost C           accepted: the word costs C, and every other codeword costs more
@@ -69,58 +80,68 @@ Example:
   s2 check rows certificate
   s2 check --each rows certificates
 """
-SCAN_HELP = """Finds the modes in a recording, and how to receive it
+SHORT = "The report, the exit status, the notes and an example are in the long help: --help"
+CHECK_SHORT = f"""Verifies a certificate
 
-Usage: s2 scan [OPTIONS] <SYMBOLS>
+Usage: s2 check [OPTIONS] <ROWS> <CERT>
 
 Arguments:
-  <SYMBOLS>  Recording, four bytes per symbol: I and Q, signed 16 bits each, in either byte order
+  <ROWS>  Row file
+  <CERT>  Certificate file
 
 Options:
-      --first <N>  Examine only the first N symbols, 1 to 4294967295; by default all
-      --quiet      No notes on standard error, and no progress without --progress
-      --progress   Show progress on standard error even if it is not a terminal: a line that is rewritten once a second
-  -h, --help       Print help
+  -h, --help  Print help (see more with '--help')
 
-The report, a line per mode, the most probable first:
-  MODE LENGTH PILOTS         the mode, for example qpsk3/4; normal or short; pilots or no-pilots
-  seen N first S             number of headers found, and the symbol of the first, counted from 0
-  every D                    the most frequent distance between two headers, in symbols
-  turn K conjugate yes|no    rotation: the symbols were multiplied by i to the power of K, then conjugated if yes
-  bytes big|little           the byte order
-  amplitude A                of the N headers, without noise; `mod` sends 990
+Input:
+      --each  Any number of certificates: a line for each
 
-The line before the last:
-  number N                          the scrambling number, found from the pilots of the most probable mode that has pilots
-  number not looked for: no pilots  the command of the last line assumes 0: try others with --number
+Report:
+      --quiet  No notes on standard error
 
-The last line:
-  tools/convert .. | ./s2 demod ..    a command that receives the first mode in the list that `demod` supports; rows is that mode's row file
-  ./s2 demod ..                       the same without conversion; amplitudes of 833 to 1177 need no gain
-  s2 demod receives none of these     only 16APSK, 32APSK or dummy frames were found
-  nothing found                       no header is repeated one frame later: try a longer recording
+{SHORT}
+"""
+AUDIT_SHORT = f"""Checks a report against the recording and its certificates, without decoding
 
-After nothing found, a line for each byte order, and then one that names tools/receive, for floats and 8-bit samples:
-  symbols N                  number of symbols examined: all, or the first 4194304
-  rms R                      the root of their mean power; `mod` sends 990
-  clipped C                  number of symbols with a component of -32768, -32767 or 32767: the receiver's input may be too strong
-  bytes big|little           the byte order
+Usage: s2 audit [OPTIONS] --modcod <M> <ROWS> <SYMBOLS> <REPORT> <CERTIFICATES>
 
-Exit status:
-  0  a header is repeated one frame later
-  1  a usage error, or an error reported on standard error
-  2  nothing found
+Arguments:
+  <ROWS>          Row file
+  <SYMBOLS>       Symbol file, four bytes per symbol
+  <REPORT>        Report of `demod`
+  <CERTIFICATES>  Certificates written by `demod --certificates`
 
-Example:
-  s2 scan recording
-  receiver | s2 scan --first 1000000 -
+Options:
+  -h, --help  Print help (see more with '--help')
+
+Link:
+      --modcod <M>  Mode: MODCOD, 1 to 17, or its name, for example qpsk3/4
+      --short       Short frames: 16200 bits instead of 64800
+      --pilots      Frames with pilot blocks
+      --number <N>  Scrambling number, 0 to 262141 [default: 0]
+      --ro <R>      Roll-off of the sender, 0 to 2: no effect [default: 0]
+
+Decoding:
+      --tuned        The report was made with --tuned
+      --divisor <D>  Divisor that the report was made with [default: 4096] [possible values: 4096, 8192, 16384, 32768, 65536]
+
+Finding:
+      --turns     The report was made with --turns
+      --equalize  The report was made with --equalize
+      --resync    The report was made with --resync
+      --lock <H>  Limit of --lock that the report was made with [default: 12]
+
+Report:
+      --figures  The report was made with --figures
+
+Records:
+      --about <FILE>      Compare with this file of `demod --about`
+      --packets <FILE>    Compare with the packets of this file
+      --codewords <FILE>  Take the decided bits of other frames from this file
+
+{SHORT}
 """
 RUN = "run --modcod 1 --seed 1 --level 1"
 WANTED_NORMAL = "QPSK 1/4, normal needs 45 rows of addresses below 48600"
-
-
-def beyond(value, word, least, most):
-    return f"--{word}: {value} is not {least} to {most}"
 
 
 def no_mode(value):
@@ -148,7 +169,7 @@ RECORDS = {
     "--codewords": "Write the decided bits of each frame to this file, eight bits per byte, the first in the highest bit",
     "--bbframes": "Write the BBFRAMEs to this file, for `join`: zeros instead of a lost frame, and zeros before a frame that follows a gap",
 }
-NOT_BOTH = "--uncertified cannot be used with --passes <P>"
+NOT_BOTH = not_with("--uncertified", "--passes <P>")
 # Invalid ranges of seeds.
 RANGES = ["x", "1", "1..", "..2", "..", "2..1", "1.2", "1...2", "1..2..3", "1..=2", "-1..2", "1..-2", "0x1..2", f"1..{2**64}"]
 # The options of mod that name a file for records, and what each file takes.
@@ -160,73 +181,72 @@ SENT = {
 }
 # Arguments that no command has, and the message.
 MISUSES = [
-    ("send", "send is not a command"),
-    ("help send", "send is not a command"),
-    ("--esn0 1", "--esn0 is not an option of s2"),
-    ("-x", "-x is not an option of s2"),
-    ("-- check toy certificate", "check is an unexpected argument"),
-    ("demod -x", "-x is not an option of demod"),
-    ("demod --esn0 1 --modcod 1 made packets out", "--esn0 is not an option of demod"),
-    ("demod --esn0=1 --modcod 1 made packets out", "--esn0 is not an option of demod"),
-    ("check toy certificate --each --each", "--each is given twice"),
-    (f"judge {TOY} --modcod 1 --short toy stored", "--group <G> cannot be used with --modcod <M>, --short"),
-    ("noise --level= --seed 1 packets out", '--level: "" is not 0 to 65535'),
-    ("mod --modcod 1 --dummy \x1b made packets out", '--dummy: "\\u{1b}" is not 0 to 65535'),
-    ("mod --modcod 1 --dummy 1'_for_'--x made packets out", "--dummy: 1'_for_'--x is not 0 to 65535"),
-    ("scan -1", "-1 is not an option of scan"),
+    ("send", "unrecognized subcommand 'send'"),
+    ("help send", "unrecognized subcommand 'send'"),
+    ("--esn0 1", unknown("--esn0")),
+    ("-x", unknown("-x")),
+    ("-- check toy certificate", unknown("check")),
+    ("demod -x", unknown("-x")),
+    ("demod --esn0 1 --modcod 1 made packets out", unknown("--esn0")),
+    ("demod --esn0=1 --modcod 1 made packets out", unknown("--esn0")),
+    ("check toy certificate --each --each", twice("--each")),
+    (f"judge {TOY} --modcod 1 --short toy stored", not_with("--group <G>", "--modcod <M>", "--short")),
+    ("noise --level= --seed 1 packets out", "invalid value '' for '--level <L>': cannot parse integer from empty string"),
+    ("mod --modcod 1 --dummy 1'_for_'--x made packets out", beyond("1'_for_'--x", "dummy", 0, 65535)),
+    ("scan -1", unknown("-1")),
     ("noise --seed 1 --level -1 packets out", beyond(-1, "level", 0, 65535)),
-    ("judge toy stored", "missing: <--group <G>|--modcod <M>>"),
-    ("judge --group 4 toy stored", "missing: --groups <N>, --q <Q>"),
-    ("judge --group 4 --groups 2 toy stored", "missing: --q <Q>"),
-    ("judge --groups 2 --q 3 toy stored", "missing: <--group <G>|--modcod <M>>"),
-    ("judge --short toy stored", "missing: <--group <G>|--modcod <M>>"),
-    (f"judge {TOY} --modcod 1 toy stored", "--group <G> cannot be used with --modcod <M>"),
-    (f"judge {TOY} --short toy stored", "--group <G> cannot be used with --short"),
-    ("judge --modcod 1 --q 3 toy stored", "--modcod <M> cannot be used with --q <Q>"),
-    ("judge --modcod 1 --groups 2 toy stored", "--modcod <M> cannot be used with --groups <N>"),
+    ("judge toy stored", missing("<--group <G>|--modcod <M>>")),
+    ("judge --group 4 toy stored", missing("--groups <N>", "--q <Q>")),
+    ("judge --group 4 --groups 2 toy stored", missing("--q <Q>")),
+    ("judge --groups 2 --q 3 toy stored", missing("<--group <G>|--modcod <M>>")),
+    ("judge --short toy stored", missing("<--group <G>|--modcod <M>>")),
+    (f"judge {TOY} --modcod 1 toy stored", not_with("--group <G>", "--modcod <M>")),
+    (f"judge {TOY} --short toy stored", not_with("--group <G>", "--short")),
+    ("judge --modcod 1 --q 3 toy stored", not_with("--modcod <M>", "--q <Q>")),
+    ("judge --modcod 1 --groups 2 toy stored", not_with("--modcod <M>", "--groups <N>")),
     ("judge --modcod 18 toy stored", no_mode(18)),
-    ("check --hard toy certificate", "--hard is not an option of check"),
-    (f"judge {TOY} toy", "missing: <SOFT>"),
+    ("check --hard toy certificate", unknown("--hard")),
+    (f"judge {TOY} toy", missing("<SOFT>")),
     ("judge --group 361 --groups 2 --q 3 toy stored", beyond(361, "group", 1, 360)),
     ("judge --group 4 --groups 0 --q 3 toy stored", beyond(0, "groups", 1, 64799)),
     ("judge --group 4 --groups 2 --q 64800 toy stored", beyond(64800, "q", 1, 64799)),
     (f"judge {TOY} --passes 1001 toy stored", beyond(1001, "passes", 0, 1000)),
-    (f"judge {TOY} --divisor 4096 toy stored", "--divisor is not an option of judge"),
+    (f"judge {TOY} --divisor 4096 toy stored", unknown("--divisor")),
     (f"judge {TOY} --factor 7 toy stored", beyond(7, "factor", 8, 16)),
     (f"judge {TOY} --factor 17 toy stored", beyond(17, "factor", 8, 16)),
     (f"judge {TOY} --factor x toy stored", beyond("x", "factor", 8, 16)),
     (f"judge {TOY} --correction 64 toy stored", beyond(64, "correction", 0, 63)),
     (f"judge {TOY} --correction -1 toy stored", beyond(-1, "correction", 0, 63)),
-    (f"judge {TOY} --lock 12 toy stored", "--lock is not an option of judge"),
+    (f"judge {TOY} --lock 12 toy stored", unknown("--lock")),
     (f"judge {TOY} --uncertified --passes 0 toy stored", NOT_BOTH),
-    (f"judge {TOY} --passes 96 --uncertified toy stored", "--passes <P> cannot be used with --uncertified"),
-    ("check toy", "missing: <CERT>"),
-    (f"compare {TOY} toy", "missing: <CERTIFICATES>, <WORDS>"),
-    ("check", "missing: <ROWS>, <CERT>"),
-    ("join", "missing: --modcod <M>, <BBFRAMES>, <PACKETS>"),
-    ("mod made packets out", "missing: --modcod <M>"),
-    ("mod --modcod 1 made packets", "missing: <SYMBOLS>"),
+    (f"judge {TOY} --passes 96 --uncertified toy stored", not_with("--passes <P>", "--uncertified")),
+    ("check toy", missing("<CERT>")),
+    (f"compare {TOY} toy", missing("<CERTIFICATES>", "<WORDS>")),
+    ("check", missing("<ROWS>", "<CERT>")),
+    ("join", missing("--modcod <M>", "<BBFRAMES>", "<PACKETS>")),
+    ("mod made packets out", missing("--modcod <M>")),
+    ("mod --modcod 1 made packets", missing("<SYMBOLS>")),
     ("mod --modcod 0 made packets out", no_mode(0)),
     ("mod --modcod 18 made packets out", no_mode(18)),
     ("mod --modcod 1 --number 262142 made packets out", beyond(262142, "number", 0, 262141)),
     ("mod --modcod 1 --dummy 65536 made packets out", beyond(65536, "dummy", 0, 65535)),
     ("mod --modcod 1 --dummy -1 made packets out", beyond(-1, "dummy", 0, 65535)),
     ("mod --modcod 1 --dummy x made packets out", beyond("x", "dummy", 0, 65535)),
-    ("mod --modcod 1 --rounds 1 made packets out", "--rounds is not an option of mod"),
-    ("mod --modcod 1 --divisor 4096 made packets out", "--divisor is not an option of mod"),
-    ("mod --modcod 1 --factor 12 made packets out", "--factor is not an option of mod"),
-    ("mod --modcod 1 --lock 12 made packets out", "--lock is not an option of mod"),
-    ("noise --seed 1 packets out", "missing: <--level <L>|--esn0 <DB>>"),
-    ("noise --level 1 packets out", "missing: --seed <S>"),
-    ("noise --seed 1 --level 1 packets", "missing: <OUT>"),
+    ("mod --modcod 1 --rounds 1 made packets out", unknown("--rounds")),
+    ("mod --modcod 1 --divisor 4096 made packets out", unknown("--divisor")),
+    ("mod --modcod 1 --factor 12 made packets out", unknown("--factor")),
+    ("mod --modcod 1 --lock 12 made packets out", unknown("--lock")),
+    ("noise --seed 1 packets out", missing("<--level <L>|--esn0 <DB>>")),
+    ("noise --level 1 packets out", missing("--seed <S>")),
+    ("noise --seed 1 --level 1 packets", missing("<OUT>")),
     ("noise --seed 1 --level 65536 packets out", beyond(65536, "level", 0, 65535)),
-    ("noise --seed 1 --level 1 --esn0 1 packets out", "--level <L> cannot be used with --esn0 <DB>"),
-    ("noise --seed 1 --esn0 1 --level 1 packets out", "--esn0 <DB> cannot be used with --level <L>"),
-    ("noise --esn0 1 packets out", "missing: --seed <S>"),
+    ("noise --seed 1 --level 1 --esn0 1 packets out", not_with("--level <L>", "--esn0 <DB>")),
+    ("noise --seed 1 --esn0 1 --level 1 packets out", not_with("--esn0 <DB>", "--level <L>")),
+    ("noise --esn0 1 packets out", missing("--seed <S>")),
     *((f"noise --seed 1 --esn0 {text} packets out", no_ratio(text)) for text in RATIOS),
-    ("demod", "missing: --modcod <M>, <ROWS>, <SYMBOLS>, <PACKETS>"),
-    ("demod made packets out", "missing: --modcod <M>"),
-    ("demod --modcod 1 made packets", "missing: <PACKETS>"),
+    ("demod", missing("--modcod <M>", "<ROWS>", "<SYMBOLS>", "<PACKETS>")),
+    ("demod made packets out", missing("--modcod <M>")),
+    ("demod --modcod 1 made packets", missing("<PACKETS>")),
     ("demod --modcod 1 --rounds 0 made packets out", beyond(0, "rounds", 1, 200)),
     ("demod --modcod 1 --rounds 201 made packets out", beyond(201, "rounds", 1, 200)),
     ("demod --modcod 1 --passes 1001 made packets out", beyond(1001, "passes", 0, 1000)),
@@ -240,42 +260,42 @@ MISUSES = [
     ("demod --modcod 1 --every made packets out", beyond("made", "every", 1, 2**32 - 1)),
     ("demod --modcod 1 --lock x made packets out", beyond("x", "lock", 12, 40)),
     ("demod --modcod 1 --uncertified --passes 96 made packets out", NOT_BOTH),
-    *((f"demod --modcod 1 made in out {option}", f"{option}: the value is missing") for option in RECORDS),
-    *((f"mod --modcod 1 made packets out {option} file", f"{option} is not an option of mod") for option in RECORDS if option not in SENT),
-    *((f"mod --modcod 1 made packets out {option}", f"{option}: the value is missing") for option in SENT),
-    *((f"demod --modcod 1 made in out {option} file", f"{option} is not an option of demod") for option in SENT if option not in RECORDS),
-    ("demod --modcod 1 --values one --values two made in out", "--values <FILE> is given twice"),
-    ("demod --modcod 1 --dummy 1 made packets out", "--dummy is not an option of demod"),
-    ("demod --modcod 1 --seed 1 made packets out", "--seed is not an option of demod"),
-    ("run --modcod 1 --seed 1 made packets out", "missing: <--level <L>|--esn0 <DB>>"),
-    ("run --modcod 1 --level 1 made packets out", "missing: <--seed <S>|--seeds <A..B>>"),
-    ("run --modcod 1 --esn0 1 made packets out", "missing: <--seed <S>|--seeds <A..B>>"),
-    (f"{RUN} --esn0 1 made packets out", "--level <L> cannot be used with --esn0 <DB>"),
-    (f"{RUN} --seeds 1..2 made packets out", "--seed <S> cannot be used with --seeds <A..B>"),
-    ("run --modcod 1 --seeds 1..2 --seed 1 --level 1 made packets out", "--seeds <A..B> cannot be used with --seed <S>"),
-    ("run --modcod 1 --seeds 1..2 made packets out", "missing: <--level <L>|--esn0 <DB>>"),
-    ("run --modcod 1 --seeds --level 1 made packets out", "--seeds: the value is missing"),
+    *((f"demod --modcod 1 made in out {option}", lacks(option)) for option in RECORDS),
+    *((f"mod --modcod 1 made packets out {option} file", unknown(option)) for option in RECORDS if option not in SENT),
+    *((f"mod --modcod 1 made packets out {option}", lacks(option)) for option in SENT),
+    *((f"demod --modcod 1 made in out {option} file", unknown(option)) for option in SENT if option not in RECORDS),
+    ("demod --modcod 1 --values one --values two made in out", twice("--values <FILE>")),
+    ("demod --modcod 1 --dummy 1 made packets out", unknown("--dummy")),
+    ("demod --modcod 1 --seed 1 made packets out", unknown("--seed")),
+    ("run --modcod 1 --seed 1 made packets out", missing("<--level <L>|--esn0 <DB>>")),
+    ("run --modcod 1 --level 1 made packets out", missing("<--seed <S>|--seeds <A..B>>")),
+    ("run --modcod 1 --esn0 1 made packets out", missing("<--seed <S>|--seeds <A..B>>")),
+    (f"{RUN} --esn0 1 made packets out", not_with("--level <L>", "--esn0 <DB>")),
+    (f"{RUN} --seeds 1..2 made packets out", not_with("--seed <S>", "--seeds <A..B>")),
+    ("run --modcod 1 --seeds 1..2 --seed 1 --level 1 made packets out", not_with("--seeds <A..B>", "--seed <S>")),
+    ("run --modcod 1 --seeds 1..2 made packets out", missing("<--level <L>|--esn0 <DB>>")),
+    ("run --modcod 1 --seeds --level 1 made packets out", lacks("--seeds")),
     *((f"run --modcod 1 --seeds={text} --level 1 made packets out", no_range(text)) for text in RANGES),
-    ("demod --modcod 1 --seeds 1..2 made packets out", "--seeds is not an option of demod"),
+    ("demod --modcod 1 --seeds 1..2 made packets out", unknown("--seeds")),
     *((f"demod --modcod 1 --piece={text} made packets out", no_piece(text)) for text in (*RANGES, f"0..{2**60 + 1}")),
-    ("demod --modcod 1 made packets out --piece", "--piece: the value is missing"),
-    ("demod --modcod 1 --last made packets out", "missing: --piece <FROM..TO>"),
-    ("demod --modcod 1 --piece 0..1 --last=1 made packets out", "--last takes no value"),
-    ("demod --modcod 1 --again in made packets out", "--again is not an option of demod"),
-    (f"{RUN} --piece 0..1 made packets out", "--piece is not an option of run"),
-    ("stitch", "missing: --modcod <M>, <ROWS>, <SYMBOLS>, <RECORDS>, <PACKETS>"),
-    ("stitch --modcod 1 made in pieces", "missing: <PACKETS>"),
-    ("stitch made in pieces out", "missing: --modcod <M>"),
-    ("stitch --modcod 1 made in pieces out more", "more is an unexpected argument"),
-    ("stitch --modcod 1 --piece 0..1 made in pieces out", "--piece is not an option of stitch"),
-    ("stitch --modcod 1 --last made in pieces out", "--last is not an option of stitch"),
-    ("stitch --modcod 1 --seed 1 made in pieces out", "--seed is not an option of stitch"),
+    ("demod --modcod 1 made packets out --piece", lacks("--piece")),
+    ("demod --modcod 1 --last made packets out", missing("--piece <FROM..TO>")),
+    ("demod --modcod 1 --piece 0..1 --last=1 made packets out", takes_none("--last", "1")),
+    ("demod --modcod 1 --again in made packets out", unknown("--again")),
+    (f"{RUN} --piece 0..1 made packets out", unknown("--piece")),
+    ("stitch", missing("--modcod <M>", "<ROWS>", "<SYMBOLS>", "<RECORDS>", "<PACKETS>")),
+    ("stitch --modcod 1 made in pieces", missing("<PACKETS>")),
+    ("stitch made in pieces out", missing("--modcod <M>")),
+    ("stitch --modcod 1 made in pieces out more", unknown("more")),
+    ("stitch --modcod 1 --piece 0..1 made in pieces out", unknown("--piece")),
+    ("stitch --modcod 1 --last made in pieces out", unknown("--last")),
+    ("stitch --modcod 1 --seed 1 made in pieces out", unknown("--seed")),
     ("stitch --modcod 1 --uncertified --passes 96 made in pieces out", NOT_BOTH),
-    ("stitch --modcod 1 made in pieces out --again", "--again: the value is missing"),
-    ("noise --seeds 1..2 --level 1 packets out", "--seeds is not an option of noise"),
+    ("stitch --modcod 1 made in pieces out --again", lacks("--again")),
+    ("noise --seeds 1..2 --level 1 packets out", unknown("--seeds")),
     *((f"run --modcod 1 --seed 1 --esn0 {text} made packets out", no_ratio(text)) for text in RATIOS),
-    ("run --seed 1 --level 1 made packets out", "missing: --modcod <M>"),
-    (f"{RUN} made packets", "missing: <OUT>"),
+    ("run --seed 1 --level 1 made packets out", missing("--modcod <M>")),
+    (f"{RUN} made packets", missing("<OUT>")),
     (f"{RUN} --dummy 65536 made packets out", beyond(65536, "dummy", 0, 65535)),
     (f"{RUN} --rounds 201 made packets out", beyond(201, "rounds", 1, 200)),
     (f"{RUN} --passes 1001 made packets out", beyond(1001, "passes", 0, 1000)),
@@ -285,32 +305,32 @@ MISUSES = [
     (f"{RUN} --lock 11 made packets out", beyond(11, "lock", 12, 40)),
     (f"{RUN} --lock 41 made packets out", beyond(41, "lock", 12, 40)),
     (f"{RUN} --uncertified --passes 0 made packets out", NOT_BOTH),
-    (f"{RUN} --tuned=1 made packets out", "--tuned takes no value"),
-    ("scan", "missing: <SYMBOLS>"),
-    ("scan one other", "other is an unexpected argument"),
-    ("scan --modcod 1 one", "--modcod is not an option of scan"),
+    (f"{RUN} --tuned=1 made packets out", takes_none("--tuned", "1")),
+    ("scan", missing("<SYMBOLS>")),
+    ("scan one other", unknown("other")),
+    ("scan --modcod 1 one", unknown("--modcod")),
     ("scan --first 0 one", beyond(0, "first", 1, 4294967295)),
     ("scan --first 4294967296 one", beyond(4294967296, "first", 1, 4294967295)),
-    ("join frames out", "missing: --modcod <M>"),
-    ("join --modcod 1 frames", "missing: <PACKETS>"),
+    ("join frames out", missing("--modcod <M>")),
+    ("join --modcod 1 frames", missing("<PACKETS>")),
     ("join --modcod 0 frames out", no_mode(0)),
     ("join --modcod 18 frames out", no_mode(18)),
-    ("join --modcod 1 --pilots frames out", "--pilots is not an option of join"),
-    ("audit --modcod 1 made in report", "missing: <CERTIFICATES>"),
-    ("audit made in report certificates", "missing: --modcod <M>"),
+    ("join --modcod 1 --pilots frames out", unknown("--pilots")),
+    ("audit --modcod 1 made in report", missing("<CERTIFICATES>")),
+    ("audit made in report certificates", missing("--modcod <M>")),
     ("audit --modcod 18 made in report certificates", no_mode(18)),
     ("audit --modcod 1 --number 262142 made in report certificates", beyond(262142, "number", 0, 262141)),
-    ("audit --modcod 1 --tuned=1 made in report certificates", "--tuned takes no value"),
-    ("audit --modcod 1 --rounds 50 made in report certificates", "--rounds is not an option of audit"),
+    ("audit --modcod 1 --tuned=1 made in report certificates", takes_none("--tuned", "1")),
+    ("audit --modcod 1 --rounds 50 made in report certificates", unknown("--rounds")),
     ("audit --modcod 1 --lock 11 made in report certificates", beyond(11, "lock", 12, 40)),
     ("audit --modcod 1 --lock 41 made in report certificates", beyond(41, "lock", 12, 40)),
-    ("audit --modcod 1 --figures=1 made in report certificates", "--figures takes no value"),
-    ("audit --modcod 1 --packets packets made in report certificates", "missing: --codewords <FILE>"),
-    *((f"audit --modcod 1 made in report certificates {name}", f"{name}: the value is missing") for name in ("--codewords", "--packets")),
+    ("audit --modcod 1 --figures=1 made in report certificates", takes_none("--figures", "1")),
+    ("audit --modcod 1 --packets packets made in report certificates", missing("--codewords <FILE>")),
+    *((f"audit --modcod 1 made in report certificates {name}", lacks(name)) for name in ("--codewords", "--packets")),
     (f"rows {PAIR} --weight 0 --seed 1", beyond(0, "weight", 1, 24)),
     (f"rows {PAIR} --weight 25 --seed 1", beyond(25, "weight", 1, 24)),
-    (f"rows {PAIR} --weight 1 --seed -1", "--seed: -1 is not an unsigned 64-bit number"),
-    (f"rows {PAIR} --weight 1 --seed {2**64}", f"--seed: {2**64} is not an unsigned 64-bit number"),
+    (f"rows {PAIR} --weight 1 --seed -1", "invalid value '-1' for '--seed <S>': invalid digit found in string"),
+    (f"rows {PAIR} --weight 1 --seed {2**64}", f"invalid value '{2**64}' for '--seed <S>': number too large to fit in target type"),
 ]
 # Arguments that are not UTF-8, as the errors show them. The byte 255 is in no text.
 NO_TEXTS = [
@@ -371,7 +391,7 @@ WORDS = [
     ("judge", "--passes <P>", "0 to 1000 [default: 0]"),
     ("mod", "--modcod <M>", "for example qpsk3/4 or 8PSK2/3: `s2 modes` lists them"),
     ("mod", "--short", "Short frames: 16200 bits instead of 64800"),
-    ("mod", "--pilots", "Frames with pilot blocks; takes no value"),
+    ("mod", "--pilots", "Frames with pilot blocks"),
     ("mod", "--number <N>", "Scrambling number, 0 to 262141 [default: 0]"),
     ("mod", "--ro <R>", "0 for 0.35, 1 for 0.25, 2 for 0.20 [default: 0]"),
     *((name, "--ro <R>", "no effect: headers with any roll-off are accepted [default: 0]") for name in ("demod", "audit")),
@@ -387,6 +407,9 @@ WORDS = [
     ("judge", "--modcod <M>", "for example qpsk3/4 or 8PSK2/3: `s2 modes` lists them"),
     ("judge", "--short", "Short frames: 16200 bits instead of 64800"),
     ("judge", "--hard", "instead of soft values: 0 becomes the value 1, and 1 becomes -1"),
+    ("scan", "--first <N>", "Examine only the first N symbols, 1 to 4294967295; by default all"),
+    ("scan", "seen N first S", "number of headers found, and the symbol of the first, counted from 0"),
+    ("scan", "clipped C", "the receiver's input may be too strong"),
     ("judge", "--each", "one after another: a line of the report per frame, and all certificates in one file"),
     ("judge", ".. changed B", "at the end of each line: B of the bits differ from the word that was read"),
     ("judge", "these look like hard decisions: use --hard", "all values are 0 or 1"),
@@ -468,7 +491,7 @@ QUIET = [name for name in LINES if name not in ("join", "audit")]
 
 def refused(word, name):
     """A command that does not know a word."""
-    return misuse(f"{LINES[name]} {word}", f"{word} is not an option of {name}")
+    return misuse(f"{LINES[name]} {word}", unknown(word))
 
 
 def taken(word, name):
@@ -498,7 +521,7 @@ ENDED = {
 
 
 def no_divisor(command, value):
-    return misuse(f"{command} --divisor {value} made packets old", f"--divisor: {value} is not {' or '.join(map(str, DIVISORS))}")
+    return misuse(f"{command} --divisor {value} made packets old", no_choice(value, "divisor", DIVISORS))
 
 
 MARK, LONG_NAME = b"\xef\xbb\xbf", 300 * "n"
@@ -594,7 +617,9 @@ CASES = [
     Case("--version", out="s2 0.1\n"),
     Case("--help", out=HELP),
     Case("check --help", out=CHECK_HELP),
-    Case("scan --help", out=SCAN_HELP),
+    Case("check -h", out=CHECK_SHORT),
+    Case("audit -h", out=AUDIT_SHORT),
+    *(Case(f"{name} -h", out=Rule("no long line", lambda got: all(len(line) <= 125 for line in got.splitlines()))) for name in LINES),
     *(Case(f"{name} --help", out=first_line(about)) for name, about in ABOUTS.items()),
     *(Case(f"{name} --help", out=option("0  ", end)) for name, end in ENDS.items()),
     *(Case(f"{name} --help", out=option(word, says)) for name, word, says in WORDS),
@@ -632,12 +657,12 @@ CASES = [
     *(refused("--each", name) for name in LINES if name not in ("judge", "check")),
     Case("--help", FAULT, to="/dev/full"),
     *(misuse(words, text) for words, text in MISUSES),
-    *(misuse(words, f"{shown} is not valid UTF-8", "s2 --help") for words, shown in NO_TEXTS),
+    *(Case(words, FAULT, errors=f"s2: {shown} is not valid UTF-8; see s2 --help\n") for words, shown in NO_TEXTS),
     Case(f"mod {LINK} made caf\u00e9 out", out="packets 2 frames 2\n", reads={"caf\u00e9": 2 * PACKET}, writes={"out": size(65_520)}),
     *(no_divisor(command, value) for command in RECEIVING for value in NO_DIVISORS),
-    *(misuse(f"{command} made packets old --divisor", "--divisor: the value is missing") for command in (*RECEIVING, "audit --modcod 1")),
-    *(misuse(f"{command} made packets old --exit-by", "--exit-by: the value is missing") for command in RECEIVING),
-    *(misuse(f"{command} --exit-by {value} made packets old", f"--exit-by: {value} is not certainty or delivery") for command in RECEIVING for value in NO_BYS),
+    *(misuse(f"{command} made packets old --divisor", lacks("--divisor")) for command in (*RECEIVING, "audit --modcod 1")),
+    *(misuse(f"{command} made packets old --exit-by", lacks("--exit-by")) for command in RECEIVING),
+    *(misuse(f"{command} --exit-by {value} made packets old", no_choice(value, "exit-by", ["certainty", "delivery"])) for command in RECEIVING for value in NO_BYS),
     *(Case(f"{name} --help", out=option("--divisor <D>", f" [default: 4096] {POSSIBLE}")) for name in ("demod", "run", "audit")),
     *(Case(f"{name} --help", out=option("--factor <F>", " [default: 12]")) for name in DECIDING),
     *(Case(f"{name} --help", out=option("--correction <M>", " [default: 0]")) for name in DECIDING),

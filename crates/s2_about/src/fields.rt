@@ -1,8 +1,8 @@
 //! The options of a command as lines of a record. The keys are the names of the options.
 use s2_plframe::HeaderTolerance;
+use s2_request::{ExitBy, LinkArguments, NoteArguments};
 use s2_soft::Divisor;
 use s2_tuning::Tuning;
-use s2_words::{ExitBy, LinkArguments, NoteArguments};
 
 /// A value of a record.
 #[derive(Clone, Copy)]

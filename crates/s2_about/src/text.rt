@@ -1,7 +1,7 @@
 //! The lines of a record. Each begins with the comma of the line before it.
 use crate::fields::{Field, Value};
 use crate::file_sum::FileSum;
-use s2_words::VERSION;
+use s2_request::VERSION;
 use std::alloc::{AllocError, Global};
 
 /// The begin of the record of a command.

@@ -16,7 +16,7 @@ pub use Rattle.s2_io.specs.declared.fault.Fault.{Fault}
 pub use Rattle.s2_rows.specs.Rows.{Rows}
 pub use Rattle.s2_link.specs.Link.{Link, link_of, setup_of}
 pub use Rattle.s2_link.specs.declared.setup.Setup.{Setup}
-pub use Rattle.s2_words.specs.declared.request.NoteArguments.{NoteArguments}
+pub use Rattle.s2_request.specs.declared.request.NoteArguments.{NoteArguments}
 pub use Rattle.s2_receive.specs.declared.report.Received.{Received}
 pub use Rattle.s2_inputs.specs.Inputs.{rows_in}
 pub use Rattle.s2_receive.specs.Limits.{max_symbols}
@@ -26,7 +26,7 @@ pub use Rattle.s2_report.specs.declared.style.Style.{Style}
 pub use Rattle.s2_send.specs.Transmitter.{Transmitter, new_transmitter}
 pub use Rattle.s2_commands.specs.declared.choices.Channel.{Channel}
 pub use Rattle.s2_commands.specs.declared.choices.RunOptions.{RunOptions}
-pub use Rattle.s2_words.specs.declared.request.Seeds.{Seeds}
+pub use Rattle.s2_request.specs.declared.request.Seeds.{Seeds}
 pub use Rattle.s2_commands.specs.Links.{LinkCommand, DoesOn, OnLink, link_on}
 pub use Rattle.s2_mode.specs.declared.stream_fault.StreamFault.{StreamFault}
 pub use Rattle.s2_receive.specs.Receiving.{Rules, State, begun, styled}

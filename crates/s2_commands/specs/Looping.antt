@@ -20,9 +20,9 @@ use Rattle.s2_io.specs.Notes.{Remarks}
 use Rattle.s2_io.specs.Files.{Files, reporting}
 use Rattle.s2_io.specs.Screens.{Screen}
 use Rattle.s2_commands.specs.declared.choices.Channel.{Channel}
-use Rattle.s2_words.specs.declared.request.NoteArguments.{NoteArguments}
+use Rattle.s2_request.specs.declared.request.NoteArguments.{NoteArguments}
 use Rattle.s2_commands.specs.declared.choices.RunOptions.{RunOptions}
-use Rattle.s2_words.specs.declared.request.Seeds.{Seeds}
+use Rattle.s2_request.specs.declared.request.Seeds.{Seeds}
 use Rattle.s2_commands.specs.Ends.{BeginsWith, CausesWith, Ends, ends_of}
 use Rattle.s2_commands.specs.Links.{LinkCommand, OnLink}
 use Rattle.s2_commands.specs.Losses.{Finishes}

@@ -7,9 +7,9 @@ use Rattle.s2_receive.specs.declared.report.Received.{Received}
 use Rattle.s2_report.specs.declared.totals.Totals.{Totals}
 use Rattle.s2_scan.specs.Lines.{gain_of, is_usual}
 use Rattle.s2_scan.specs.Strength.{amplitude_by}
-use Rattle.s2_words.specs.declared.request.ExitBy.{ExitBy}
-use Rattle.s2_words.specs.declared.request.ExitBy.TheVariants as deciders
-use Rattle.s2_words.specs.declared.request.NoteArguments.{NoteArguments}
+use Rattle.s2_request.specs.declared.request.ExitBy.{ExitBy}
+use Rattle.s2_request.specs.declared.request.ExitBy.TheVariants as deciders
+use Rattle.s2_request.specs.declared.request.NoteArguments.{NoteArguments}
 use Rattle.s2_table.specs.Wanted.{fault_note}
 use Rattle.s2_io.specs.declared.exit.Exit.{Exit}
 use Rattle.s2_io.specs.declared.exit.Exit.TheVariants as exits

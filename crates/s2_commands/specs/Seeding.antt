@@ -10,7 +10,7 @@ use Rattle.s2_io.specs.declared.exit.Exit.{Exit}
 use Rattle.s2_io.specs.declared.fault.Fault.{Fault}
 use Rattle.s2_io.specs.declared.fault.Fault.TheVariants as faults
 use Rattle.s2_commands.specs.declared.choices.Channel.{Channel}
-use Rattle.s2_words.specs.declared.request.Seeds.{Seeds}
+use Rattle.s2_request.specs.declared.request.Seeds.{Seeds}
 use Rattle.s2_commands.specs.Ends.{Ends}
 use Rattle.s2_commands.specs.NoisyReception.{kept_fault, Stops, hearing, Noised}
 use Rattle.s2_commands.specs.Receptions.{ReceivesToEnd}

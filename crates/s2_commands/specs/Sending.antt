@@ -19,7 +19,7 @@ use Rattle.s2_io.specs.Files.{Files, reporting}
 use Rattle.s2_io.specs.Notes.{Remarks}
 use Rattle.s2_io.specs.Screens.{Screen}
 use Rattle.s2_table.specs.Wanted.{fault_note}
-use Rattle.s2_words.specs.declared.request.ModArguments.{ModArguments}
+use Rattle.s2_request.specs.declared.request.ModArguments.{ModArguments}
 use Rattle.s2_commands.specs.Ends.{BeginsWith, CausesWith, Ends, ends_of}
 use Rattle.s2_commands.specs.Links.{LinkCommand, OnLink}
 use Rattle.s2_commands.specs.Refusals.{Sent, refused_by, refusal_fault, refusal_note, sent_by}

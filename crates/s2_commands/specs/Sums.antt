@@ -1,7 +1,7 @@
 -- The line of the sums over many receptions (own).
 use Rattle.std.specs.Prelude.{ℕ, ◌+◌, ◌-◌, List, ◌++◌, codes, decimal}
 use Rattle.s2_report.specs.declared.totals.Totals.{Totals}
-use Rattle.s2_words.specs.declared.request.Seeds.{Seeds}
+use Rattle.s2_request.specs.declared.request.Seeds.{Seeds}
 
 -- the number of seeds of a range
 abbrev pub seeds_in : Seeds → ℕ

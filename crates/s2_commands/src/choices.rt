@@ -1,8 +1,8 @@
 //! The options of a command, apart from its link and its files.
 use s2_channel::Strength;
 use s2_report::Style;
+use s2_request::{NoteArguments, Seeds};
 use s2_tuning::Tuning;
-use s2_words::{NoteArguments, Seeds};
 
 /// A channel: the seed and the strength of its noise.
 #[derive(Clone, Copy)]

@@ -11,8 +11,8 @@ use s2_io::{Console, Exit, Fault, Line};
 use s2_mode::{CountedWrite, HEADER_SYMBOLS, Mode, WriteFault, write_full};
 use s2_receive::Received;
 use s2_report::Totals;
+use s2_request::{ExitBy, NoteArguments};
 use s2_table::{report_noted, write_note};
-use s2_words::{ExitBy, NoteArguments};
 
 /// Whether no frame was found, nor a cut one, in enough symbols for a header.
 fn no_sync(received: Received) -> bool

@@ -14,9 +14,9 @@ use crate::refusals::{Ended, refused_by, report_refusal, sent_by};
 use s2_io::{Console, Destination, Exit, Fault, Line, Output, print};
 use s2_link::{Link, LinkSetup};
 use s2_mode::{CountedRead, CountedWrite, Mode};
+use s2_request::ModArguments;
 use s2_send::{Counts, SendSink, Transmitter};
 use s2_table::{read_noted, report_noted};
-use s2_words::ModArguments;
 use std::alloc::Global;
 
 /// The line of a run's counts. It takes no memory, so that memory cannot run out once frames are written.

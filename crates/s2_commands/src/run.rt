@@ -23,9 +23,9 @@ use s2_io::{Console, Destination, Exit, Fault, Output};
 use s2_link::{Link, LinkSetup};
 use s2_mode::{CountedRead, CountedWrite, Counting, Mode};
 use s2_receive::{Received, Sink};
+use s2_request::NoteArguments;
 use s2_send::{SendFault, Transmitter};
 use s2_table::read_noted;
-use s2_words::NoteArguments;
 use std::alloc::Global;
 
 /// How a refusal ends a command that sends into memory.

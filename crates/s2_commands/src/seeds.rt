@@ -19,8 +19,8 @@ use s2_mode::{CountedWrite, Counting, InMemory, write_full};
 use s2_modem::Receiver;
 use s2_receive::{Received, Sink};
 use s2_report::Style;
+use s2_request::Seeds;
 use s2_tuning::Tuning;
-use s2_words::Seeds;
 use std::alloc::Global;
 
 /// The style of the report of a seed, after this number of seeds. The report goes on after theirs.

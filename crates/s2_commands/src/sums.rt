@@ -4,7 +4,7 @@ ghost use Rattle.s2_commands.specs.Sums.{seeds_in, sums_line};
 
 use s2_io::Line;
 use s2_report::Totals;
-use s2_words::Seeds;
+use s2_request::Seeds;
 
 /// The number of seeds of a range.
 fn seeds_in(seeds: Seeds) -> u128

@@ -10,10 +10,10 @@ use s2_about::{
 use s2_io::{Exit, Output, Truncating};
 use s2_mode::{WriteFault, write_full};
 use s2_opening::Unserved;
-use s2_tuning::Tuning;
-use s2_words::{
+use s2_request::{
     DemodArguments, LinkArguments, NoteArguments, RunArguments, Seeds, StrengthArguments,
 };
+use s2_tuning::Tuning;
 use std::alloc::{AllocError, Global};
 
 /// Appends the mode, and all options of a receiver.

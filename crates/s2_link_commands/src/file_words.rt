@@ -2,7 +2,7 @@
 use crate::beside::BesideNames;
 use crate::link_request::LinkRequest;
 use s2_record_files::RecordNames;
-use s2_words::{
+use s2_request::{
     DemodArguments, LinkArguments, ModArguments, Piece, Progress, RunArguments, StitchArguments,
 };
 

@@ -21,11 +21,12 @@ use s2_link::LinkSetup;
 use s2_mode::{CountedRead, CountedWrite, Mode};
 use s2_notes::{exit_after, note_beginning, note_left_out};
 use s2_opening::{Opens, Unserved, show_on};
-use s2_options::setup_of;
 use s2_record_files::RecordFiles;
+use s2_request::{
+    DemodArguments, ModArguments, Progress, RunArguments, Seeds, StitchArguments, setup_of,
+};
 use s2_resync::LeftOut;
 use s2_stitching::stitch_command;
-use s2_words::{DemodArguments, ModArguments, Progress, RunArguments, Seeds, StitchArguments};
 use std::alloc::Global;
 use std::mem;
 use std::time::Clock;

@@ -7,8 +7,8 @@ use s2_io::{Console, Exit, Line};
 use s2_mode::{CountedWrite, HEADER_SYMBOLS, Mode, write_full};
 use s2_opening::Unserved;
 use s2_receive::MAX_SYMBOLS;
-use s2_words::Piece;
-use s2_words::limits::MAX_POSITION;
+use s2_request::Piece;
+use s2_request::limits::MAX_POSITION;
 
 const _: () = prove!(MAX_POSITION <= MAX_SYMBOLS);
 

@@ -7,8 +7,8 @@ use crate::link_request::LinkRequest;
 use s2_about::FileSum;
 use s2_mode::{CountedRead, ReadFault, read_full};
 use s2_opening::{Opens, Unserved};
+use s2_request::DemodArguments;
 use s2_tuning::Tuning;
-use s2_words::DemodArguments;
 use std::alloc::{AllocError, Global};
 
 /// Reads a file to its end. Its bytes pass.

@@ -4,7 +4,7 @@
 use crate::errors::write_note;
 use crate::names::shown;
 use s2_io::{Disk, Role, Terminal, is_standard};
-use s2_words::{DemodArguments, Request, StitchArguments};
+use s2_request::{DemodArguments, Request, StitchArguments};
 use std::alloc::{AllocError, Global};
 use std::fs::OpenOptions;
 use std::io::Read;

@@ -5,8 +5,8 @@ ghost use Rattle.std.specs.Option.{ForSome};
 use crate::opens::{Opens, Unserved};
 use s2_about::{FileSums, Hashed, SharedSum};
 use s2_io::{Destination, Meter, Watched};
+use s2_request::{AuditArguments, JoinArguments, NoiseArguments, ScanArguments};
 use s2_scan::Beginning;
-use s2_words::{AuditArguments, JoinArguments, NoiseArguments, ScanArguments};
 
 /// Opens two files that are read.
 pub fn open_inputs<'a, P: Opens<'a>>(

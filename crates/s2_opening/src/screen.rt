@@ -7,7 +7,7 @@ use either::{Either, Left, Right};
 use s2_about::{Hashed, SharedSum};
 use s2_io::{Clearing, Console, Disk, Explaining, Pace, Role, Show, StandardStreams, Terminal};
 use s2_notes::{Errors, errors_of};
-use s2_words::Progress;
+use s2_request::Progress;
 use std::time::Clock;
 
 /// Standard output, or standard error if the data of a command go to standard output.

@@ -10,7 +10,7 @@ use s2_io::Truncating;
 use s2_mode::Mode;
 use s2_opening::{Opens, Unserved};
 use s2_records::Recorder;
-use s2_words::{RecordArguments, SentRecordArguments};
+use s2_request::{RecordArguments, SentRecordArguments};
 use std::alloc::Global;
 
 /// The names of a command's files of records.

@@ -10,7 +10,7 @@ use s2_audit::How;
 use s2_io::{Exit, Fault, print};
 use s2_mode::{CountedRead, CountedWrite, FileFault, ReadFault, read_all, read_full};
 use s2_opening::AuditFiles;
-use s2_words::AuditArguments;
+use s2_request::AuditArguments;
 use std::alloc::{AllocError, Global};
 
 /// The maximum length of a record in bytes.

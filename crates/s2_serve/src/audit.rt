@@ -12,8 +12,7 @@ use s2_link::LinkSetup;
 use s2_mode::{CountedRead, CountedWrite};
 use s2_notes::note_audit;
 use s2_opening::{AuditFiles, Opens, Unserved, open_audit};
-use s2_options::setup_of;
-use s2_words::AuditArguments;
+use s2_request::{AuditArguments, setup_of};
 use std::alloc::Global;
 
 /// Runs `audit` on its files.

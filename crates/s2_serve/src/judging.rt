@@ -12,9 +12,9 @@ use s2_io::{Console, Exit, Output};
 use s2_judging::{JudgeFiles, judge_command, judge_each_command};
 use s2_mode::{CountedRead, CountedWrite, Mode, Shape};
 use s2_opening::{Opens, Unserved, open_compare, open_inputs};
+use s2_request::{CheckArguments, CodeArguments, CompareArguments, JudgeArguments, TableArguments};
 use s2_table::table_command;
 use s2_tuning::Tuning;
-use s2_words::{CheckArguments, CodeArguments, CompareArguments, JudgeArguments, TableArguments};
 use std::alloc::Global;
 
 /// Why there is no such code.

@@ -5,7 +5,7 @@ ghost use Rattle.s2_judging.specs.Files.{CanJudge};
 use s2_io::Destination;
 use s2_judging::JudgeFiles;
 use s2_opening::{Opens, Unserved};
-use s2_words::JudgeArguments;
+use s2_request::JudgeArguments;
 
 /// Opens an output if a name is given.
 fn write_named<'a, P: Opens<'a>>(

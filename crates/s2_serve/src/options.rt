@@ -3,9 +3,11 @@ use s2_audit::How;
 use s2_compare::Form;
 use s2_message::FrameOptions;
 use s2_mode::{Mode, Shape};
-use s2_options::{audited_tuning, shape_of};
+use s2_request::{
+    AuditArguments, CodeArguments, CompareArguments, JudgeArguments, WordsArguments,
+    audited_tuning, shape_of,
+};
 use s2_tuning::{Tuning, judging_by};
-use s2_words::{AuditArguments, CodeArguments, CompareArguments, JudgeArguments, WordsArguments};
 
 /// How a report on a mode was made.
 pub(crate) fn how_of(mode: &Mode, words: &AuditArguments<'_>) -> Option<How> {

@@ -7,8 +7,8 @@ use s2_io::{Console, Disk, Exit, Pace, Terminal};
 use s2_mode::{CountedWrite, Mode};
 use s2_opening::{Opens, Unserved, open_join, open_scan, show_on};
 use s2_records::join_command;
+use s2_request::{JoinArguments, ScanArguments};
 use s2_scan::scan_command;
-use s2_words::{JoinArguments, ScanArguments};
 use std::alloc::Global;
 use std::time::Clock;
 

@@ -1,6 +1,6 @@
 //! The sums of `--about` that a request needs. This is plain code.
 use s2_about::{FileSums, SharedSum};
-use s2_words::Request;
+use s2_request::Request;
 
 /// The sums for the files of a request, if its options have a file for them.
 pub(crate) fn sums_for<'h>(request: &Request<'_>, sums: &'h FileSums) -> Option<&'h FileSums> {

@@ -11,7 +11,7 @@ use s2_about::FileSums;
 use s2_io::Terminal;
 use s2_notes::{errors_of, note_typed, takes_output};
 use s2_opening::screen_beside;
-use s2_words::Request;
+use s2_request::Request;
 use std::io::IsTerminal;
 use std::process::ExitCode;
 

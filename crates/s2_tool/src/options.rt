@@ -1,9 +1,10 @@
 //! The options of the commands with a channel or a receiver, in their types. This is plain code.
 use s2_channel::{EsN0, Strength};
 use s2_commands::{Channel, DemodOptions, RunOptions};
-use s2_options::{setup_of, tuning_of};
 use s2_report::Style;
-use s2_words::{ChannelArguments, DemodArguments, Piece, RunArguments, StrengthArguments};
+use s2_request::{
+    ChannelArguments, DemodArguments, Piece, RunArguments, StrengthArguments, setup_of, tuning_of,
+};
 
 /// The channel of two options.
 pub(crate) fn channel_of(words: ChannelArguments) -> Option<Channel> {

@@ -5,7 +5,7 @@ ghost use Rattle.s2_io.specs.Screens.{CanNote};
 
 use crate::options::{channel_of, demod_options, run_options};
 use s2_about::FileSums;
-use s2_command_line::parse_arguments;
+use s2_cli::{Unread, not_text, parse_arguments};
 use s2_commands::{noise_command, rows_command};
 use s2_io::{Console, Disk, Exit, Fault, Pace, Terminal};
 use s2_judging::self_command;
@@ -16,14 +16,12 @@ use s2_notes::{has_control, note_cause, note_marks, shown};
 use s2_opening::{
     FileOpener, Finishes, Opens, Unserved, open_noise, screen_beside, show_on, standard_input,
 };
-use s2_options::shape_of;
+use s2_request::{
+    DemodArguments, ModesArguments, NoiseArguments, Request, RowsArguments, RunArguments,
+    StitchArguments, shape_of,
+};
 use s2_serve::{
     serve_audit, serve_check, serve_compare, serve_join, serve_judge, serve_scan, serve_table,
-};
-use s2_usage::{Unread, not_text};
-use s2_words::{
-    DemodArguments, ModesArguments, NoiseArguments, Request, RowsArguments, RunArguments,
-    StitchArguments,
 };
 use std::alloc::{AllocError, Global};
 use std::env::FillError;
@@ -93,9 +91,9 @@ pub(crate) fn print_usage<R: Disk + AllocGlobal + Print + Eprint>(
 ) -> Exit {
     match unread {
         Unread::NoMemory => lacks_memory(&mut screen_beside(terminal, false, None)),
-        Unread::Asked(help) => match help.print(rt) {
-            Ok(()) => Exit::Fine,
-            Err(_) => Exit::Fault,
+        Unread::Told(text) => match text.print(rt) {
+            Ok(()) if !text.use_stderr() => Exit::Fine,
+            _ => Exit::Fault,
         },
         Unread::Fault(line) => {
             let _ = rt.eprint(line);
