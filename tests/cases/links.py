@@ -368,13 +368,13 @@ FACTORS = (12, 13, 14, 16)
 TUNED = [
     ("--tuned", 32768, 16, 27),
     ("--tuned --divisor 4096", 4096, 16, 27),
-    ("--factor 12 --tuned", 32768, 12, 27),
+    ("--factor 15 --tuned", 32768, 15, 27),
     ("--correction 10 --tuned", 32768, 16, 10),
-    ("--divisor 4096 --factor 13 --tuned", 4096, 13, 27),
+    ("--divisor 8192 --factor 15 --tuned", 8192, 15, 27),
     ("--tuned --factor 12 --divisor 4096 --correction 0", 4096, 12, 0),
 ]
 # By each of these corrections two rounds leave another count than without.
-CORRECTIONS = (10, 27, 63)
+CORRECTIONS = (5, 10)
 
 
 def reporting(two, rows):

@@ -279,17 +279,17 @@ def tuning_effects(two, report):
     """`report` returns the report of the noisy symbols after two rounds, for a divisor, a factor and a correction."""
     noisy = {"reads": {"in": spoilt(two, *NOISY)}}
     usual, best = (4096, 12, 0), (32768, 16, 27)
-    others = [(8192, 12, 0), (4096, 13, 0), (4096, 12, 27), (4096, 16, 27), (32768, 12, 27), (32768, 16, 0)]
+    others = [(8192, 12, 0), (4096, 13, 0), (4096, 12, 10), (4096, 16, 27), (32768, 15, 27), (32768, 16, 0)]
     by = {values: received(report(*values), NO) for values in (usual, best, *others)}
     words = f"{LINK} --rounds 2 {{}}"
     yield from both("--divisor", words, by_default("--divisor", 4096, 8192, by[usual], by[8192, 12, 0]), NOISY, noisy)
     yield from both("--factor", words, by_default("--factor", 12, 13, by[usual], by[4096, 13, 0]), NOISY, noisy)
-    yield from both("--correction", words, by_default("--correction", 0, 27, by[usual], by[4096, 12, 27]), NOISY, noisy)
+    yield from both("--correction", words, by_default("--correction", 0, 10, by[usual], by[4096, 12, 10]), NOISY, noisy)
     yield from both("--tuned", words, {"": by[usual], "--tuned": by[best]}, NOISY, noisy)
     # beside --tuned each option that it sets wins
     words = f"{LINK} --rounds 2 --tuned {{}}"
     yield from both("--divisor", words, by_default("--divisor", 32768, 4096, by[best], by[4096, 16, 27]), NOISY, noisy)
-    yield from both("--factor", words, by_default("--factor", 16, 12, by[best], by[32768, 12, 27]), NOISY, noisy)
+    yield from both("--factor", words, by_default("--factor", 16, 15, by[best], by[32768, 15, 27]), NOISY, noisy)
     yield from both("--correction", words, by_default("--correction", 27, 0, by[best], by[32768, 16, 0]), NOISY, noisy)
     # the result of fifty rounds, the default, is only known to differ from those of one and two
     many, one = ({"code": ANY, "out": ANY, "errors": errors, "writes": {"out": ANY}} for errors in ("", ANY))
