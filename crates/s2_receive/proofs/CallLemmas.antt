@@ -49,7 +49,7 @@ all_calls old bytes given out (call ∷ later) (live, same, advances, (left, is,
     let (more, others) = run.1 in
     let end = last_state new.state later in
     let from = in_memory (call.bytes ++ left) given out in
-    let second = subst (λ (r : Rules). Processed r new.state end (in_memory left written told) (in_memory last (written ++ call_packets later) (told ++ call_lines old.rules.style later)) more) same others in
+    let second = subst (λ (r : Rules). Processed r new.state end (in_memory left written told) (in_memory last (written ++ call_packets later) (told ++ call_lines r.style later)) more) same others in
     let both = processed_on old.rules old.state new.state end from (in_memory left written told) (in_memory last (written ++ call_packets later) (told ++ call_lines old.rules.style later)) met more first second in
     let same_end : in_memory last (written ++ call_packets later) (told ++ call_lines old.rules.style later) ≡ in_memory last (given ++ (packets ++ call_packets later)) (out ++ (line ++ call_lines old.rules.style later)) =
     λ i. in_memory last (append_assoc given packets (call_packets later) i) (append_assoc out line (call_lines old.rules.style later) i) in

@@ -1,7 +1,6 @@
 -- The style of a report changes nothing that a receiver meets.
-use Rattle.s2_receive.proofs.Names.{◌≡◌, ℕ, [], ◌∷◌, List, Option, Some, None, Result, Ok, Err, refl, sym, subst, Met, frame, cut, ended, Rules, State, Phase, Window, Handles, Meets, Seen, Finds, Step, Style, left_known, left_in, printing, styled}
+use Rattle.s2_receive.proofs.Names.{◌≡◌, ℕ, [], ◌∷◌, List, Option, Some, None, Ok, refl, sym, subst, Met, frame, cut, ended, Rules, State, Phase, Window, Handles, Meets, Seen, Finds, FindsNone, Step, Style, left_known, left_in, printing, styled}
 use Rattle.s2_receive.proofs.Names.phases
-use Rattle.s2_mode.specs.declared.counts.ReadFault.{ReadFault}
 use Rattle.s2_receive.specs.Receiving.{EndsBehind, room_in}
 
 module _ (style : Style) where
@@ -22,10 +21,14 @@ module _ (style : Style) where
       subst (λ l. Meets l (left_in (styled style rules) new r') met) (sym (left_styled rules old.phase old.window r))
       (subst (λ l. Meets (left_in rules old r) l met) (sym (left_styled rules new.phase new.window r')) meets)
 
-  pub finds_styled : (old mid : Seen) (r r' : Option (List ℕ)) (n n' : ℕ) (result : Result Step ReadFault) → Finds old mid r r' n n' result → Finds (printing style old) (printing style mid) r r' n n' result
-  finds_styled old mid r r' n n' (Ok step) (met, handles, decided, kept, meets, more) =
-      (met, handles_styled old.rules old.state mid.state met mid.packets step handles, decided, kept, meets_styled old.rules old.state mid.state r r' (met ∷ []) meets, more)
-  finds_styled old mid r r' n n' (Err fault) (searching, standing, last, short, within) =
+  -- what is found
+  pub finds_styled : (old mid : Seen) (r r' : Option (List ℕ)) (n n' : ℕ) (step : Step) → Finds old mid r r' n n' (Ok step) → Finds (printing style old) (printing style mid) r r' n n' (Ok step)
+  finds_styled old mid r r' n n' step (met, handles, decided, kept, meets, reaches, ends, reads, within) =
+      (met, handles_styled old.rules old.state mid.state met mid.packets step handles, decided, kept, meets_styled old.rules old.state mid.state r r' (met ∷ []) meets, reaches, ends, reads, within)
+
+  -- or that nothing is
+  pub none_styled : (old mid : Seen) (r r' : Option (List ℕ)) (n n' : ℕ) → FindsNone old mid r r' n n' → FindsNone (printing style old) (printing style mid) r r' n n'
+  none_styled old mid r r' n n' (searching, standing, last, short, within) =
       let ends : (place : ℕ) → EndsBehind (room_in old.rules) place (left_in old.rules old.state r) → EndsBehind (room_in old.rules) place (left_in (styled style old.rules) old.state r) =
       λ place. subst (EndsBehind (room_in old.rules) place) (sym (left_styled old.rules old.state.phase old.state.window r)) in (
         searching,
