@@ -84,6 +84,7 @@ S2_KIND(s2_receiver);
 S2_KIND(s2_transmitter);
 S2_KIND(s2_judge);
 S2_KIND(s2_scanner);
+#undef S2_KIND
 typedef void s2_any; /* of any kind */
 #else
 typedef s2_handle s2_code, s2_shelf, s2_receiver, s2_transmitter, s2_judge, s2_scanner, s2_any;
