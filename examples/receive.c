@@ -1,6 +1,7 @@
 /* Receives a symbol file of QPSK 3/4 with normal frames and no pilots: it reads `rows` and `symbols`, and writes `received.ts`.
  *
  *     cc -Iinclude examples/receive.c build/libs2.a -o receive */
+#define S2_KINDS
 #include <s2.h>
 #include <inttypes.h>
 #include <stdio.h>
@@ -8,7 +9,8 @@
 int main(void) {
     static uint8_t bytes[1 << 20], packets[7520];
     s2_options options = {.size = sizeof options, .modcod = 7, .tuned = 1};
-    s2_handle code = {0}, receiver = {0};
+    s2_code code = {0};
+    s2_receiver receiver = {0};
     s2_step step = {.size = sizeof step};
     size_t room, count;
     FILE *rows = fopen("rows", "rb"), *in = fopen("symbols", "rb"), *out = fopen("received.ts", "wb");

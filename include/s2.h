@@ -4,11 +4,12 @@
  *
  * Results    A call returns S2_OK (0), or a negative code of enum s2_result. After a negative code nothing was
  *            changed and nothing was written, unless the call says otherwise. s2_error_text has a text for each code.
- * Handles    A handle is a code, a shelf, a receiver, a transmitter, a judge or a scanner. `s2_handle h = {0};` is an empty one.
+ * Handles    A handle is a code, a shelf, a receiver, a transmitter, a judge or a scanner. `s2_code code = {0};` is an empty one.
  *            A call whose name ends with _new fills an empty handle, and so do s2_code_of_shape and s2_shelf_code. s2_end ends
  *            the object of a handle, gives back its memory, and leaves the handle empty. A call returns S2_EMPTY for an empty
  *            handle, and S2_OTHER_KIND for one of another kind. The members belong to the library. Do not use two copies of
- *            a handle.
+ *            a handle. All kinds are one type, s2_handle. If S2_KINDS is defined before this header is included, each
+ *            kind is another type, and the compiler reports a handle of another kind.
  * Threads    One call at a time on a handle; a call with two handles uses both. Handles are independent: different
  *            threads can use different ones at the same time, also receivers on the same code. A handle can be used by
  *            one thread after another, if these are ordered, as by a lock or by joining.
@@ -75,8 +76,22 @@ typedef struct s2_handle {
     uint64_t live;
 } s2_handle;
 
+#ifdef S2_KINDS
+#define S2_KIND(name) typedef struct name { void *at; uint64_t live; } name
+S2_KIND(s2_code);
+S2_KIND(s2_shelf);
+S2_KIND(s2_receiver);
+S2_KIND(s2_transmitter);
+S2_KIND(s2_judge);
+S2_KIND(s2_scanner);
+#undef S2_KIND
+typedef void s2_any; /* of any kind */
+#else
+typedef s2_handle s2_code, s2_shelf, s2_receiver, s2_transmitter, s2_judge, s2_scanner, s2_any;
+#endif
+
 /* Ends the object of a handle, and leaves the handle empty. An empty one stays empty. */
-void s2_end(s2_handle *handle);
+void s2_end(s2_any *handle);
 
 /* The numbers of a mode. */
 typedef struct s2_mode {
@@ -102,25 +117,25 @@ int32_t s2_mode_of(uint32_t modcod, uint32_t is_short, uint32_t has_pilots, s2_m
  * after s2_end: receivers share them. If a program makes the same codes again and again, it keeps them on a shelf, below.
  * Codes: S2_IN_USE, S2_BAD_OPTION, S2_BAD_MODE, S2_BAD_ROWS, S2_NO_MEMORY: the first that applies, but S2_NO_MEMORY may come
  * instead of S2_BAD_ROWS. */
-int32_t s2_code_new(const uint8_t *text, size_t length, uint32_t modcod, uint32_t is_short, s2_handle *code);
+int32_t s2_code_new(const uint8_t *text, size_t length, uint32_t modcod, uint32_t is_short, s2_code *code);
 
 /* The code of any shape, for s2_check and judges: `groups` rows, `group` information bits for each, group * q checks.
  * Codes: S2_IN_USE, S2_BAD_SHAPE, S2_BAD_ROWS, S2_NO_MEMORY, as of s2_code_new. */
 int32_t s2_code_of_shape(const uint8_t *text, size_t length, uint32_t group, uint32_t groups, uint32_t q,
-                         s2_handle *code);
+                         s2_code *code);
 
 /* n and k of a code, and whether its rows are those of the standard (EN 302 307-1, annexes B and C): *is_standard is 1
  * or 0. It is 0 for a code that s2_code_of_shape made. Codes: S2_EMPTY, S2_OTHER_KIND. */
-int32_t s2_code_facts(s2_handle *code, uint32_t *n, uint32_t *k, uint32_t *is_standard);
+int32_t s2_code_facts(s2_code *code, uint32_t *n, uint32_t *k, uint32_t *is_standard);
 
 /* An empty shelf of codes. Codes: S2_IN_USE, S2_NO_MEMORY. */
-int32_t s2_shelf_new(s2_handle *shelf);
+int32_t s2_shelf_new(s2_shelf *shelf);
 
 /* As s2_code_new; but if a code with the same rows is on the shelf, it is that one, and takes no more memory. Otherwise
  * the new code is put on the shelf. Codes: S2_IN_USE (of `code`), S2_EMPTY, S2_OTHER_KIND (of `shelf`), and as there. After
  * S2_NO_MEMORY the code may be on the shelf already: the next call finds it there. */
-int32_t s2_shelf_code(s2_handle *shelf, const uint8_t *text, size_t length, uint32_t modcod, uint32_t is_short,
-                      s2_handle *code);
+int32_t s2_shelf_code(s2_shelf *shelf, const uint8_t *text, size_t length, uint32_t modcod, uint32_t is_short,
+                      s2_code *code);
 
 /* ---- Options: a link, and the tuning of a receiver -------------------------------------------------------------- */
 
@@ -228,97 +243,97 @@ typedef struct s2_totals {
 /* A receiver on a code. Codes: S2_IN_USE (of `receiver`), S2_EMPTY, S2_OTHER_KIND (of `code`), S2_BAD_SIZE, S2_BAD_OPTION,
  * S2_BAD_MODE, S2_OTHER_SHAPE, S2_BAD_SCRAMBLING, S2_BAD_ROLL_OFF, S2_BAD_TUNING, S2_NO_MEMORY: the first that applies. The
  * code may be ended before the receiver. */
-int32_t s2_receiver_new(s2_handle *code, const s2_options *options, s2_handle *receiver);
+int32_t s2_receiver_new(s2_code *code, const s2_options *options, s2_receiver *receiver);
 
 /* Begins a new stream with the same options. Allocates; after S2_NO_MEMORY the receiver is as before. */
-int32_t s2_receiver_reset(s2_handle *receiver);
+int32_t s2_receiver_reset(s2_receiver *receiver);
 
 /* *bytes: how many bytes of symbols are wanted next; 0 after the end. Never over four times the symbols of a frame, with
  * `resync` four times these and 90 more, those of the next header. */
-int32_t s2_receiver_room(s2_handle *receiver, size_t *bytes);
+int32_t s2_receiver_room(s2_receiver *receiver, size_t *bytes);
 
 /* Takes bytes of symbols: as many as s2_receiver_room says, or fewer if the stream ends with them. Fewer always mean
  * the end, so keep bytes until there are enough. Writes the step. After it the calls below give what belongs to it. After
  * S2_STREAM_END each further call gives S2_STREAM_END again. Codes: S2_EMPTY, S2_OTHER_KIND, S2_BAD_SIZE, S2_TOO_MANY. */
-int32_t s2_receiver_advance(s2_handle *receiver, const uint8_t *symbols, size_t length, s2_step *step);
+int32_t s2_receiver_advance(s2_receiver *receiver, const uint8_t *symbols, size_t length, s2_step *step);
 
 /* The packets that end in the last step's frame, 188 bytes each, in stream order. Less than 7520 bytes. */
-int32_t s2_receiver_packets(s2_handle *receiver, uint8_t *out, size_t room, size_t *count);
+int32_t s2_receiver_packets(s2_receiver *receiver, uint8_t *out, size_t room, size_t *count);
 
 /* The n soft values of the last frame; zeros before the first. */
-int32_t s2_receiver_soft(s2_handle *receiver, int16_t *out, size_t room, size_t *count);
+int32_t s2_receiver_soft(s2_receiver *receiver, int16_t *out, size_t room, size_t *count);
 
 /* The n decided bits of the last frame; zeros before the first. */
-int32_t s2_receiver_word(s2_handle *receiver, uint8_t *out, size_t room, size_t *count);
+int32_t s2_receiver_word(s2_receiver *receiver, uint8_t *out, size_t room, size_t *count);
 
 /* The BBFRAME of the last step, descrambled: kbch / 8 bytes with header, data field and padding. S2_NONE_THERE unless that
  * step was a delivered frame; then *count is unchanged. Allocates: S2_NO_MEMORY. */
-int32_t s2_receiver_bbframe(s2_handle *receiver, uint8_t *out, size_t room, size_t *count);
+int32_t s2_receiver_bbframe(s2_receiver *receiver, uint8_t *out, size_t room, size_t *count);
 
 /* The certificate file of the last step. S2_NONE_THERE unless that step was a frame that is sole or most likely; then *count
  * is unchanged. Allocates: S2_NO_MEMORY. */
-int32_t s2_receiver_certificate(s2_handle *receiver, uint8_t *out, size_t room, size_t *count);
+int32_t s2_receiver_certificate(s2_receiver *receiver, uint8_t *out, size_t room, size_t *count);
 
 /* The figures of the last step. S2_NONE_THERE if it has none. Codes: also S2_BAD_SIZE. */
-int32_t s2_receiver_figures(s2_handle *receiver, s2_figures *figures);
+int32_t s2_receiver_figures(s2_receiver *receiver, s2_figures *figures);
 
 /* The sums of figures over all frames since the start. `header`, `rounds`, `.._along` and `.._across` are 0. S2_NONE_THERE if
  * there are none. Codes: also S2_BAD_SIZE. */
-int32_t s2_receiver_sums(s2_handle *receiver, s2_figures *figures);
+int32_t s2_receiver_sums(s2_receiver *receiver, s2_figures *figures);
 
 /* The totals since the start. Codes: also S2_BAD_SIZE. */
-int32_t s2_receiver_totals(s2_handle *receiver, s2_totals *totals);
+int32_t s2_receiver_totals(s2_receiver *receiver, s2_totals *totals);
 
 /* ---- Transmitter ------------------------------------------------------------------------------------------------ */
 
 /* A transmitter on a code. Of the options the tuning is not read. Codes as those of s2_receiver_new, without S2_BAD_TUNING. The
  * code may be ended before the transmitter. */
-int32_t s2_transmitter_new(s2_handle *code, const s2_options *options, s2_handle *transmitter);
+int32_t s2_transmitter_new(s2_code *code, const s2_options *options, s2_transmitter *transmitter);
 
 /* Takes bytes of packets, 188 bytes each, in any pieces, up to the end of a data field. *taken: how many. If they are
  * fewer than `length`, take a frame, and give the rest. S2_NO_SYNC: a packet does not begin with 47 hexadecimal; it is
  * refused when the whole of it has come, and again with each further byte. Codes: also S2_CLOSED, S2_FULL; after an
  * error *taken is unchanged. */
-int32_t s2_transmitter_put(s2_handle *transmitter, const uint8_t *bytes, size_t length, size_t *taken);
+int32_t s2_transmitter_put(s2_transmitter *transmitter, const uint8_t *bytes, size_t length, size_t *taken);
 
 /* Ends the stream: then its last frame can be taken, if it has one. Codes: S2_CUT_PACKET, S2_NO_SYNC, S2_FULL, S2_CLOSED. */
-int32_t s2_transmitter_close(s2_handle *transmitter);
+int32_t s2_transmitter_close(s2_transmitter *transmitter);
 
 /* *is_ready: 1 if a frame can be taken, else 0. */
-int32_t s2_transmitter_ready(s2_handle *transmitter, uint32_t *is_ready);
+int32_t s2_transmitter_ready(s2_transmitter *transmitter, uint32_t *is_ready);
 
 /* Makes the next frame and copies its symbols, with those of a dummy frame after it if one is due. At most 146448
  * bytes. S2_NONE_THERE if no frame is ready; then *count is unchanged. After S2_TOO_SHORT the frame is made, and
  * s2_transmitter_symbols copies it. */
-int32_t s2_transmitter_take(s2_handle *transmitter, uint8_t *out, size_t room, size_t *count);
+int32_t s2_transmitter_take(s2_transmitter *transmitter, uint8_t *out, size_t room, size_t *count);
 
 /* The symbols of the frame that was made last, once more. */
-int32_t s2_transmitter_symbols(s2_handle *transmitter, uint8_t *out, size_t room, size_t *count);
+int32_t s2_transmitter_symbols(s2_transmitter *transmitter, uint8_t *out, size_t room, size_t *count);
 
 /* The codeword of the frame that was made last: n bits. */
-int32_t s2_transmitter_word(s2_handle *transmitter, uint8_t *out, size_t room, size_t *count);
+int32_t s2_transmitter_word(s2_transmitter *transmitter, uint8_t *out, size_t room, size_t *count);
 
 /* How many packets were taken, and how many frames were made. */
-int32_t s2_transmitter_counts(s2_handle *transmitter, uint64_t *packets, uint64_t *frames);
+int32_t s2_transmitter_counts(s2_transmitter *transmitter, uint64_t *packets, uint64_t *frames);
 
 /* Begins a new stream with the same options. */
-int32_t s2_transmitter_reset(s2_handle *transmitter);
+int32_t s2_transmitter_reset(s2_transmitter *transmitter);
 
 /* ---- Judge: the decision on soft values, without symbols -------------------------------------------------------- */
 
 /* A judge on a code. Of the options rounds, passes, factor, correction, tuned and uncertified count, and the mode. modcod 0: no mode;
  * then the code may have any shape, and only passes, factor, correction and uncertified count. Codes as those of s2_receiver_new, without
  * S2_BAD_SCRAMBLING and S2_BAD_ROLL_OFF. */
-int32_t s2_judge_new(s2_handle *code, const s2_options *options, s2_handle *judge);
+int32_t s2_judge_new(s2_code *code, const s2_options *options, s2_judge *judge);
 
 /* Decides on n soft values. *verdict: of enum s2_verdict. Codes: also S2_BAD_SOFT. */
-int32_t s2_judge_decide(s2_handle *judge, const int16_t *soft, size_t length, uint32_t *verdict);
+int32_t s2_judge_decide(s2_judge *judge, const int16_t *soft, size_t length, uint32_t *verdict);
 
 /* The n bits that were decided last; zeros before the first decision. */
-int32_t s2_judge_word(s2_handle *judge, uint8_t *out, size_t room, size_t *count);
+int32_t s2_judge_word(s2_judge *judge, uint8_t *out, size_t room, size_t *count);
 
 /* The certificate file of the last decision. S2_NONE_THERE unless it is sole or most likely. Allocates: S2_NO_MEMORY. */
-int32_t s2_judge_certificate(s2_handle *judge, uint8_t *out, size_t room, size_t *count);
+int32_t s2_judge_certificate(s2_judge *judge, uint8_t *out, size_t room, size_t *count);
 
 /* ---- Checker: no decoder is below it ---------------------------------------------------------------------------- */
 
@@ -339,7 +354,7 @@ typedef struct s2_checked {
 } s2_checked;
 
 /* Checks a certificate file against a code. Codes: S2_EMPTY, S2_OTHER_KIND, S2_BAD_SIZE, S2_BAD_CERTIFICATE, S2_NO_MEMORY. */
-int32_t s2_check(s2_handle *code, const uint8_t *bytes, size_t length, s2_checked *checked);
+int32_t s2_check(s2_code *code, const uint8_t *bytes, size_t length, s2_checked *checked);
 
 /* ---- Scanner: the headers of an unknown recording --------------------------------------------------------------- */
 
@@ -361,17 +376,17 @@ typedef struct s2_seen {
 } s2_seen;
 
 /* A scanner. Codes: S2_IN_USE, S2_NO_MEMORY. */
-int32_t s2_scan_new(s2_handle *scanner);
+int32_t s2_scan_new(s2_scanner *scanner);
 
 /* Takes bytes of symbols, in any pieces. It keeps them, 2^26 bytes (2^24 symbols) at most: else S2_TOO_MANY. Codes: also
  * S2_NO_MEMORY. */
-int32_t s2_scan_feed(s2_handle *scanner, const uint8_t *symbols, size_t length);
+int32_t s2_scan_feed(s2_scanner *scanner, const uint8_t *symbols, size_t length);
 
 /* Searches what was fed so far. *count: how many kinds of headers were seen, the most probable first. Codes: also S2_NO_MEMORY. */
-int32_t s2_scan_find(s2_handle *scanner, size_t *count);
+int32_t s2_scan_find(s2_scanner *scanner, size_t *count);
 
 /* What the last search found at this place, counted from 0. S2_NONE_THERE if there is none. Codes: also S2_BAD_SIZE. */
-int32_t s2_scan_at(s2_handle *scanner, size_t place, s2_seen *seen);
+int32_t s2_scan_at(s2_scanner *scanner, size_t place, s2_seen *seen);
 
 #ifdef __cplusplus
 }

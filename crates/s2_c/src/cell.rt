@@ -1,9 +1,9 @@
 //! The pointer of a handle.
 ghost use Rattle.std.specs.Prelude.{◌≡◌, None, Some, IsSome, Option};
-ghost use Rattle.s2_library.specs.declared.slot.Slot.{Slot as SlotValue};
+ghost use Rattle.s2_c.specs.declared.slot.Slot.{Slot as SlotValue};
 
 use crate::loose::Loose;
-use s2_library::Slot;
+use crate::slot::Slot;
 use std::alloc::Global;
 use std::marker::{Model, Send};
 
@@ -17,7 +17,7 @@ pub struct Cell {
 
 impl Model for Cell {
     ghost use Rattle.s2_c.specs.Cells.{held};
-    ghost use Rattle.s2_library.specs.contracts.slot.Slot.{the_row as slot_row};
+    ghost use Rattle.s2_c.specs.contracts.slot.Slot.{the_row as slot_row};
 
     ghost also_owns = { λ c. held slot_row c.at c.value };
 }

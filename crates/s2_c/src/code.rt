@@ -1,19 +1,19 @@
 //! The exports of codes and modes, and those without a handle.
-ghost use Rattle.std.specs.Prelude.{◌≡◌, ◌≢◌, ◌↔◌, None, Some, Err};
+ghost use Rattle.std.specs.Prelude.{◌≡◌, ◌≢◌, [], None, Err, ⊤};
 ghost use Rattle.s2_mode.specs.Shape.{shape_of};
-ghost use Rattle.s2_library.specs.declared.slot.Slot.{Slot};
-ghost use Rattle.s2_library.specs.Codes.{GivesFacts, code_in};
+ghost use Rattle.s2_library.specs.Codes.{GivesFacts};
 ghost use Rattle.s2_library.specs.Copying.{Copies};
 ghost use Rattle.s2_library.specs.Refusals.{GivesMode, MakesCode, MakesShapeCode};
 ghost use Rattle.s2_library.specs.Results.{answer_of, number_of};
-ghost use Rattle.s2_library.specs.Shelves.{IsNewShelf, ShelvesOf};
+ghost use Rattle.s2_library.specs.Shelves.{Shelves};
 ghost use Rattle.s2_library.specs.Texts.{result_text};
-ghost use Rattle.s2_c.specs.Handles.{Fills, Makes};
+ghost use Rattle.s2_c.specs.Handles.{Changes, Fills, Makes, Reads, code_in, shelf_in};
 
-use crate::handle::{Handle, fill};
+use crate::handle::{Handle, fill, on_contents, put};
+use crate::slot::Slot;
 use s2_library::{
-    ModeFields, Refusal, code_facts, error_text, mode_fields, new_code, new_shelf, result_number,
-    shape_code, shelf_code,
+    Code, ModeFields, Refusal, code_facts, error_text, mode_fields, new_code, new_shelf,
+    result_number, shape_code, shelf_code,
 };
 use std::alloc::Global;
 
@@ -57,13 +57,10 @@ pub extern "C" fn s2_code_new(
     is_short: u32,
     code: &mut Handle,
 ) -> i32
-    ensures answer { Fills (MakesCode text.now modcod is_short) code.old.cell.value code.new.cell.value (answer_of result) }
+    ensures answer { Fills code_in (MakesCode text.now modcod is_short) code.old.cell.value code.new.cell.value (answer_of result) }
     ensures number { result ≡ number_of (answer_of result) }
 {
-    if code.live != 0 {
-        return Refusal::InUse.number();
-    }
-    fill(alloc, new_code(alloc, text, modcod, is_short), code)
+    fill!(alloc, code, Code => new_code(alloc, text, modcod, is_short))
 }
 
 /// Makes the code of a shape from the text of a row file.
@@ -76,13 +73,10 @@ pub extern "C" fn s2_code_of_shape(
     q: u32,
     code: &mut Handle,
 ) -> i32
-    ensures answer { Fills (MakesShapeCode text.now (shape_of group groups q)) code.old.cell.value code.new.cell.value (answer_of result) }
+    ensures answer { Fills code_in (MakesShapeCode text.now (shape_of group groups q)) code.old.cell.value code.new.cell.value (answer_of result) }
     ensures number { result ≡ number_of (answer_of result) }
 {
-    if code.live != 0 {
-        return Refusal::InUse.number();
-    }
-    fill(alloc, shape_code(alloc, text, group, groups, q), code)
+    fill!(alloc, code, Code => shape_code(alloc, text, group, groups, q))
 }
 
 /// Gives n and k of a code, and whether its rows are the standard's.
@@ -94,29 +88,36 @@ pub extern "C" fn s2_code_facts(
     k: &mut u32,
     is_standard: &mut u32,
 ) -> i32
-    ensures empty { code.old.cell.value ≡ None → (answer_of result ≡ Err Refusal.Empty) × (n.new ≡ n.old) × (k.new ≡ k.old) × (is_standard.new ≡ is_standard.old) }
-    ensures full { (s : Slot) → code.old.cell.value ≡ Some s → GivesFacts (code_in s) n.old n.new k.old k.new is_standard.old is_standard.new (answer_of result) }
+    ensures answer { Reads code_in code.old.cell.value (λ c. GivesFacts c n.new k.new is_standard.new) ((n.new ≡ n.old) × (k.new ≡ k.old) × (is_standard.new ≡ is_standard.old)) (answer_of result) }
     ensures kept { code.new.cell.value ≡ code.old.cell.value }
     ensures number { result ≡ number_of (answer_of result) }
 {
-    let Some(slot) = code.open(alloc) else {
-        return Refusal::Empty.number();
-    };
-    let answer = code_facts(&slot, n, k, is_standard);
-    code.close(slot);
-    result_number(answer)
+    result_number(on_contents!(alloc, code, Code(c) => code_facts(c, n, k, is_standard)))
 }
 
 /// Makes an empty shelf.
 #[unsafe(no_mangle)]
 pub extern "C" fn s2_shelf_new(alloc: Global, shelf: &mut Handle) -> i32
-    ensures answer { Fills (Makes IsNewShelf) shelf.old.cell.value shelf.new.cell.value (answer_of result) }
+    ensures answer { Fills shelf_in (Makes (λ s. s ≡ [])) shelf.old.cell.value shelf.new.cell.value (answer_of result) }
     ensures number { result ≡ number_of (answer_of result) }
 {
     if shelf.live != 0 {
         return Refusal::InUse.number();
     }
-    fill(alloc, Ok(new_shelf(alloc)), shelf)
+    put(alloc, Slot::Shelf(new_shelf(alloc)), shelf)
+}
+
+/// The code of a mode on the shelf of a handle.
+fn code_on(
+    alloc: Global,
+    shelf: &mut Handle,
+    text: &[u8],
+    modcod: u32,
+    is_short: u32,
+) -> Result<Code, Refusal>
+    ensures { Changes shelf_in shelf.old.cell.value shelf.new.cell.value (Shelves text.now modcod is_short) ⊤ result }
+{
+    on_contents!(alloc, shelf, Shelf(s) => shelf_code(alloc, s, text, modcod, is_short))
 }
 
 /// Finds the code of a mode on a shelf by its rows, or makes it and puts it there.
@@ -129,19 +130,9 @@ pub extern "C" fn s2_shelf_code(
     is_short: u32,
     code: &mut Handle,
 ) -> i32
-    ensures empty { shelf.old.cell.value ≡ None → code.old.cell.value ≡ None → (answer_of result ≡ Err Refusal.Empty) × (code.new.cell.value ≡ None) }
-    ensures made { (s t : Slot) → shelf.old.cell.value ≡ Some s → shelf.new.cell.value ≡ Some t → Fills (ShelvesOf text.now modcod is_short s t) code.old.cell.value code.new.cell.value (answer_of result) }
+    ensures made { Fills code_in (Changes shelf_in shelf.old.cell.value shelf.new.cell.value (Shelves text.now modcod is_short) ⊤) code.old.cell.value code.new.cell.value (answer_of result) }
     ensures in_use { code.old.cell.value ≢ None → (answer_of result ≡ Err Refusal.InUse) × (code.new.cell.value ≡ code.old.cell.value) × (shelf.new.cell.value ≡ shelf.old.cell.value) }
-    ensures kept { (shelf.new.cell.value ≡ None) ↔ (shelf.old.cell.value ≡ None) }
     ensures number { result ≡ number_of (answer_of result) }
 {
-    if code.live != 0 {
-        return Refusal::InUse.number();
-    }
-    let Some(mut slot) = shelf.open(alloc) else {
-        return Refusal::Empty.number();
-    };
-    let made = shelf_code(alloc, &mut slot, text, modcod, is_short);
-    shelf.close(slot);
-    fill(alloc, made, code)
+    fill!(alloc, code, Code => code_on(alloc, shelf, text, modcod, is_short))
 }

@@ -1,11 +1,12 @@
 //! Handles.
 ghost use Rattle.std.specs.Prelude.{◌≡◌, ◌↔◌, None, Some, MatchOption};
 ghost use Rattle.s2_library.specs.Results.{answer_of, number_of};
-ghost use Rattle.s2_c.specs.Handles.{Fills};
+ghost use Rattle.s2_c.specs.Handles.{IsPut};
 
 use crate::cell::Cell;
 use crate::loose::Loose;
-use s2_library::{Refusal, Slot};
+use crate::slot::Slot;
+use s2_library::Refusal;
 use std::alloc::Global;
 
 /// A handle of C: a pointer, and whether it is in use.
@@ -40,21 +41,53 @@ impl Handle {
     }
 }
 
-/// Puts a new slot into an empty handle, and returns the number of the result.
-pub(crate) fn fill(alloc: Global, made: Result<Slot, Refusal>, handle: &mut Handle) -> i32
+/// Makes a call on the contents of a handle. It is refused if these are not of this kind.
+macro_rules! on_contents {
+    ($alloc:ident, $handle:ident, $kind:ident($contents:ident) => $call:expr) => {
+        match $handle.open($alloc) {
+            Some(mut slot) => {
+                let answer = match &mut *slot {
+                    Slot::$kind($contents) => $call,
+                    _ => Err(Refusal::OtherKind),
+                };
+                $handle.close(slot);
+                answer
+            }
+            None => Err(Refusal::Empty),
+        }
+    };
+}
+
+pub(crate) use on_contents;
+
+/// Fills an empty handle with what a call makes, and returns the number of the result.
+macro_rules! fill {
+    ($alloc:ident, $handle:ident, $kind:ident => $made:expr) => {
+        if $handle.live != 0 {
+            Refusal::InUse.number()
+        } else {
+            match $made {
+                Ok(contents) => put($alloc, Slot::$kind(contents), $handle),
+                Err(refusal) => refusal.number(),
+            }
+        }
+    };
+}
+
+pub(crate) use fill;
+
+/// Puts new contents into an empty handle, and returns the number of the result.
+pub(crate) fn put(alloc: Global, slot: Slot, handle: &mut Handle) -> i32
     requires { handle.old.cell.value ≡ None }
-    ensures answer { Fills (λ answer. answer ≡ made) None handle.new.cell.value (answer_of result) }
+    ensures answer { IsPut slot handle.new.cell.value (answer_of result) }
     ensures number { result ≡ number_of (answer_of result) }
 {
-    match made {
-        Ok(slot) => match Box::new(alloc, slot) {
-            Ok(slot) => {
-                handle.close(slot);
-                0
-            }
-            Err(_) => Refusal::NoMemory.number(),
-        },
-        Err(refusal) => refusal.number(),
+    match Box::new(alloc, slot) {
+        Ok(slot) => {
+            handle.close(slot);
+            0
+        }
+        Err(_) => Refusal::NoMemory.number(),
     }
 }
 

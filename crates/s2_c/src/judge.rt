@@ -1,20 +1,28 @@
 //! The exports of judges, and of the checker.
-ghost use Rattle.std.specs.Prelude.{◌≡◌, ◌↔◌, None, Some, Err};
-ghost use Rattle.s2_library.specs.declared.slot.Slot.{Slot};
+ghost use Rattle.std.specs.Prelude.{◌≡◌, ⊤};
+ghost use Rattle.s2_library.specs.Calls.{CopiesMade, DecidesOn, file_in};
 ghost use Rattle.s2_library.specs.Checked.{ChecksFile};
-ghost use Rattle.s2_library.specs.Codes.{code_in};
+ghost use Rattle.s2_library.specs.Copying.{Copies, digits_of};
 ghost use Rattle.s2_library.specs.Refusals.{MakesJudge};
 ghost use Rattle.s2_library.specs.Results.{answer_of, number_of};
-ghost use Rattle.s2_library.specs.Copying.{digits_of};
-ghost use Rattle.s2_library.specs.Slots.{CopiesMadeOf, CopiesOf, DecidesOnOf, decided_file, judge_in, listed};
-ghost use Rattle.s2_c.specs.Handles.{Fills, MakesOf};
+ghost use Rattle.s2_c.specs.Handles.{Changes, Fills, Reads, code_in, judge_in};
 
-use crate::handle::{Handle, fill};
+use crate::handle::{Handle, fill, on_contents, put};
+use crate::slot::Slot;
 use s2_library::{
-    CheckedFields, Options, Refusal, check, judge_certificate, judge_decide, judge_word, new_judge,
+    CheckedFields, Options, Refusal, check, copy_bits, judge_certificate, judge_decide, new_judge,
     result_number,
 };
+use s2_modem::Judge;
 use std::alloc::Global;
+
+/// A judge on the code of a handle.
+fn judge_on(alloc: Global, code: &mut Handle, options: &Options) -> Result<Judge<'static>, Refusal>
+    ensures made { Reads code_in code.old.cell.value (λ c. MakesJudge c options.now) ⊤ result }
+    ensures kept { code.new.cell.value ≡ code.old.cell.value }
+{
+    on_contents!(alloc, code, Code(c) => new_judge(alloc, c, options))
+}
 
 /// Makes a judge on a code.
 #[unsafe(no_mangle)]
@@ -24,19 +32,11 @@ pub extern "C" fn s2_judge_new(
     options: &Options,
     judge: &mut Handle,
 ) -> i32
-    ensures made { Fills (MakesOf code.old.cell.value (λ s made. MakesJudge (code_in s) options.now made)) judge.old.cell.value judge.new.cell.value (answer_of result) }
+    ensures made { Fills judge_in (Reads code_in code.old.cell.value (λ c. MakesJudge c options.now) ⊤) judge.old.cell.value judge.new.cell.value (answer_of result) }
     ensures kept { code.new.cell.value ≡ code.old.cell.value }
     ensures number { result ≡ number_of (answer_of result) }
 {
-    if judge.live != 0 {
-        return Refusal::InUse.number();
-    }
-    let Some(slot) = code.open(alloc) else {
-        return Refusal::Empty.number();
-    };
-    let made = new_judge(alloc, &slot, options);
-    code.close(slot);
-    fill(alloc, made, judge)
+    fill!(alloc, judge, Judge => judge_on(alloc, code, options))
 }
 
 /// Decides on soft values.
@@ -47,17 +47,10 @@ pub extern "C" fn s2_judge_decide(
     soft: &[i16],
     verdict: &mut u32,
 ) -> i32
-    ensures empty { judge.old.cell.value ≡ None → (answer_of result ≡ Err Refusal.Empty) × (verdict.new ≡ verdict.old) }
-    ensures full { (s t : Slot) → judge.old.cell.value ≡ Some s → judge.new.cell.value ≡ Some t → DecidesOnOf s t soft.now verdict.old verdict.new (answer_of result) }
-    ensures kept { (judge.new.cell.value ≡ None) ↔ (judge.old.cell.value ≡ None) }
+    ensures answer { Changes judge_in judge.old.cell.value judge.new.cell.value (λ j k. DecidesOn j k soft.now verdict.old verdict.new) (verdict.new ≡ verdict.old) (answer_of result) }
     ensures number { result ≡ number_of (answer_of result) }
 {
-    let Some(mut slot) = judge.open(alloc) else {
-        return Refusal::Empty.number();
-    };
-    let answer = judge_decide(&mut slot, soft, verdict);
-    judge.close(slot);
-    result_number(answer)
+    result_number(on_contents!(alloc, judge, Judge(j) => judge_decide(j, soft, verdict)))
 }
 
 /// Copies the bits that were decided last.
@@ -68,17 +61,11 @@ pub extern "C" fn s2_judge_word(
     out: &mut [u8],
     count: &mut usize,
 ) -> i32
-    ensures empty { judge.old.cell.value ≡ None → (answer_of result ≡ Err Refusal.Empty) × (out.new ≡ out.old) × (count.new ≡ count.old) }
-    ensures full { (s : Slot) → judge.old.cell.value ≡ Some s → CopiesOf (listed (λ j. digits_of j.bits) (judge_in s)) out.old out.new count.old count.new (answer_of result) }
+    ensures answer { Reads judge_in judge.old.cell.value (λ j. Copies (digits_of j.bits) out.old out.new count.new) ((out.new ≡ out.old) × (count.new ≡ count.old)) (answer_of result) }
     ensures kept { judge.new.cell.value ≡ judge.old.cell.value }
     ensures number { result ≡ number_of (answer_of result) }
 {
-    let Some(slot) = judge.open(alloc) else {
-        return Refusal::Empty.number();
-    };
-    let answer = judge_word(&slot, out, count);
-    judge.close(slot);
-    result_number(answer)
+    result_number(on_contents!(alloc, judge, Judge(j) => copy_bits(j.word().truths(), out, count)))
 }
 
 /// Copies the certificate file of the last decision.
@@ -89,17 +76,11 @@ pub extern "C" fn s2_judge_certificate(
     out: &mut [u8],
     count: &mut usize,
 ) -> i32
-    ensures empty { judge.old.cell.value ≡ None → (answer_of result ≡ Err Refusal.Empty) × (out.new ≡ out.old) × (count.new ≡ count.old) }
-    ensures full { (s : Slot) → judge.old.cell.value ≡ Some s → CopiesMadeOf (decided_file (judge_in s)) out.old out.new count.old count.new (answer_of result) }
+    ensures answer { Reads judge_in judge.old.cell.value (λ j. CopiesMade (file_in j.certificate) out.old out.new count.old count.new) ((out.new ≡ out.old) × (count.new ≡ count.old)) (answer_of result) }
     ensures kept { judge.new.cell.value ≡ judge.old.cell.value }
     ensures number { result ≡ number_of (answer_of result) }
 {
-    let Some(slot) = judge.open(alloc) else {
-        return Refusal::Empty.number();
-    };
-    let answer = judge_certificate(alloc, &slot, out, count);
-    judge.close(slot);
-    result_number(answer)
+    result_number(on_contents!(alloc, judge, Judge(j) => judge_certificate(alloc, j, out, count)))
 }
 
 /// Checks a certificate file against a code.
@@ -110,15 +91,9 @@ pub extern "C" fn s2_check(
     bytes: &[u8],
     checked: &mut CheckedFields,
 ) -> i32
-    ensures empty { code.old.cell.value ≡ None → (answer_of result ≡ Err Refusal.Empty) × (checked.new ≡ checked.old) }
-    ensures full { (s : Slot) → code.old.cell.value ≡ Some s → ChecksFile (code_in s) bytes.now checked.old checked.new (answer_of result) }
+    ensures answer { Reads code_in code.old.cell.value (λ c. ChecksFile c bytes.now checked.old checked.new) (checked.new ≡ checked.old) (answer_of result) }
     ensures kept { code.new.cell.value ≡ code.old.cell.value }
     ensures number { result ≡ number_of (answer_of result) }
 {
-    let Some(slot) = code.open(alloc) else {
-        return Refusal::Empty.number();
-    };
-    let answer = check(alloc, &slot, bytes, checked);
-    code.close(slot);
-    result_number(answer)
+    result_number(on_contents!(alloc, code, Code(c) => check(alloc, c, bytes, checked)))
 }

@@ -1,21 +1,29 @@
 //! The exports of receivers.
-ghost use Rattle.std.specs.Prelude.{◌≡◌, ◌↔◌, None, Some, Err, nat_eq};
-ghost use Rattle.s2_library.specs.declared.slot.Slot.{Slot};
-ghost use Rattle.s2_library.specs.Codes.{code_in};
+ghost use Rattle.std.specs.Prelude.{◌≡◌, nat_eq, ⊤};
+ghost use Rattle.s2_modem.specs.Reception.{certificate_of};
+ghost use Rattle.s2_library.specs.Calls.{AdvancesReception, CopiesMade, Gives, GivesFields, GivesFieldsIf, ResetsReception, bbframe_in, figures_in, file_in, room_in, totals_in};
+ghost use Rattle.s2_library.specs.Copying.{Copies, digits_of};
+ghost use Rattle.s2_library.specs.Fields as fields;
 ghost use Rattle.s2_library.specs.Refusals.{MakesReceiver};
 ghost use Rattle.s2_library.specs.Results.{answer_of, number_of};
-ghost use Rattle.s2_library.specs.Copying.{digits_of};
-ghost use Rattle.s2_library.specs.Fields as fields;
-ghost use Rattle.s2_c.specs.Handles.{Fills, MakesOf};
-ghost use Rattle.s2_library.specs.Slots.{AdvancesSlot, CopiesMadeOf, CopiesOf, Gives, GivesFields, GivesFieldsIf, ResetsSlot, bbframe_in, last_figures, listed, received_file, reception_in, receiver_in, room_in, sums_in, totals_in};
+ghost use Rattle.s2_c.specs.Handles.{Changes, Fills, Reads, code_in, receiver_in};
 
-use crate::handle::{Handle, fill};
+use crate::handle::{Handle, fill, on_contents, put};
+use crate::slot::Slot;
 use s2_library::{
-    FiguresFields, Options, Refusal, StepFields, TotalsFields, new_receiver, receiver_advance,
-    receiver_bbframe, receiver_certificate, receiver_figures, receiver_packets, receiver_reset,
-    receiver_room, receiver_soft, receiver_sums, receiver_totals, receiver_word, result_number,
+    FiguresFields, Options, Reception, Refusal, StepFields, TotalsFields, copy_bits, copy_items,
+    new_receiver, receiver_advance, receiver_bbframe, receiver_certificate, receiver_figures,
+    receiver_reset, receiver_sums, receiver_totals, result_number,
 };
 use std::alloc::Global;
+
+/// A receiver on the code of a handle.
+fn receiver_on(alloc: Global, code: &mut Handle, options: &Options) -> Result<Reception, Refusal>
+    ensures made { Reads code_in code.old.cell.value (λ c. MakesReceiver c options.now) ⊤ result }
+    ensures kept { code.new.cell.value ≡ code.old.cell.value }
+{
+    on_contents!(alloc, code, Code(c) => new_receiver(alloc, c, options))
+}
 
 /// Makes a receiver on a code.
 #[unsafe(no_mangle)]
@@ -25,51 +33,33 @@ pub extern "C" fn s2_receiver_new(
     options: &Options,
     receiver: &mut Handle,
 ) -> i32
-    ensures made { Fills (MakesOf code.old.cell.value (λ s made. MakesReceiver (code_in s) options.now made)) receiver.old.cell.value receiver.new.cell.value (answer_of result) }
+    ensures made { Fills receiver_in (Reads code_in code.old.cell.value (λ c. MakesReceiver c options.now) ⊤) receiver.old.cell.value receiver.new.cell.value (answer_of result) }
     ensures kept { code.new.cell.value ≡ code.old.cell.value }
     ensures number { result ≡ number_of (answer_of result) }
 {
-    if receiver.live != 0 {
-        return Refusal::InUse.number();
-    }
-    let Some(slot) = code.open(alloc) else {
-        return Refusal::Empty.number();
-    };
-    let made = new_receiver(alloc, &slot, options);
-    code.close(slot);
-    fill(alloc, made, receiver)
+    fill!(alloc, receiver, Receiver => receiver_on(alloc, code, options))
 }
 
 /// Begins a new stream.
 #[unsafe(no_mangle)]
 pub extern "C" fn s2_receiver_reset(alloc: Global, receiver: &mut Handle) -> i32
-    ensures empty { receiver.old.cell.value ≡ None → answer_of result ≡ Err Refusal.Empty }
-    ensures full { (s t : Slot) → receiver.old.cell.value ≡ Some s → receiver.new.cell.value ≡ Some t → ResetsSlot s t (answer_of result) }
-    ensures kept { (receiver.new.cell.value ≡ None) ↔ (receiver.old.cell.value ≡ None) }
+    ensures answer { Changes receiver_in receiver.old.cell.value receiver.new.cell.value ResetsReception ⊤ (answer_of result) }
     ensures number { result ≡ number_of (answer_of result) }
 {
-    let Some(mut slot) = receiver.open(alloc) else {
-        return Refusal::Empty.number();
-    };
-    let answer = receiver_reset(alloc, &mut slot);
-    receiver.close(slot);
-    result_number(answer)
+    result_number(on_contents!(alloc, receiver, Receiver(r) => receiver_reset(alloc, r)))
 }
 
 /// Gives the number of bytes that the receiver takes next.
 #[unsafe(no_mangle)]
 pub extern "C" fn s2_receiver_room(alloc: Global, receiver: &mut Handle, bytes: &mut usize) -> i32
-    ensures empty { receiver.old.cell.value ≡ None → (answer_of result ≡ Err Refusal.Empty) × (bytes.new ≡ bytes.old) }
-    ensures full { (s : Slot) → receiver.old.cell.value ≡ Some s → Gives (room_in (receiver_in s)) bytes.old bytes.new (answer_of result) }
+    ensures answer { Reads receiver_in receiver.old.cell.value (λ r. Gives (room_in r.receiver) bytes.new) (bytes.new ≡ bytes.old) (answer_of result) }
     ensures kept { receiver.new.cell.value ≡ receiver.old.cell.value }
     ensures number { result ≡ number_of (answer_of result) }
 {
-    let Some(slot) = receiver.open(alloc) else {
-        return Refusal::Empty.number();
-    };
-    let answer = receiver_room(&slot, bytes);
-    receiver.close(slot);
-    result_number(answer)
+    result_number(on_contents!(alloc, receiver, Receiver(r) => {
+        *bytes = r.receiver.room();
+        Ok(())
+    }))
 }
 
 /// Takes bytes of symbols, and gives the step.
@@ -80,17 +70,10 @@ pub extern "C" fn s2_receiver_advance(
     symbols: &[u8],
     step: &mut StepFields,
 ) -> i32
-    ensures empty { receiver.old.cell.value ≡ None → (answer_of result ≡ Err Refusal.Empty) × (step.new ≡ step.old) }
-    ensures full { (s t : Slot) → receiver.old.cell.value ≡ Some s → receiver.new.cell.value ≡ Some t → AdvancesSlot s t symbols.now step.old step.new (answer_of result) }
-    ensures kept { (receiver.new.cell.value ≡ None) ↔ (receiver.old.cell.value ≡ None) }
+    ensures answer { Changes receiver_in receiver.old.cell.value receiver.new.cell.value (λ r q. AdvancesReception r q symbols.now step.old step.new) (step.new ≡ step.old) (answer_of result) }
     ensures number { result ≡ number_of (answer_of result) }
 {
-    let Some(mut slot) = receiver.open(alloc) else {
-        return Refusal::Empty.number();
-    };
-    let answer = receiver_advance(&mut slot, symbols, step);
-    receiver.close(slot);
-    result_number(answer)
+    result_number(on_contents!(alloc, receiver, Receiver(r) => receiver_advance(r, symbols, step)))
 }
 
 /// Copies the packets of the last step.
@@ -101,17 +84,13 @@ pub extern "C" fn s2_receiver_packets(
     out: &mut [u8],
     count: &mut usize,
 ) -> i32
-    ensures empty { receiver.old.cell.value ≡ None → (answer_of result ≡ Err Refusal.Empty) × (out.new ≡ out.old) × (count.new ≡ count.old) }
-    ensures full { (s : Slot) → receiver.old.cell.value ≡ Some s → CopiesOf (listed (λ r. r.packets) (receiver_in s)) out.old out.new count.old count.new (answer_of result) }
+    ensures answer { Reads receiver_in receiver.old.cell.value (λ r. Copies r.receiver.packets out.old out.new count.new) ((out.new ≡ out.old) × (count.new ≡ count.old)) (answer_of result) }
     ensures kept { receiver.new.cell.value ≡ receiver.old.cell.value }
     ensures number { result ≡ number_of (answer_of result) }
 {
-    let Some(slot) = receiver.open(alloc) else {
-        return Refusal::Empty.number();
-    };
-    let answer = receiver_packets(&slot, out, count);
-    receiver.close(slot);
-    result_number(answer)
+    result_number(
+        on_contents!(alloc, receiver, Receiver(r) => copy_items(r.receiver.packets(), out, count)),
+    )
 }
 
 /// Copies the soft values of the last frame.
@@ -122,17 +101,13 @@ pub extern "C" fn s2_receiver_soft(
     out: &mut [i16],
     count: &mut usize,
 ) -> i32
-    ensures empty { receiver.old.cell.value ≡ None → (answer_of result ≡ Err Refusal.Empty) × (out.new ≡ out.old) × (count.new ≡ count.old) }
-    ensures full { (s : Slot) → receiver.old.cell.value ≡ Some s → CopiesOf (listed (λ r. r.last.soft) (receiver_in s)) out.old out.new count.old count.new (answer_of result) }
+    ensures answer { Reads receiver_in receiver.old.cell.value (λ r. Copies r.receiver.last.soft out.old out.new count.new) ((out.new ≡ out.old) × (count.new ≡ count.old)) (answer_of result) }
     ensures kept { receiver.new.cell.value ≡ receiver.old.cell.value }
     ensures number { result ≡ number_of (answer_of result) }
 {
-    let Some(slot) = receiver.open(alloc) else {
-        return Refusal::Empty.number();
-    };
-    let answer = receiver_soft(&slot, out, count);
-    receiver.close(slot);
-    result_number(answer)
+    result_number(
+        on_contents!(alloc, receiver, Receiver(r) => copy_items(r.receiver.soft(), out, count)),
+    )
 }
 
 /// Copies the decided bits of the last frame.
@@ -143,17 +118,13 @@ pub extern "C" fn s2_receiver_word(
     out: &mut [u8],
     count: &mut usize,
 ) -> i32
-    ensures empty { receiver.old.cell.value ≡ None → (answer_of result ≡ Err Refusal.Empty) × (out.new ≡ out.old) × (count.new ≡ count.old) }
-    ensures full { (s : Slot) → receiver.old.cell.value ≡ Some s → CopiesOf (listed (λ r. digits_of r.last.bits) (receiver_in s)) out.old out.new count.old count.new (answer_of result) }
+    ensures answer { Reads receiver_in receiver.old.cell.value (λ r. Copies (digits_of r.receiver.last.bits) out.old out.new count.new) ((out.new ≡ out.old) × (count.new ≡ count.old)) (answer_of result) }
     ensures kept { receiver.new.cell.value ≡ receiver.old.cell.value }
     ensures number { result ≡ number_of (answer_of result) }
 {
-    let Some(slot) = receiver.open(alloc) else {
-        return Refusal::Empty.number();
-    };
-    let answer = receiver_word(&slot, out, count);
-    receiver.close(slot);
-    result_number(answer)
+    result_number(
+        on_contents!(alloc, receiver, Receiver(r) => copy_bits(r.receiver.word().truths(), out, count)),
+    )
 }
 
 /// Copies the BBFRAME of the last step.
@@ -164,17 +135,13 @@ pub extern "C" fn s2_receiver_bbframe(
     out: &mut [u8],
     count: &mut usize,
 ) -> i32
-    ensures empty { receiver.old.cell.value ≡ None → (answer_of result ≡ Err Refusal.Empty) × (out.new ≡ out.old) × (count.new ≡ count.old) }
-    ensures full { (s : Slot) → receiver.old.cell.value ≡ Some s → CopiesMadeOf (bbframe_in (reception_in s)) out.old out.new count.old count.new (answer_of result) }
+    ensures answer { Reads receiver_in receiver.old.cell.value (λ r. CopiesMade (bbframe_in r) out.old out.new count.old count.new) ((out.new ≡ out.old) × (count.new ≡ count.old)) (answer_of result) }
     ensures kept { receiver.new.cell.value ≡ receiver.old.cell.value }
     ensures number { result ≡ number_of (answer_of result) }
 {
-    let Some(slot) = receiver.open(alloc) else {
-        return Refusal::Empty.number();
-    };
-    let answer = receiver_bbframe(alloc, &slot, out, count);
-    receiver.close(slot);
-    result_number(answer)
+    result_number(
+        on_contents!(alloc, receiver, Receiver(r) => receiver_bbframe(alloc, r, out, count)),
+    )
 }
 
 /// Copies the certificate file of the last step.
@@ -185,17 +152,13 @@ pub extern "C" fn s2_receiver_certificate(
     out: &mut [u8],
     count: &mut usize,
 ) -> i32
-    ensures empty { receiver.old.cell.value ≡ None → (answer_of result ≡ Err Refusal.Empty) × (out.new ≡ out.old) × (count.new ≡ count.old) }
-    ensures full { (s : Slot) → receiver.old.cell.value ≡ Some s → CopiesMadeOf (received_file (receiver_in s)) out.old out.new count.old count.new (answer_of result) }
+    ensures answer { Reads receiver_in receiver.old.cell.value (λ r. CopiesMade (file_in (certificate_of r.receiver)) out.old out.new count.old count.new) ((out.new ≡ out.old) × (count.new ≡ count.old)) (answer_of result) }
     ensures kept { receiver.new.cell.value ≡ receiver.old.cell.value }
     ensures number { result ≡ number_of (answer_of result) }
 {
-    let Some(slot) = receiver.open(alloc) else {
-        return Refusal::Empty.number();
-    };
-    let answer = receiver_certificate(alloc, &slot, out, count);
-    receiver.close(slot);
-    result_number(answer)
+    result_number(
+        on_contents!(alloc, receiver, Receiver(r) => receiver_certificate(alloc, r, out, count)),
+    )
 }
 
 /// Gives the figures of the last step.
@@ -205,17 +168,11 @@ pub extern "C" fn s2_receiver_figures(
     receiver: &mut Handle,
     figures: &mut FiguresFields,
 ) -> i32
-    ensures empty { receiver.old.cell.value ≡ None → (answer_of result ≡ Err Refusal.Empty) × (figures.new ≡ figures.old) }
-    ensures full { (s : Slot) → receiver.old.cell.value ≡ Some s → GivesFieldsIf fields.figures_fields (last_figures (reception_in s)) (nat_eq figures.old.size 144) figures.old figures.new (answer_of result) }
+    ensures answer { Reads receiver_in receiver.old.cell.value (λ r. GivesFieldsIf fields.figures_fields (figures_in r.step) (nat_eq figures.old.size 144) figures.old figures.new) (figures.new ≡ figures.old) (answer_of result) }
     ensures kept { receiver.new.cell.value ≡ receiver.old.cell.value }
     ensures number { result ≡ number_of (answer_of result) }
 {
-    let Some(slot) = receiver.open(alloc) else {
-        return Refusal::Empty.number();
-    };
-    let answer = receiver_figures(&slot, figures);
-    receiver.close(slot);
-    result_number(answer)
+    result_number(on_contents!(alloc, receiver, Receiver(r) => receiver_figures(r, figures)))
 }
 
 /// Gives the sums of figures.
@@ -225,17 +182,11 @@ pub extern "C" fn s2_receiver_sums(
     receiver: &mut Handle,
     figures: &mut FiguresFields,
 ) -> i32
-    ensures empty { receiver.old.cell.value ≡ None → (answer_of result ≡ Err Refusal.Empty) × (figures.new ≡ figures.old) }
-    ensures full { (s : Slot) → receiver.old.cell.value ≡ Some s → GivesFieldsIf fields.sums_fields (sums_in (receiver_in s)) (nat_eq figures.old.size 144) figures.old figures.new (answer_of result) }
+    ensures answer { Reads receiver_in receiver.old.cell.value (λ r. GivesFieldsIf fields.sums_fields (totals_in r.receiver).sums (nat_eq figures.old.size 144) figures.old figures.new) (figures.new ≡ figures.old) (answer_of result) }
     ensures kept { receiver.new.cell.value ≡ receiver.old.cell.value }
     ensures number { result ≡ number_of (answer_of result) }
 {
-    let Some(slot) = receiver.open(alloc) else {
-        return Refusal::Empty.number();
-    };
-    let answer = receiver_sums(&slot, figures);
-    receiver.close(slot);
-    result_number(answer)
+    result_number(on_contents!(alloc, receiver, Receiver(r) => receiver_sums(r, figures)))
 }
 
 /// Gives the totals.
@@ -245,15 +196,9 @@ pub extern "C" fn s2_receiver_totals(
     receiver: &mut Handle,
     totals: &mut TotalsFields,
 ) -> i32
-    ensures empty { receiver.old.cell.value ≡ None → (answer_of result ≡ Err Refusal.Empty) × (totals.new ≡ totals.old) }
-    ensures full { (s : Slot) → receiver.old.cell.value ≡ Some s → GivesFields fields.totals_fields (totals_in (receiver_in s)) (nat_eq totals.old.size 120) totals.old totals.new (answer_of result) }
+    ensures answer { Reads receiver_in receiver.old.cell.value (λ r. GivesFields fields.totals_fields (totals_in r.receiver) (nat_eq totals.old.size 120) totals.old totals.new) (totals.new ≡ totals.old) (answer_of result) }
     ensures kept { receiver.new.cell.value ≡ receiver.old.cell.value }
     ensures number { result ≡ number_of (answer_of result) }
 {
-    let Some(slot) = receiver.open(alloc) else {
-        return Refusal::Empty.number();
-    };
-    let answer = receiver_totals(&slot, totals);
-    receiver.close(slot);
-    result_number(answer)
+    result_number(on_contents!(alloc, receiver, Receiver(r) => receiver_totals(r, totals)))
 }

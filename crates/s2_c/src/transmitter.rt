@@ -1,20 +1,31 @@
 //! The exports of transmitters.
-ghost use Rattle.std.specs.Prelude.{◌≡◌, ◌↔◌, None, Some, Err};
-ghost use Rattle.s2_library.specs.declared.slot.Slot.{Slot};
-ghost use Rattle.s2_library.specs.Codes.{code_in};
+ghost use Rattle.std.specs.Prelude.{◌≡◌, ⊤};
+ghost use Rattle.s2_library.specs.Calls.{ClosesStream, GivesCounts, GivesReady, PutsPackets, Restarts, TakesFrame};
+ghost use Rattle.s2_library.specs.Copying.{Copies, digits_of};
 ghost use Rattle.s2_library.specs.Refusals.{MakesSender};
 ghost use Rattle.s2_library.specs.Results.{answer_of, number_of};
-ghost use Rattle.s2_library.specs.Copying.{digits_of};
-ghost use Rattle.s2_library.specs.Slots.{ClosesStreamOf, CopiesOf, GivesCounts, GivesReady, PutsPacketsOf, RestartsOf, TakesFrameOf, listed, sender_in};
-ghost use Rattle.s2_c.specs.Handles.{Fills, MakesOf};
+ghost use Rattle.s2_c.specs.Handles.{Changes, Fills, Reads, code_in, sender_in};
 
-use crate::handle::{Handle, fill};
+use crate::handle::{Handle, fill, on_contents, put};
+use crate::slot::Slot;
 use s2_library::{
-    Options, Refusal, new_transmitter, result_number, transmitter_close, transmitter_counts,
-    transmitter_put, transmitter_ready, transmitter_reset, transmitter_symbols, transmitter_take,
-    transmitter_word,
+    Options, Refusal, copy_bits, copy_items, new_transmitter, result_number, transmitter_close,
+    transmitter_put, transmitter_take,
 };
+use s2_send::Sender;
 use std::alloc::Global;
+
+/// A transmitter on the code of a handle.
+fn transmitter_on(
+    alloc: Global,
+    code: &mut Handle,
+    options: &Options,
+) -> Result<Sender<'static>, Refusal>
+    ensures made { Reads code_in code.old.cell.value (λ c. MakesSender c options.now) ⊤ result }
+    ensures kept { code.new.cell.value ≡ code.old.cell.value }
+{
+    on_contents!(alloc, code, Code(c) => new_transmitter(alloc, c, options))
+}
 
 /// Makes a transmitter on a code.
 #[unsafe(no_mangle)]
@@ -24,19 +35,11 @@ pub extern "C" fn s2_transmitter_new(
     options: &Options,
     transmitter: &mut Handle,
 ) -> i32
-    ensures made { Fills (MakesOf code.old.cell.value (λ s made. MakesSender (code_in s) options.now made)) transmitter.old.cell.value transmitter.new.cell.value (answer_of result) }
+    ensures made { Fills sender_in (Reads code_in code.old.cell.value (λ c. MakesSender c options.now) ⊤) transmitter.old.cell.value transmitter.new.cell.value (answer_of result) }
     ensures kept { code.new.cell.value ≡ code.old.cell.value }
     ensures number { result ≡ number_of (answer_of result) }
 {
-    if transmitter.live != 0 {
-        return Refusal::InUse.number();
-    }
-    let Some(slot) = code.open(alloc) else {
-        return Refusal::Empty.number();
-    };
-    let made = new_transmitter(alloc, &slot, options);
-    code.close(slot);
-    fill(alloc, made, transmitter)
+    fill!(alloc, transmitter, Transmitter => transmitter_on(alloc, code, options))
 }
 
 /// Takes bytes of packets.
@@ -47,33 +50,21 @@ pub extern "C" fn s2_transmitter_put(
     bytes: &[u8],
     taken: &mut usize,
 ) -> i32
-    ensures empty { transmitter.old.cell.value ≡ None → (answer_of result ≡ Err Refusal.Empty) × (taken.new ≡ taken.old) }
-    ensures full { (s t : Slot) → transmitter.old.cell.value ≡ Some s → transmitter.new.cell.value ≡ Some t → PutsPacketsOf s t bytes.now taken.old taken.new (answer_of result) }
-    ensures kept { (transmitter.new.cell.value ≡ None) ↔ (transmitter.old.cell.value ≡ None) }
+    ensures answer { Changes sender_in transmitter.old.cell.value transmitter.new.cell.value (λ s t. PutsPackets s.stream.slicing.closed s t bytes.now taken.old taken.new) (taken.new ≡ taken.old) (answer_of result) }
     ensures number { result ≡ number_of (answer_of result) }
 {
-    let Some(mut slot) = transmitter.open(alloc) else {
-        return Refusal::Empty.number();
-    };
-    let answer = transmitter_put(&mut slot, bytes, taken);
-    transmitter.close(slot);
-    result_number(answer)
+    result_number(
+        on_contents!(alloc, transmitter, Transmitter(s) => transmitter_put(s, bytes, taken)),
+    )
 }
 
 /// Ends the stream.
 #[unsafe(no_mangle)]
 pub extern "C" fn s2_transmitter_close(alloc: Global, transmitter: &mut Handle) -> i32
-    ensures empty { transmitter.old.cell.value ≡ None → answer_of result ≡ Err Refusal.Empty }
-    ensures full { (s t : Slot) → transmitter.old.cell.value ≡ Some s → transmitter.new.cell.value ≡ Some t → ClosesStreamOf s t (answer_of result) }
-    ensures kept { (transmitter.new.cell.value ≡ None) ↔ (transmitter.old.cell.value ≡ None) }
+    ensures answer { Changes sender_in transmitter.old.cell.value transmitter.new.cell.value (λ s t. ClosesStream s.stream.slicing.closed s t) ⊤ (answer_of result) }
     ensures number { result ≡ number_of (answer_of result) }
 {
-    let Some(mut slot) = transmitter.open(alloc) else {
-        return Refusal::Empty.number();
-    };
-    let answer = transmitter_close(&mut slot);
-    transmitter.close(slot);
-    result_number(answer)
+    result_number(on_contents!(alloc, transmitter, Transmitter(s) => transmitter_close(s)))
 }
 
 /// Gives whether a frame can be taken.
@@ -83,17 +74,14 @@ pub extern "C" fn s2_transmitter_ready(
     transmitter: &mut Handle,
     is_ready: &mut u32,
 ) -> i32
-    ensures empty { transmitter.old.cell.value ≡ None → (answer_of result ≡ Err Refusal.Empty) × (is_ready.new ≡ is_ready.old) }
-    ensures full { (s : Slot) → transmitter.old.cell.value ≡ Some s → GivesReady (sender_in s) is_ready.old is_ready.new (answer_of result) }
+    ensures answer { Reads sender_in transmitter.old.cell.value (λ s. GivesReady s is_ready.new) (is_ready.new ≡ is_ready.old) (answer_of result) }
     ensures kept { transmitter.new.cell.value ≡ transmitter.old.cell.value }
     ensures number { result ≡ number_of (answer_of result) }
 {
-    let Some(slot) = transmitter.open(alloc) else {
-        return Refusal::Empty.number();
-    };
-    let answer = transmitter_ready(&slot, is_ready);
-    transmitter.close(slot);
-    result_number(answer)
+    result_number(on_contents!(alloc, transmitter, Transmitter(s) => {
+        *is_ready = if s.is_ready() { 1 } else { 0 };
+        Ok(())
+    }))
 }
 
 /// Makes the next frame, and copies its symbols.
@@ -104,17 +92,12 @@ pub extern "C" fn s2_transmitter_take(
     out: &mut [u8],
     count: &mut usize,
 ) -> i32
-    ensures empty { transmitter.old.cell.value ≡ None → (answer_of result ≡ Err Refusal.Empty) × (out.new ≡ out.old) × (count.new ≡ count.old) }
-    ensures full { (s t : Slot) → transmitter.old.cell.value ≡ Some s → transmitter.new.cell.value ≡ Some t → TakesFrameOf s t out.old out.new count.old count.new (answer_of result) }
-    ensures kept { (transmitter.new.cell.value ≡ None) ↔ (transmitter.old.cell.value ≡ None) }
+    ensures answer { Changes sender_in transmitter.old.cell.value transmitter.new.cell.value (λ s t. TakesFrame s t out.old out.new count.old count.new) ((out.new ≡ out.old) × (count.new ≡ count.old)) (answer_of result) }
     ensures number { result ≡ number_of (answer_of result) }
 {
-    let Some(mut slot) = transmitter.open(alloc) else {
-        return Refusal::Empty.number();
-    };
-    let answer = transmitter_take(&mut slot, out, count);
-    transmitter.close(slot);
-    result_number(answer)
+    result_number(
+        on_contents!(alloc, transmitter, Transmitter(s) => transmitter_take(s, out, count)),
+    )
 }
 
 /// Copies the symbols of the frame that was made last.
@@ -125,17 +108,13 @@ pub extern "C" fn s2_transmitter_symbols(
     out: &mut [u8],
     count: &mut usize,
 ) -> i32
-    ensures empty { transmitter.old.cell.value ≡ None → (answer_of result ≡ Err Refusal.Empty) × (out.new ≡ out.old) × (count.new ≡ count.old) }
-    ensures full { (s : Slot) → transmitter.old.cell.value ≡ Some s → CopiesOf (listed (λ t. t.unit) (sender_in s)) out.old out.new count.old count.new (answer_of result) }
+    ensures answer { Reads sender_in transmitter.old.cell.value (λ s. Copies s.unit out.old out.new count.new) ((out.new ≡ out.old) × (count.new ≡ count.old)) (answer_of result) }
     ensures kept { transmitter.new.cell.value ≡ transmitter.old.cell.value }
     ensures number { result ≡ number_of (answer_of result) }
 {
-    let Some(slot) = transmitter.open(alloc) else {
-        return Refusal::Empty.number();
-    };
-    let answer = transmitter_symbols(&slot, out, count);
-    transmitter.close(slot);
-    result_number(answer)
+    result_number(
+        on_contents!(alloc, transmitter, Transmitter(s) => copy_items(s.symbols(), out, count)),
+    )
 }
 
 /// Copies the codeword of the frame that was made last.
@@ -146,17 +125,13 @@ pub extern "C" fn s2_transmitter_word(
     out: &mut [u8],
     count: &mut usize,
 ) -> i32
-    ensures empty { transmitter.old.cell.value ≡ None → (answer_of result ≡ Err Refusal.Empty) × (out.new ≡ out.old) × (count.new ≡ count.old) }
-    ensures full { (s : Slot) → transmitter.old.cell.value ≡ Some s → CopiesOf (listed (λ t. digits_of t.codeword) (sender_in s)) out.old out.new count.old count.new (answer_of result) }
+    ensures answer { Reads sender_in transmitter.old.cell.value (λ s. Copies (digits_of s.codeword) out.old out.new count.new) ((out.new ≡ out.old) × (count.new ≡ count.old)) (answer_of result) }
     ensures kept { transmitter.new.cell.value ≡ transmitter.old.cell.value }
     ensures number { result ≡ number_of (answer_of result) }
 {
-    let Some(slot) = transmitter.open(alloc) else {
-        return Refusal::Empty.number();
-    };
-    let answer = transmitter_word(&slot, out, count);
-    transmitter.close(slot);
-    result_number(answer)
+    result_number(
+        on_contents!(alloc, transmitter, Transmitter(s) => copy_bits(s.codeword().truths(), out, count)),
+    )
 }
 
 /// Gives the numbers of packets and frames.
@@ -167,31 +142,26 @@ pub extern "C" fn s2_transmitter_counts(
     packets: &mut u64,
     frames: &mut u64,
 ) -> i32
-    ensures empty { transmitter.old.cell.value ≡ None → (answer_of result ≡ Err Refusal.Empty) × (packets.new ≡ packets.old) × (frames.new ≡ frames.old) }
-    ensures full { (s : Slot) → transmitter.old.cell.value ≡ Some s → GivesCounts (sender_in s) packets.old packets.new frames.old frames.new (answer_of result) }
+    ensures answer { Reads sender_in transmitter.old.cell.value (λ s. GivesCounts s packets.new frames.new) ((packets.new ≡ packets.old) × (frames.new ≡ frames.old)) (answer_of result) }
     ensures kept { transmitter.new.cell.value ≡ transmitter.old.cell.value }
     ensures number { result ≡ number_of (answer_of result) }
 {
-    let Some(slot) = transmitter.open(alloc) else {
-        return Refusal::Empty.number();
-    };
-    let answer = transmitter_counts(&slot, packets, frames);
-    transmitter.close(slot);
-    result_number(answer)
+    result_number(on_contents!(alloc, transmitter, Transmitter(s) => {
+        let counts = s.counts();
+        *packets = counts.packets;
+        *frames = counts.frames;
+        Ok(())
+    }))
 }
 
 /// Begins a new stream.
 #[unsafe(no_mangle)]
 pub extern "C" fn s2_transmitter_reset(alloc: Global, transmitter: &mut Handle) -> i32
-    ensures empty { transmitter.old.cell.value ≡ None → answer_of result ≡ Err Refusal.Empty }
-    ensures full { (s t : Slot) → transmitter.old.cell.value ≡ Some s → transmitter.new.cell.value ≡ Some t → RestartsOf s t (answer_of result) }
-    ensures kept { (transmitter.new.cell.value ≡ None) ↔ (transmitter.old.cell.value ≡ None) }
+    ensures answer { Changes sender_in transmitter.old.cell.value transmitter.new.cell.value Restarts ⊤ (answer_of result) }
     ensures number { result ≡ number_of (answer_of result) }
 {
-    let Some(mut slot) = transmitter.open(alloc) else {
-        return Refusal::Empty.number();
-    };
-    let answer = transmitter_reset(&mut slot);
-    transmitter.close(slot);
-    result_number(answer)
+    result_number(on_contents!(alloc, transmitter, Transmitter(s) => {
+        s.restart();
+        Ok(())
+    }))
 }

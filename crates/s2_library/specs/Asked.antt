@@ -16,11 +16,11 @@ use Rattle.s2_tuning.specs.declared.wanted.Wanted.{Wanted}
 use Rattle.s2_modem.specs.Reception.{IsNew}
 use Rattle.s2_bbframe.specs.DataStream.{field_bytes}
 use Rattle.s2_send.specs.Limits.{max_packets}
-use Rattle.s2_send.specs.Sender.{at_first}
+use Rattle.s2_judge.specs.Judging.{Judging}
+use Rattle.s2_send.specs.Sender.{Sender, at_first}
 use Rattle.s2_library.specs.declared.options.Flags.{Flags}
 use Rattle.s2_library.specs.declared.options.Options.{Options}
-use Rattle.s2_library.specs.declared.slot.Slot.{Slot}
-use Rattle.s2_library.specs.declared.slot.Slot.TheVariants as slots
+use Rattle.s2_library.specs.declared.receiver.Reception.{Reception}
 
 -- a member is 1
 abbrev pub is_set : ℕ → Bool
@@ -78,15 +78,12 @@ abbrev pub tuning_in : Options → Tuning
 tuning_in o = tuning_by (mode_in o) (wanted_by (flags_of o) o)
 
 -- a new receiver of the link and the tuning of options, which has made no step
-abbrev pub IsReceiverOf : Options → Rows → Slot → Type 0
-IsReceiverOf o rows (slots.Receiver r) = IsNew (link_in o rows) (tuning_in o) r.receiver × (r.link ≡ link_in o rows) × (r.tuning ≡ tuning_in o) × (r.step ≡ None)
-IsReceiverOf o rows slot = ⊥
+abbrev pub IsReceiverOf : Options → Rows → Reception → Type 0
+IsReceiverOf o rows r = IsNew (link_in o rows) (tuning_in o) r.receiver × (r.link ≡ link_in o rows) × (r.tuning ≡ tuning_in o) × (r.step ≡ None)
 
 -- a transmitter of the link of options, at the start of its stream
-abbrev pub IsSenderOf : Options → Rows → Slot → Type 0
-IsSenderOf o rows (slots.Transmitter s) =
-    (s.link ≡ link_in o rows) × (s.dummy_every ≡ o.dummy_every) × (s.stream ≡ at_first (field_bytes (mode_in o)) max_packets)
-IsSenderOf o rows slot = ⊥
+abbrev pub IsSenderOf : Options → Rows → Sender → Type 0
+IsSenderOf o rows s = (s.link ≡ link_in o rows) × (s.dummy_every ≡ o.dummy_every) × (s.stream ≡ at_first (field_bytes (mode_in o)) max_packets)
 
 -- the tuning of a judge: that of the mode of options, or without a mode that of their passes, factor and correction
 abbrev pub judging_in : Options → Tuning
@@ -94,6 +91,5 @@ judging_in o =
     if nat_eq o.modcod 0 then judging_by (wanted_by (flags_of o) o).passes.value (wanted_by (flags_of o) o).factor.value (wanted_by (flags_of o) o).correction.value (is_set o.uncertified) else tuning_in o
 
 -- a judge of these rows, with the tuning of options
-abbrev pub IsJudgeOf : Options → Rows → Slot → Type 0
-IsJudgeOf o rows (slots.Judge j) = (j.rows ≡ rows) × (j.tuning ≡ judging_in o)
-IsJudgeOf o rows slot = ⊥
+abbrev pub IsJudgeOf : Options → Rows → Judging → Type 0
+IsJudgeOf o rows j = (j.rows ≡ rows) × (j.tuning ≡ judging_in o)

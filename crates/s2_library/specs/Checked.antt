@@ -1,5 +1,5 @@
 -- The checker's result on a certificate file, as C has it (own).
-use Rattle.std.specs.Prelude.{◌≡◌, ◌≢◌, ◌↔◌, ◌⊎◌, ℕ, min, ℤ, pos, List, Bool, false, IsTrue, replicate, Option, Some, None, Result, Ok, Err, IsErr}
+use Rattle.std.specs.Prelude.{◌≡◌, ◌≢◌, ◌↔◌, ◌⊎◌, ℕ, min, ℤ, pos, List, Bool, false, IsTrue, replicate, Result, Ok, Err, IsErr}
 use Rattle.s2_rows.specs.Rows.{Rows}
 use Rattle.s2_certfile.specs.File.{File}
 use Rattle.s2_certfile.specs.Format.{file_of_bytes}
@@ -15,7 +15,7 @@ use Rattle.s2_library.specs.Fields.{flag_of}
 use Rattle.s2_library.specs.declared.checking.CheckedFields.{CheckedFields}
 use Rattle.s2_library.specs.declared.code.Code.{Code}
 use Rattle.s2_library.specs.declared.refusal.Refusal.{Refusal}
-use Rattle.s2_library.specs.declared.refusal.Refusal.TheVariants.{BadCertificate, BadSize, NoMemory, OtherKind}
+use Rattle.s2_library.specs.declared.refusal.Refusal.TheVariants.{BadCertificate, BadSize, NoMemory}
 
 -- the fields of a result: the number of the answer, whether the word is sole, the check that fails, and the cost
 abbrev pub checked : ℕ → Bool → ℕ → ℤ → CheckedFields
@@ -49,9 +49,8 @@ AreOfFile r f fields = ((Suits r f → ⊥) × (fields ≡ checked 1 false 0 (po
 
 -- A certificate file is checked against a code, and the fields are written, if the caller set their size. If it is refused, they are
 -- unchanged. Memory may be refused before the file is read
-abbrev pub ChecksFile : Option Code → List ℕ → (old new : CheckedFields) → Result (Unit {0}) Refusal → Type 0
-ChecksFile None bytes old new result = (result ≡ Err OtherKind) × (new ≡ old)
-ChecksFile (Some code) bytes old new (Ok done) = (old.size ≡ 48) × ((f : File) × (file_of_bytes bytes ≡ Ok f) × AreOfFile code.matrix.now f new)
-ChecksFile (Some code) bytes old new (Err BadSize) = (old.size ≢ 48) × (new ≡ old)
-ChecksFile (Some code) bytes old new (Err BadCertificate) = (old.size ≡ 48) × IsErr (file_of_bytes bytes) × (new ≡ old)
-ChecksFile (Some code) bytes old new (Err refusal) = (refusal ≡ NoMemory) × (old.size ≡ 48) × (new ≡ old)
+abbrev pub ChecksFile : Code → List ℕ → (old new : CheckedFields) → Result (Unit {0}) Refusal → Type 0
+ChecksFile code bytes old new (Ok done) = (old.size ≡ 48) × ((f : File) × (file_of_bytes bytes ≡ Ok f) × AreOfFile code.matrix.now f new)
+ChecksFile code bytes old new (Err BadSize) = (old.size ≢ 48) × (new ≡ old)
+ChecksFile code bytes old new (Err BadCertificate) = (old.size ≡ 48) × IsErr (file_of_bytes bytes) × (new ≡ old)
+ChecksFile code bytes old new (Err refusal) = (refusal ≡ NoMemory) × (old.size ≡ 48) × (new ≡ old)

@@ -1,4 +1,5 @@
 pub mod Asked
+pub mod Calls
 pub mod Checked
 pub mod Codes
 pub mod Copying
@@ -6,5 +7,4 @@ pub mod Fields
 pub mod Refusals
 pub mod Results
 pub mod Shelves
-pub mod Slots
 pub mod Texts

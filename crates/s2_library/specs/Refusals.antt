@@ -1,6 +1,6 @@
 -- What a call that makes a code, a receiver, a transmitter or a judge returns. If several causes of a refusal apply, it is
 -- that of the first (own).
-use Rattle.std.specs.Prelude.{◌≡◌, ◌≢◌, ◌⊎◌, ℕ, ◌≤◌, List, replicate, Option, Some, None, Result, Ok, Err, IsErr, ⊤}
+use Rattle.std.specs.Prelude.{◌≡◌, ◌≢◌, ◌⊎◌, ℕ, ◌≤◌, List, replicate, Result, Ok, Err, IsErr, ⊤}
 use Rattle.s2_mode.specs.Mode.{Mode, IsMode, mode_of, shape_in}
 use Rattle.s2_mode.specs.Shape.{Shape, IsShape}
 use Rattle.s2_rows.specs.Rows.{Rows}
@@ -8,16 +8,18 @@ use Rattle.s2_rows.specs.RowFiles.{rows_of_text}
 use Rattle.s2_link.specs.Link.{IsSetUp, RefusesLink}
 use Rattle.s2_link.specs.declared.fault.SetupFault.{SetupFault}
 use Rattle.s2_link.specs.declared.fault.SetupFault.TheVariants as faults
+use Rattle.s2_judge.specs.Judging.{Judging}
+use Rattle.s2_send.specs.Sender.{Sender}
 use Rattle.s2_tuning.specs.Tuning.{Tuning, IsTuning}
 use Rattle.s2_library.specs.Asked.{IsJudgeOf, IsReceiverOf, IsSenderOf, is_set, judging_in, mode_in, setup_in, tuning_in}
-use Rattle.s2_library.specs.Codes.{HasCodeOf, HasCodeOfShape}
+use Rattle.s2_library.specs.Codes.{IsCodeOf, IsCodeOfShape}
 use Rattle.s2_library.specs.Fields.{mode_fields}
 use Rattle.s2_library.specs.declared.code.Code.{Code}
 use Rattle.s2_library.specs.declared.mode.ModeFields.{ModeFields}
 use Rattle.s2_library.specs.declared.options.Options.{Options}
 use Rattle.s2_library.specs.declared.refusal.Refusal.{Refusal}
-use Rattle.s2_library.specs.declared.refusal.Refusal.TheVariants.{BadMode, BadOption, BadRollOff, BadRows, BadScrambling, BadShape, BadSize, BadTuning, NoMemory, OtherKind, OtherShape}
-use Rattle.s2_library.specs.declared.slot.Slot.{Slot}
+use Rattle.s2_library.specs.declared.refusal.Refusal.TheVariants.{BadMode, BadOption, BadRollOff, BadRows, BadScrambling, BadShape, BadSize, BadTuning, NoMemory, OtherShape}
+use Rattle.s2_library.specs.declared.receiver.Reception.{Reception}
 
 -- ---- modes and codes
 
@@ -55,13 +57,13 @@ RefusesCode text modcod is_short refusal =
     RefusesMode modcod is_short 0 refusal ⊎ (NameMode modcod is_short 0 × RefusesRows text (shape_in (mode_by modcod is_short 0)) refusal)
 
 -- the code of a mode, from the text of a row file
-abbrev pub MakesCode : List ℕ → (modcod is_short : ℕ) → Result Slot Refusal → Type 0
-MakesCode text modcod is_short (Ok slot) = NameMode modcod is_short 0 × HasCodeOf text (mode_by modcod is_short 0) slot
+abbrev pub MakesCode : List ℕ → (modcod is_short : ℕ) → Result Code Refusal → Type 0
+MakesCode text modcod is_short (Ok code) = NameMode modcod is_short 0 × IsCodeOf text (mode_by modcod is_short 0) code
 MakesCode text modcod is_short (Err refusal) = RefusesCode text modcod is_short refusal
 
 -- the code of a shape, from the text of a row file
-abbrev pub MakesShapeCode : List ℕ → Shape → Result Slot Refusal → Type 0
-MakesShapeCode text shape (Ok slot) = IsShape shape × HasCodeOfShape text shape slot
+abbrev pub MakesShapeCode : List ℕ → Shape → Result Code Refusal → Type 0
+MakesShapeCode text shape (Ok code) = IsShape shape × IsCodeOfShape text shape code
 MakesShapeCode text shape (Err refusal) = ((refusal ≡ BadShape) × (IsShape shape → ⊥)) ⊎ (IsShape shape × RefusesRows text shape refusal)
 
 -- ---- options
@@ -124,17 +126,15 @@ abbrev pub RefusesLinkOf : Options → Rows → Refusal → Type 0
 RefusesLinkOf o rows refusal = RefusesOptions o refusal ⊎ (AreOptions o × RefusesSetup o rows refusal)
 
 -- a receiver on a code, by options
-abbrev pub MakesReceiver : Option Code → Options → Result Slot Refusal → Type 0
-MakesReceiver None o result = result ≡ Err OtherKind
-MakesReceiver (Some code) o (Ok slot) = NameLink o code.matrix.now × IsTuning (tuning_in o) × IsReceiverOf o code.matrix.now slot
-MakesReceiver (Some code) o (Err refusal) =
+abbrev pub MakesReceiver : Code → Options → Result Reception Refusal → Type 0
+MakesReceiver code o (Ok r) = NameLink o code.matrix.now × IsTuning (tuning_in o) × IsReceiverOf o code.matrix.now r
+MakesReceiver code o (Err refusal) =
     RefusesLinkOf o code.matrix.now refusal ⊎ (NameLink o code.matrix.now × RefusesTuning (tuning_in o) refusal)
 
 -- a transmitter on a code, by options
-abbrev pub MakesSender : Option Code → Options → Result Slot Refusal → Type 0
-MakesSender None o result = result ≡ Err OtherKind
-MakesSender (Some code) o (Ok slot) = NameLink o code.matrix.now × IsSenderOf o code.matrix.now slot
-MakesSender (Some code) o (Err refusal) = RefusesLinkOf o code.matrix.now refusal ⊎ (NameLink o code.matrix.now × (refusal ≡ NoMemory))
+abbrev pub MakesSender : Code → Options → Result Sender Refusal → Type 0
+MakesSender code o (Ok s) = NameLink o code.matrix.now × IsSenderOf o code.matrix.now s
+MakesSender code o (Err refusal) = RefusesLinkOf o code.matrix.now refusal ⊎ (NameLink o code.matrix.now × (refusal ≡ NoMemory))
 
 -- ---- judges
 
@@ -151,7 +151,6 @@ RefusesJudging o rows NoMemory = SuitMode o rows × IsTuning (judging_in o)
 RefusesJudging o rows refusal = ⊥
 
 -- a judge on a code, by options
-abbrev pub MakesJudge : Option Code → Options → Result Slot Refusal → Type 0
-MakesJudge None o result = result ≡ Err OtherKind
-MakesJudge (Some code) o (Ok slot) = AreOptions o × SuitMode o code.matrix.now × IsTuning (judging_in o) × IsJudgeOf o code.matrix.now slot
-MakesJudge (Some code) o (Err refusal) = RefusesOptions o refusal ⊎ (AreOptions o × RefusesJudging o code.matrix.now refusal)
+abbrev pub MakesJudge : Code → Options → Result Judging Refusal → Type 0
+MakesJudge code o (Ok j) = AreOptions o × SuitMode o code.matrix.now × IsTuning (judging_in o) × IsJudgeOf o code.matrix.now j
+MakesJudge code o (Err refusal) = RefusesOptions o refusal ⊎ (AreOptions o × RefusesJudging o code.matrix.now refusal)

@@ -8,9 +8,6 @@ use Rattle.s2_library.specs.Codes.{AreRowsOf}
 use Rattle.s2_library.specs.Refusals.{NameMode, RefusesCode, mode_by}
 use Rattle.s2_library.specs.declared.code.Code.{Code}
 use Rattle.s2_library.specs.declared.refusal.Refusal.{Refusal}
-use Rattle.s2_library.specs.declared.refusal.Refusal.TheVariants.{OtherKind}
-use Rattle.s2_library.specs.declared.slot.Slot.{Slot}
-use Rattle.s2_library.specs.declared.slot.Slot.TheVariants as slots
 
 -- two row files of one shape with the same addresses in each row
 pub record HaveSameRows (a b : Rows) : Type 0 where
@@ -31,22 +28,7 @@ pub record IsShelved (text : List ℕ) (mode : Mode) (old new : List Rows) (code
   pub rows : (r : Rows) × AreRowsOf text (shape_in mode) r × HaveSameRows code.matrix.now r × IsOn r new × Puts r old new
   pub standard : HasSum code.matrix.now (standard_sum mode) code.is_standard
 
--- an empty shelf
-abbrev pub IsNewShelf : Slot → Type 0
-IsNewShelf (slots.Shelf shelf) = shelf ≡ []
-IsNewShelf slot = ⊥
-
--- a slot with such a code
-abbrev pub HasShelved : List ℕ → Mode → (old new : List Rows) → Slot → Type 0
-HasShelved text mode old new (slots.Code code) = IsShelved text mode old new code
-HasShelved text mode old new slot = ⊥
-
 -- the code of a mode by the rows of a text, from a shelf; if it is refused, the shelf is unchanged
-abbrev pub Shelves : List ℕ → (modcod is_short : ℕ) → (old new : List Rows) → Result Slot Refusal → Type 0
-Shelves text modcod is_short old new (Ok slot) = NameMode modcod is_short 0 × HasShelved text (mode_by modcod is_short 0) old new slot
+abbrev pub Shelves : List ℕ → (modcod is_short : ℕ) → (old new : List Rows) → Result Code Refusal → Type 0
+Shelves text modcod is_short old new (Ok code) = NameMode modcod is_short 0 × IsShelved text (mode_by modcod is_short 0) old new code
 Shelves text modcod is_short old new (Err refusal) = RefusesCode text modcod is_short refusal × (new ≡ old)
-
--- the same from the shelf of a slot
-abbrev pub ShelvesOf : List ℕ → (modcod is_short : ℕ) → (old new : Slot) → Result Slot Refusal → Type 0
-ShelvesOf text modcod is_short (slots.Shelf old) (slots.Shelf new) result = Shelves text modcod is_short old new result
-ShelvesOf text modcod is_short old new result = (result ≡ Err OtherKind) × (new ≡ old)

@@ -1,11 +1,9 @@
 //! The checker of certificates.
 ghost use Rattle.std.specs.Prelude.{◌≡◌};
 ghost use Rattle.s2_library.specs.Checked.{AreOfFile, AreOfView, ChecksFile, checked, checked_fields};
-ghost use Rattle.s2_library.specs.Codes.{code_in as code_in_slot};
 
-use crate::code::code_in;
+use crate::code::Code;
 use crate::refusal::Refusal;
-use crate::slot::Slot;
 use s2_check::{Answer, CertFault, CertView, Certificate, Examined, Refusal as Doubt, examine};
 use s2_matrix::Matrix;
 use std::alloc::Global;
@@ -73,13 +71,12 @@ fn certificate_fields(matrix: &Matrix, certificate: &Certificate) -> CheckedFiel
 /// Checks a certificate file against a code.
 pub fn check(
     alloc: Global,
-    slot: &Slot,
+    code: &Code,
     bytes: &[u8],
     fields: &mut CheckedFields,
 ) -> Result<(), Refusal>
-    ensures { ChecksFile (code_in_slot slot.now) bytes.now fields.old fields.new result }
+    ensures { ChecksFile code.now bytes.now fields.old fields.new result }
 {
-    let code = code_in(slot)?;
     if fields.size != SIZE {
         return Err(Refusal::BadSize);
     }

@@ -1,13 +1,12 @@
 //! Codes.
-ghost use Rattle.std.specs.Prelude.{◌≡◌, IfErr, IfOk, IsOkUnless, None, Some};
+ghost use Rattle.std.specs.Prelude.{◌≡◌, IfErr, IfOk, IsOkUnless};
 ghost use Rattle.s2_mode.specs.Mode.{shape_in};
 ghost use Rattle.s2_mode.specs.Shape.{shape_of};
-ghost use Rattle.s2_library.specs.Codes.{AreRowsOf, GivesFacts, IsCodeOf, code_in as code_in_slot};
+ghost use Rattle.s2_library.specs.Codes.{AreRowsOf, GivesFacts, IsCodeOf};
 ghost use Rattle.s2_library.specs.Refusals.{MakesCode, MakesShapeCode, RefusesRows};
 
 use crate::options::mode_of_numbers;
 use crate::refusal::Refusal;
-use crate::slot::Slot;
 use s2_matrix::Matrix;
 use s2_mode::{Mode, Shape};
 use s2_rows::{RowFault, Rows, read_rows};
@@ -70,11 +69,11 @@ fn code_of_mode(alloc: Global, text: &[u8], mode: Mode) -> Result<Code, Refusal>
 }
 
 /// The code of a mode, from the text of a row file.
-pub fn new_code(alloc: Global, text: &[u8], modcod: u32, is_short: u32) -> Result<Slot, Refusal>
+pub fn new_code(alloc: Global, text: &[u8], modcod: u32, is_short: u32) -> Result<Code, Refusal>
     ensures { MakesCode text.now modcod is_short result }
 {
     let mode = mode_of_numbers(modcod, is_short, 0)?;
-    Ok(Slot::Code(code_of_mode(alloc, text, mode)?))
+    code_of_mode(alloc, text, mode)
 }
 
 /// The code of any shape, from the text of a row file. Whether its rows are the standard's is not tested.
@@ -84,40 +83,28 @@ pub fn shape_code(
     group: u32,
     groups: u32,
     q: u32,
-) -> Result<Slot, Refusal>
+) -> Result<Code, Refusal>
     ensures { MakesShapeCode text.now (shape_of group groups q) result }
 {
     let Some(shape) = Shape::new(group as usize, groups as usize, q as usize) else {
         return Err(Refusal::BadShape);
     };
     let matrix = matrix_of(alloc, text, shape)?;
-    Ok(Slot::Code(Code {
+    Ok(Code {
         matrix: keep(alloc, matrix)?,
         is_standard: false,
-    }))
-}
-
-/// The code in a slot.
-pub(crate) fn code_in(slot: &Slot) -> Result<Code, Refusal>
-    ensures found { IfOk result (λ code. code_in_slot slot.now ≡ Some code) }
-    ensures other { IfErr result (λ refusal. (refusal ≡ Refusal.OtherKind) × (code_in_slot slot.now ≡ None)) }
-{
-    match slot {
-        Slot::Code(code) => Ok(*code),
-        _ => Err(Refusal::OtherKind),
-    }
+    })
 }
 
 /// The numbers n and k of a code, and whether its rows are the standard's, 1 or 0.
 pub fn code_facts(
-    slot: &Slot,
+    code: &Code,
     n: &mut u32,
     k: &mut u32,
     is_standard: &mut u32,
 ) -> Result<(), Refusal>
-    ensures { GivesFacts (code_in_slot slot.now) n.old n.new k.old k.new is_standard.old is_standard.new result }
+    ensures { GivesFacts code.now n.new k.new is_standard.new result }
 {
-    let code = code_in(slot)?;
     let shape = code.matrix.shape();
     *n = shape.n() as u32;
     *k = shape.k() as u32;

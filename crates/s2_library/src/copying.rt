@@ -5,11 +5,7 @@ ghost use Rattle.s2_library.specs.Copying.{Copies, digits_of};
 use crate::refusal::Refusal;
 
 /// Copies a list to the front of a buffer, if it has room for all of it, and gives its length.
-pub(crate) fn copy_items<T: Copy>(
-    items: &[T],
-    out: &mut [T],
-    count: &mut usize,
-) -> Result<(), Refusal>
+pub fn copy_items<T: Copy>(items: &[T], out: &mut [T], count: &mut usize) -> Result<(), Refusal>
     ensures { Copies items.now out.old out.new count.new result }
 {
     *count = items.len();
@@ -33,7 +29,7 @@ fn write_digits(bits: &[bool], out: &mut [u8])
 
 /// Copies bits to the front of a buffer, a byte for each, if it has room for all of them, and gives their number.
 #[tactic(auto, using(crate::proofs::Digits::digits_long))]
-pub(crate) fn copy_bits(bits: &[bool], out: &mut [u8], count: &mut usize) -> Result<(), Refusal>
+pub fn copy_bits(bits: &[bool], out: &mut [u8], count: &mut usize) -> Result<(), Refusal>
     ensures { Copies (digits_of bits.now) out.old out.new count.new result }
 {
     *count = bits.len();

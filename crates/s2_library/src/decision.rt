@@ -2,18 +2,14 @@
 ghost use Rattle.std.specs.Prelude.{◌≡◌, ◌≢◌, ◌↔◌, All, IfErr, IfOk, IsTrue};
 ghost use Rattle.s2_tuning.specs.Tuning.{IsTuning};
 ghost use Rattle.s2_library.specs.Asked.{flags_of, judging_in};
-ghost use Rattle.s2_library.specs.Codes.{code_in as code_in_slot};
-ghost use Rattle.s2_library.specs.Copying.{digits_of};
 ghost use Rattle.s2_library.specs.Refusals.{MakesJudge, RefusesJudging, SuitMode};
-ghost use Rattle.s2_library.specs.Slots.{CopiesMadeOf, CopiesOf, DecidesOn, DecidesOnOf, decided_file, judge_in, listed};
+ghost use Rattle.s2_library.specs.Calls.{CopiesMade, DecidesOn, file_in};
 ghost use Rattle.s2_check.specs.Views.{IsSoft};
 
-use crate::code::{Code, code_in};
-use crate::copying::copy_bits;
+use crate::code::Code;
 use crate::options::{Flags, Options, mode_by, read_flags, wanted_by};
 use crate::receiver::copy_certificate;
 use crate::refusal::Refusal;
-use crate::slot::Slot;
 use crate::step::verdict_number;
 use s2_mode::MAX_SOFT;
 use s2_modem::Judge;
@@ -66,14 +62,13 @@ fn tuning_of(code: Code, flags: Flags, options: &Options) -> Result<Tuning, Refu
 }
 
 /// A judge on a code, by options. The first refusal is returned.
-pub fn new_judge(alloc: Global, code: &Slot, options: &Options) -> Result<Slot, Refusal>
-    ensures { MakesJudge (code_in_slot code.now) options.now result }
+pub fn new_judge(alloc: Global, code: &Code, options: &Options) -> Result<Judge<'static>, Refusal>
+    ensures { MakesJudge code.now options.now result }
 {
-    let code = code_in(code)?;
     let flags = read_flags(options)?;
-    let tuning = tuning_of(code, flags, options)?;
+    let tuning = tuning_of(*code, flags, options)?;
     match Judge::new(alloc, code.matrix, tuning) {
-        Ok(judge) => Ok(Slot::Judge(judge)),
+        Ok(judge) => Ok(judge),
         Err(_) => Err(Refusal::NoMemory),
     }
 }
@@ -91,7 +86,11 @@ fn are_soft(values: &[i16]) -> bool
 }
 
 /// Decides on soft values, and gives the number of the verdict.
-fn decide(judge: &mut Judge<'static>, soft: &[i16], verdict: &mut u32) -> Result<(), Refusal>
+pub fn judge_decide(
+    judge: &mut Judge<'static>,
+    soft: &[i16],
+    verdict: &mut u32,
+) -> Result<(), Refusal>
     ensures { DecidesOn judge.old judge.new soft.now verdict.old verdict.new result }
 {
     if soft.len() != judge.soft().len() || !are_soft(soft) {
@@ -101,38 +100,15 @@ fn decide(judge: &mut Judge<'static>, soft: &[i16], verdict: &mut u32) -> Result
     Ok(())
 }
 
-/// Has the judge of a slot decide on soft values, and gives the number of the verdict.
-pub fn judge_decide(slot: &mut Slot, soft: &[i16], verdict: &mut u32) -> Result<(), Refusal>
-    ensures { DecidesOnOf slot.old slot.new soft.now verdict.old verdict.new result }
-{
-    match slot {
-        Slot::Judge(judge) => decide(judge, soft, verdict),
-        _ => Err(Refusal::OtherKind),
-    }
-}
-
-/// Copies the bits that were decided last.
-pub fn judge_word(slot: &Slot, out: &mut [u8], count: &mut usize) -> Result<(), Refusal>
-    ensures { CopiesOf (listed (λ j. digits_of j.bits) (judge_in slot.now)) out.old out.new count.old count.new result }
-{
-    match slot {
-        Slot::Judge(judge) => copy_bits(judge.word().truths(), out, count),
-        _ => Err(Refusal::OtherKind),
-    }
-}
-
 /// Copies the certificate of the last decision.
 pub fn judge_certificate(
     alloc: Global,
-    slot: &Slot,
+    judge: &Judge<'static>,
     out: &mut [u8],
     count: &mut usize,
 ) -> Result<(), Refusal>
-    ensures { CopiesMadeOf (decided_file (judge_in slot.now)) out.old out.new count.old count.new result }
+    ensures { CopiesMade (file_in judge.now.certificate) out.old out.new count.old count.new result }
 {
-    let Slot::Judge(judge) = slot else {
-        return Err(Refusal::OtherKind);
-    };
     match judge.certificate() {
         Some(view) => copy_certificate(alloc, &view, out, count),
         None => Err(Refusal::NoneThere),

@@ -3,20 +3,17 @@ ghost use Rattle.std.specs.Prelude.{◌≡◌, IfErr, IfOk, IsOkUnless, Some, na
 ghost use Rattle.s2_check.specs.CertificateBytes.{bytes_of};
 ghost use Rattle.s2_mode.specs.Mode.{IsMode};
 ghost use Rattle.s2_link.specs.Link.{IsSetUp};
-ghost use Rattle.s2_modem.specs.Reception.{IsNew};
+ghost use Rattle.s2_modem.specs.Reception.{IsNew, certificate_of};
 ghost use Rattle.s2_library.specs.Asked.{flags_of, link_in, mode_in, setup_in};
-ghost use Rattle.s2_library.specs.Codes.{code_in as code_in_slot};
-ghost use Rattle.s2_library.specs.Copying.{digits_of};
+ghost use Rattle.s2_library.specs.Calls.{AdvancesReception, CopiesMade, GivesFields, GivesFieldsIf, ResetsReception, bbframe_in, figures_in, file_in, is_delivered, message_bytes, totals_in};
 ghost use Rattle.s2_library.specs.Fields as fields;
 ghost use Rattle.s2_library.specs.Refusals.{MakesReceiver, RefusesSetup, setup_refusal};
-ghost use Rattle.s2_library.specs.Slots.{AdvancesReception, AdvancesSlot, CopiesMadeOf, CopiesOf, Gives, GivesFields, GivesFieldsIf, ResetsReception, ResetsSlot, bbframe_in, figures_in, is_delivered, last_figures, listed, message_bytes, received_file, reception_in, receiver_in, room_in, sums_in, totals_in};
 
-use crate::code::{Code, code_in};
-use crate::copying::{copy_bits, copy_items};
+use crate::code::Code;
+use crate::copying::copy_items;
 use crate::figures::{FiguresFields, figures_fields, sums_fields};
 use crate::options::{Flags, Options, mode_by, read_flags, setup_by, wanted_by};
 use crate::refusal::Refusal;
-use crate::slot::Slot;
 use crate::step::{StepFields, step_fields};
 use crate::totals::{TotalsFields, totals_fields};
 use s2_bits::{Bits, bytes_from};
@@ -33,7 +30,7 @@ use std::alloc::Global;
 pub struct Reception {
     link: Link<'static>,
     tuning: Tuning,
-    receiver: Receiver<'static>,
+    pub receiver: Receiver<'static>,
     step: Option<Step>,
 }
 
@@ -90,26 +87,25 @@ fn receiver_on(
 }
 
 /// A receiver on a code, by options. The first refusal is returned.
-pub fn new_receiver(alloc: Global, code: &Slot, options: &Options) -> Result<Slot, Refusal>
-    ensures { MakesReceiver (code_in_slot code.now) options.now result }
+pub fn new_receiver(alloc: Global, code: &Code, options: &Options) -> Result<Reception, Refusal>
+    ensures { MakesReceiver code.now options.now result }
 {
-    let code = code_in(code)?;
     let flags = read_flags(options)?;
-    let link = link_by(code, options, flags)?;
+    let link = link_by(*code, options, flags)?;
     let Some(tuning) = tuning_by(&link.mode(), wanted_by(flags, options)) else {
         return Err(Refusal::BadTuning);
     };
     let receiver = receiver_on(alloc, &link, tuning)?;
-    Ok(Slot::Receiver(Reception {
+    Ok(Reception {
         link,
         tuning,
         receiver,
         step: None,
-    }))
+    })
 }
 
 /// Begins a new stream. The receiver is unchanged if memory is refused.
-fn reset(alloc: Global, reception: &mut Reception) -> Result<(), Refusal>
+pub fn receiver_reset(alloc: Global, reception: &mut Reception) -> Result<(), Refusal>
     ensures { ResetsReception reception.old reception.new result }
 {
     reception.receiver = receiver_on(alloc, &reception.link, reception.tuning)?;
@@ -117,29 +113,12 @@ fn reset(alloc: Global, reception: &mut Reception) -> Result<(), Refusal>
     Ok(())
 }
 
-/// Begins a new stream of the receiver of a slot.
-pub fn receiver_reset(alloc: Global, slot: &mut Slot) -> Result<(), Refusal>
-    ensures { ResetsSlot slot.old slot.new result }
-{
-    match slot {
-        Slot::Receiver(reception) => reset(alloc, reception),
-        _ => Err(Refusal::OtherKind),
-    }
-}
-
-/// The number of bytes that a receiver takes next.
-pub fn receiver_room(slot: &Slot, bytes: &mut usize) -> Result<(), Refusal>
-    ensures { Gives (room_in (receiver_in slot.now)) bytes.old bytes.new result }
-{
-    let Slot::Receiver(reception) = slot else {
-        return Err(Refusal::OtherKind);
-    };
-    *bytes = reception.receiver.room();
-    Ok(())
-}
-
 /// Gives a receiver bytes, no more than it takes next. The step is written and kept.
-fn advance(reception: &mut Reception, bytes: &[u8], step: &mut StepFields) -> Result<(), Refusal>
+pub fn receiver_advance(
+    reception: &mut Reception,
+    bytes: &[u8],
+    step: &mut StepFields,
+) -> Result<(), Refusal>
     ensures { AdvancesReception reception.old reception.new bytes.now step.old step.new result }
 {
     if step.size != crate::step::SIZE {
@@ -152,46 +131,6 @@ fn advance(reception: &mut Reception, bytes: &[u8], step: &mut StepFields) -> Re
     reception.step = made;
     *step = step_fields(made);
     Ok(())
-}
-
-/// Gives the receiver of a slot bytes, no more than it takes next.
-pub fn receiver_advance(slot: &mut Slot, bytes: &[u8], step: &mut StepFields) -> Result<(), Refusal>
-    ensures { AdvancesSlot slot.old slot.new bytes.now step.old step.new result }
-{
-    match slot {
-        Slot::Receiver(reception) => advance(reception, bytes, step),
-        _ => Err(Refusal::OtherKind),
-    }
-}
-
-/// Copies the packets that end in the frame of the last step.
-pub fn receiver_packets(slot: &Slot, out: &mut [u8], count: &mut usize) -> Result<(), Refusal>
-    ensures { CopiesOf (listed (λ r. r.packets) (receiver_in slot.now)) out.old out.new count.old count.new result }
-{
-    match slot {
-        Slot::Receiver(reception) => copy_items(reception.receiver.packets(), out, count),
-        _ => Err(Refusal::OtherKind),
-    }
-}
-
-/// Copies the soft values of the last frame.
-pub fn receiver_soft(slot: &Slot, out: &mut [i16], count: &mut usize) -> Result<(), Refusal>
-    ensures { CopiesOf (listed (λ r. r.last.soft) (receiver_in slot.now)) out.old out.new count.old count.new result }
-{
-    match slot {
-        Slot::Receiver(reception) => copy_items(reception.receiver.soft(), out, count),
-        _ => Err(Refusal::OtherKind),
-    }
-}
-
-/// Copies the decided bits of the last frame.
-pub fn receiver_word(slot: &Slot, out: &mut [u8], count: &mut usize) -> Result<(), Refusal>
-    ensures { CopiesOf (listed (λ r. digits_of r.last.bits) (receiver_in slot.now)) out.old out.new count.old count.new result }
-{
-    match slot {
-        Slot::Receiver(reception) => copy_bits(reception.receiver.word().truths(), out, count),
-        _ => Err(Refusal::OtherKind),
-    }
 }
 
 /// The bytes of a message, descrambled.
@@ -227,15 +166,12 @@ fn is_delivered(step: Option<Step>) -> bool
 /// Copies the BBFRAME of the last step.
 pub fn receiver_bbframe(
     alloc: Global,
-    slot: &Slot,
+    reception: &Reception,
     out: &mut [u8],
     count: &mut usize,
 ) -> Result<(), Refusal>
-    ensures { CopiesMadeOf (bbframe_in (reception_in slot.now)) out.old out.new count.old count.new result }
+    ensures { CopiesMade (bbframe_in reception.now) out.old out.new count.old count.new result }
 {
-    let Slot::Receiver(reception) = slot else {
-        return Err(Refusal::OtherKind);
-    };
     if !is_delivered(reception.step) {
         return Err(Refusal::NoneThere);
     }
@@ -250,7 +186,7 @@ pub(crate) fn copy_certificate(
     out: &mut [u8],
     count: &mut usize,
 ) -> Result<(), Refusal>
-    ensures { CopiesMadeOf (Some (Some (bytes_of view.now))) out.old out.new count.old count.new result }
+    ensures { CopiesMade (Some (bytes_of view.now)) out.old out.new count.old count.new result }
 {
     let mut sink = Counting::new(Vec::new(alloc));
     if view.write(&mut sink).is_err() {
@@ -263,15 +199,12 @@ pub(crate) fn copy_certificate(
 /// Copies the certificate of the last step.
 pub fn receiver_certificate(
     alloc: Global,
-    slot: &Slot,
+    reception: &Reception,
     out: &mut [u8],
     count: &mut usize,
 ) -> Result<(), Refusal>
-    ensures { CopiesMadeOf (received_file (receiver_in slot.now)) out.old out.new count.old count.new result }
+    ensures { CopiesMade (file_in (certificate_of reception.now.receiver)) out.old out.new count.old count.new result }
 {
-    let Slot::Receiver(reception) = slot else {
-        return Err(Refusal::OtherKind);
-    };
     match reception.receiver.certificate() {
         Some(view) => copy_certificate(alloc, &view, out, count),
         None => Err(Refusal::NoneThere),
@@ -289,12 +222,9 @@ fn figures_in(step: Option<Step>) -> Option<Figures>
 }
 
 /// Gives the figures of the last step.
-pub fn receiver_figures(slot: &Slot, out: &mut FiguresFields) -> Result<(), Refusal>
-    ensures { GivesFieldsIf fields.figures_fields (last_figures (reception_in slot.now)) (nat_eq out.old.size 144) out.old out.new result }
+pub fn receiver_figures(reception: &Reception, out: &mut FiguresFields) -> Result<(), Refusal>
+    ensures { GivesFieldsIf fields.figures_fields (figures_in reception.now.step) (nat_eq out.old.size 144) out.old out.new result }
 {
-    let Slot::Receiver(reception) = slot else {
-        return Err(Refusal::OtherKind);
-    };
     if out.size != crate::figures::SIZE {
         return Err(Refusal::BadSize);
     }
@@ -308,12 +238,9 @@ pub fn receiver_figures(slot: &Slot, out: &mut FiguresFields) -> Result<(), Refu
 }
 
 /// Gives the sums of figures.
-pub fn receiver_sums(slot: &Slot, out: &mut FiguresFields) -> Result<(), Refusal>
-    ensures { GivesFieldsIf fields.sums_fields (sums_in (receiver_in slot.now)) (nat_eq out.old.size 144) out.old out.new result }
+pub fn receiver_sums(reception: &Reception, out: &mut FiguresFields) -> Result<(), Refusal>
+    ensures { GivesFieldsIf fields.sums_fields (totals_in reception.now.receiver).sums (nat_eq out.old.size 144) out.old out.new result }
 {
-    let Slot::Receiver(reception) = slot else {
-        return Err(Refusal::OtherKind);
-    };
     if out.size != crate::figures::SIZE {
         return Err(Refusal::BadSize);
     }
@@ -327,12 +254,9 @@ pub fn receiver_sums(slot: &Slot, out: &mut FiguresFields) -> Result<(), Refusal
 }
 
 /// Gives the totals.
-pub fn receiver_totals(slot: &Slot, out: &mut TotalsFields) -> Result<(), Refusal>
-    ensures { GivesFields fields.totals_fields (totals_in (receiver_in slot.now)) (nat_eq out.old.size 120) out.old out.new result }
+pub fn receiver_totals(reception: &Reception, out: &mut TotalsFields) -> Result<(), Refusal>
+    ensures { GivesFields fields.totals_fields (totals_in reception.now.receiver) (nat_eq out.old.size 120) out.old out.new result }
 {
-    let Slot::Receiver(reception) = slot else {
-        return Err(Refusal::OtherKind);
-    };
     if out.size != crate::totals::SIZE {
         return Err(Refusal::BadSize);
     }

@@ -1,10 +1,9 @@
 //! Scanners of unknown recordings.
 ghost use Rattle.std.specs.Prelude.{◌≡◌, nat_eq, slice_get};
 ghost use Rattle.s2_library.specs.Fields as fields;
-ghost use Rattle.s2_library.specs.Slots.{Finds, FindsOf, GivesFieldsIf, IsNewScanner, KeepsBytes, KeepsBytesOf, scanner_in, seen_in};
+ghost use Rattle.s2_library.specs.Calls.{Finds, GivesFieldsIf, IsNewScanner, KeepsBytes};
 
 use crate::refusal::Refusal;
-use crate::slot::Slot;
 use s2_scan::{Candidate, find_headers};
 use std::alloc::Global;
 
@@ -47,17 +46,17 @@ impl Drop for Scanner {
 }
 
 /// A scanner that has seen nothing.
-pub fn new_scanner(alloc: Global) -> Slot
+pub fn new_scanner(alloc: Global) -> Scanner
     ensures { IsNewScanner result }
 {
-    Slot::Scanner(Scanner {
+    Scanner {
         bytes: Vec::new(alloc),
         found: Vec::new(alloc),
-    })
+    }
 }
 
 /// Gives a scanner bytes of symbols.
-fn feed(scanner: &mut Scanner, bytes: &[u8]) -> Result<(), Refusal>
+pub fn scan_feed(scanner: &mut Scanner, bytes: &[u8]) -> Result<(), Refusal>
     ensures { KeepsBytes scanner.old scanner.new bytes.now result }
 {
     if bytes.len() > MOST || scanner.bytes.len() > MOST - bytes.len() {
@@ -69,18 +68,8 @@ fn feed(scanner: &mut Scanner, bytes: &[u8]) -> Result<(), Refusal>
     }
 }
 
-/// Gives the scanner of a slot bytes of symbols.
-pub fn scan_feed(slot: &mut Slot, bytes: &[u8]) -> Result<(), Refusal>
-    ensures { KeepsBytesOf slot.old slot.new bytes.now result }
-{
-    match slot {
-        Slot::Scanner(scanner) => feed(scanner, bytes),
-        _ => Err(Refusal::OtherKind),
-    }
-}
-
 /// Searches the bytes so far, and gives the number of kinds of headers that were seen.
-fn find(alloc: Global, scanner: &mut Scanner, count: &mut usize) -> Result<(), Refusal>
+pub fn scan_find(alloc: Global, scanner: &mut Scanner, count: &mut usize) -> Result<(), Refusal>
     ensures { Finds scanner.old scanner.new count.old count.new result }
 {
     match find_headers(alloc, &scanner.bytes) {
@@ -90,16 +79,6 @@ fn find(alloc: Global, scanner: &mut Scanner, count: &mut usize) -> Result<(), R
             Ok(())
         }
         Err(_) => Err(Refusal::NoMemory),
-    }
-}
-
-/// Searches the bytes of a slot's scanner so far, and gives the number of kinds of headers that were seen.
-pub fn scan_find(alloc: Global, slot: &mut Slot, count: &mut usize) -> Result<(), Refusal>
-    ensures { FindsOf slot.old slot.new count.old count.new result }
-{
-    match slot {
-        Slot::Scanner(scanner) => find(alloc, scanner, count),
-        _ => Err(Refusal::OtherKind),
     }
 }
 
@@ -134,12 +113,9 @@ fn seen_at(scanner: &Scanner, place: usize) -> Option<Candidate>
 }
 
 /// Gives the kind of headers that the last search found at a place.
-pub fn scan_at(slot: &Slot, place: usize, out: &mut SeenFields) -> Result<(), Refusal>
-    ensures { GivesFieldsIf fields.seen_fields (seen_in (scanner_in slot.now) place) (nat_eq out.old.size 96) out.old out.new result }
+pub fn scan_at(scanner: &Scanner, place: usize, out: &mut SeenFields) -> Result<(), Refusal>
+    ensures { GivesFieldsIf fields.seen_fields (slice_get scanner.now.found.items place) (nat_eq out.old.size 96) out.old out.new result }
 {
-    let Slot::Scanner(scanner) = slot else {
-        return Err(Refusal::OtherKind);
-    };
     if out.size != SIZE {
         return Err(Refusal::BadSize);
     }

@@ -1,13 +1,12 @@
 //! Shelves, on which codes are found again by their rows.
-ghost use Rattle.std.specs.Prelude.{◌≡◌, ◌↔◌, ◌++◌, ◌∷◌, [], IfErr, IfOk, IfSome, IsErr, IsOk, IsOkUnless, IsTrue, None};
+ghost use Rattle.std.specs.Prelude.{◌≡◌, ◌↔◌, ◌++◌, ◌∷◌, [], IfErr, IfOk, IfSome, IsErr, IsOkUnless, IsTrue, None};
 ghost use Rattle.s2_mode.specs.Mode.{shape_in};
 ghost use Rattle.s2_library.specs.Refusals.{RefusesRows};
-ghost use Rattle.s2_library.specs.Shelves.{HaveSameRows, IsNewShelf, IsOn, IsShelved, Puts, Shelves, ShelvesOf};
+ghost use Rattle.s2_library.specs.Shelves.{HaveSameRows, IsOn, IsShelved, Puts, Shelves};
 
 use crate::code::{Code, keep, matrix_of};
 use crate::options::mode_of_numbers;
 use crate::refusal::Refusal;
-use crate::slot::Slot;
 use s2_matrix::Matrix;
 use s2_mode::Mode;
 use s2_table::is_standard;
@@ -35,12 +34,12 @@ impl Model for Shelf {
 }
 
 /// An empty shelf.
-pub fn new_shelf(alloc: Global) -> Slot
-    ensures { IsNewShelf result }
+pub fn new_shelf(alloc: Global) -> Shelf
+    ensures { result ≡ [] }
 {
-    Slot::Shelf(Shelf {
+    Shelf {
         codes: Vec::new(alloc),
-    })
+    }
 }
 
 /// Whether two codes of one shape have the same rows.
@@ -121,31 +120,15 @@ fn code_on(alloc: Global, shelf: &mut Shelf, text: &[u8], mode: Mode) -> Result<
 }
 
 /// The code of a mode, from the text of a row file: the one on the shelf, or a new one that is put there.
-fn code_by(
+pub fn shelf_code(
     alloc: Global,
     shelf: &mut Shelf,
     text: &[u8],
     modcod: u32,
     is_short: u32,
-) -> Result<Slot, Refusal>
+) -> Result<Code, Refusal>
     ensures { Shelves text.now modcod is_short shelf.old shelf.new result }
 {
     let mode = mode_of_numbers(modcod, is_short, 0)?;
-    Ok(Slot::Code(code_on(alloc, shelf, text, mode)?))
-}
-
-/// The code of a mode from the shelf of a slot.
-pub fn shelf_code(
-    alloc: Global,
-    slot: &mut Slot,
-    text: &[u8],
-    modcod: u32,
-    is_short: u32,
-) -> Result<Slot, Refusal>
-    ensures { ShelvesOf text.now modcod is_short slot.old slot.new result }
-{
-    match slot {
-        Slot::Shelf(shelf) => code_by(alloc, shelf, text, modcod, is_short),
-        _ => Err(Refusal::OtherKind),
-    }
+    code_on(alloc, shelf, text, mode)
 }

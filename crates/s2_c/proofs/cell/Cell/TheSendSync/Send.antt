@@ -12,8 +12,8 @@ use Rattle.std.proofs.Crossing.{frees}
 use Rattle.std_alloc.proofs.SendSync.{lies}
 use Rattle.s2_c.specs.Cells.{held, process_heap}
 use Rattle.s2_c.specs.contracts.cell.Cell.{the_row, the_type}
-use Rattle.s2_library.proofs.slot.Slot.TheSendSync.{the_send}
-use Rattle.s2_library.specs.contracts.slot.Slot.{the_row as S}
+use Rattle.s2_c.proofs.slot.Slot.TheSendSync.{the_send}
+use Rattle.s2_c.specs.contracts.slot.Slot.{the_row as S}
 
 pointer_send : IsSend RawPtr
 pointer_send = search sendable

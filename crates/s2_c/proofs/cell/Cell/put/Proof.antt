@@ -31,7 +31,7 @@ use Rattle.std.specs.contracts.alloc.Global as heap
 use Rattle.std.proofs.alloc.Global.TheLaws as heap_laws
 use Rattle.std.specs.contracts.impls.GlobalAllocator.TheImpl.{ghosts}
 use Rattle.s2_c.specs.contracts.cell.Cell.{the_row as R, the_type}
-use Rattle.s2_library.specs.contracts.slot.Slot.{the_row as S}
+use Rattle.s2_c.specs.contracts.slot.Slot.{the_row as S}
 use Rattle.s2_c.proofs.cell.Cell.TheLaws.{lowers}
 use Rattle.s2_c.proofs.Values.{both, Loose, loose_good, loose_out}
 use Rattle.s2_c.specs.contracts.cell.Cell.put as f

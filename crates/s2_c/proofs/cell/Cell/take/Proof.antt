@@ -31,7 +31,7 @@ use Rattle.std.specs.contracts.impls.GlobalAllocator.TheImpl.{ghosts}
 use Rattle.std_alloc.specs.Box.Ownership.{box_owns}
 use Rattle.s2_c.specs.Cells.{held}
 use Rattle.s2_c.specs.contracts.cell.Cell.{the_row as R}
-use Rattle.s2_library.specs.contracts.slot.Slot.{the_row as S}
+use Rattle.s2_c.specs.contracts.slot.Slot.{the_row as S}
 use Rattle.s2_c.proofs.cell.Cell.TheLaws.{lowers}
 use Rattle.s2_c.proofs.Opened.{held_of, one_of}
 use Rattle.s2_c.proofs.Values.{both, Loose, loose_good, loose_in}

@@ -1,8 +1,5 @@
 //! The contents of a handle.
-use crate::code::Code;
-use crate::receiver::Reception;
-use crate::scanner::Scanner;
-use crate::shelf::Shelf;
+use s2_library::{Code, Reception, Scanner, Shelf};
 use s2_modem::Judge;
 use s2_send::Sender;
 
