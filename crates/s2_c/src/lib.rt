@@ -1,7 +1,7 @@
 //! The modem for C: `include/s2.h` declares the exports of this crate.
 //!
 //! A [`Handle`] has a pointer to a block with a [`Slot`], or it is empty. An export takes the slot out, calls `s2_library` on
-//! what is in it, and puts it back (`on_contents!`). Only [`Cell`] and `Loose` touch the pointer.
+//! its content, and puts it back (`on_contents!`). Only [`Cell`] and `Loose` touch the pointer.
 #![tactic(auto)]
 
 mod cell;

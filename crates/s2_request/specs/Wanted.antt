@@ -17,7 +17,7 @@ number_of words = record { is_given = words.is_given; value = words.value }
 abbrev pub not_given : ℕ → NumberArguments
 not_given number = record { is_given = false; value = number }
 
--- what the options of a receiver ask for: each the setting of its name
+-- the settings that the options of a receiver name
 abbrev pub wanted_of : TuningArguments → Wanted
 wanted_of words = record {
   rounds = number_of words.rounds;

@@ -1,4 +1,4 @@
-//! What a command was asked for.
+//! The requests of a command line.
 //!
 //! A [`Request`] is a command with all its options, as plain numbers and texts. `s2_cli` reads it from the command line, within the
 //! ranges of [`limits`]. [`setup_of`], [`shape_of`] and [`tuning_of`] make the types of the stages of it. The ranges are those of these
