@@ -167,7 +167,7 @@ typedef struct s2_options {
     uint32_t figures;           /* 1: each frame has figures */
     uint32_t turns;             /* 1: also frames whose symbols are rotated by quarter turns */
     uint32_t equalize;          /* 1: the gain of the channel is taken out of each frame before it is decided */
-    uint32_t resync;            /* 1: a frame may also begin in a lost one; frames come after 90 symbols more */
+    uint32_t resync;            /* 1: a frame may also begin in a lost one; such a frame comes after 90 symbols more */
     uint32_t correction;        /* of min-sum, in 1/64 of the mean size of soft values, 0 to 63; default 0 */
     uint32_t reserved[12];
 } s2_options;
@@ -249,7 +249,7 @@ int32_t s2_receiver_new(s2_code *code, const s2_options *options, s2_receiver *r
 int32_t s2_receiver_reset(s2_receiver *receiver);
 
 /* *bytes: how many bytes of symbols are wanted next; 0 after the end. Never over four times the symbols of a frame, with
- * `resync` four times these and 90 more, those of the next header. */
+ * `resync` four times these and 90 more: a frame inside a lost one needs the next header too. */
 int32_t s2_receiver_room(s2_receiver *receiver, size_t *bytes);
 
 /* Takes bytes of symbols: as many as s2_receiver_room says, or fewer if the stream ends with them. Fewer always mean

@@ -1,7 +1,7 @@
 """Receives a file of complex symbols: receive.py ROWS SYMBOLS PACKETS
 
 The mode is QPSK 3/4 with pilots. SYMBOLS has 32-bit floats, amplitude 1: the form cf32_le of tools/convert. It prints the dictionary of each
-frame, and the line of one that comes only with the end of the stream."""
+frame, and the line of one in a lost frame that comes only with the end of the stream."""
 import sys
 
 from gnuradio import blocks, gr, sembarohy

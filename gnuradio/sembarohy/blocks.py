@@ -55,9 +55,9 @@ class receiver(Ending):
     outcome, packets, fixed if it was delivered, and figures if these are requested. The first byte of each frame's packets has the tag `frame`
     with it.
 
-    With `tuned` and with `resync` a frame comes after 90 symbols more, or with the end of the stream. GNU Radio does not say to a block that its
-    input has ended. So the packets of a frame that comes with the end are not written: after the graph has ended, `last` has these frames, and
-    `totals` and `cut` are those of the stream."""
+    A frame comes with its last symbol. With `tuned` and with `resync` one that begins inside a lost frame comes after 90 symbols more, or with
+    the end of the stream. GNU Radio does not say to a block that its input has ended. So the packets of a frame that comes with the end are not
+    written: after the graph has ended, `last` has these frames, and `totals` and `cut` are those of the stream."""
 
     def __init__(self, rows, mode, short=False, pilots=False, tuned=True, uncertified=False, figures=False, scrambling=0, amplitude=1.0, **tuning):
         gr.basic_block.__init__(self, name="DVB-S2 receiver", in_sig=[numpy.complex64], out_sig=[numpy.uint8])

@@ -158,7 +158,7 @@ class Receiver(Held):
     The options are those of `s2 demod` (`docs/formats.md`). `mode` is a MODCOD or a name. `tuned` selects the numbers that were measured
     to be best for the mode; `rounds`, `passes`, `divisor`, `factor`, `correction` and `max_header_errors` (`--lock`) win over them. `uncertified` skips
     the search for certificates, and `figures` measures each frame. With `turns` frames are also received whose symbols are rotated by quarter
-    turns. With `resync` a frame may also begin in a lost one; then a frame comes after 90 symbols more, those of the next header, or from
+    turns. With `resync` a frame may also begin in a lost one; such a frame comes after 90 symbols more, those of the next header, or from
     `close`. `tuned` includes both. `equalize` takes the gain of the channel out of each frame before it is decided. `scrambling` is the number
     of the scrambling sequence. `keep` names records that each frame reads at once, of `RECORDS`.
 

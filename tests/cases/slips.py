@@ -66,6 +66,20 @@ def skipped(symbols, places):
     return Case(f"demod {LINK} --resync made in out", 0, delivers(places, None), ANY, reads={"in": symbols}, writes={"out": ANY})
 
 
+def headers_alone(symbols, count):
+    """The header of the first frame, so often. At each a frame begins, and none can be decoded."""
+    return symbols[: 4 * HEADER] * count
+
+
+def begins(places):
+    """Holds for a report with frames at exactly these places, all lost."""
+
+    def told(got):
+        return [(int(words[3]), words[-1]) for words in frames_of(got)] == [(place, "lost") for place in places]
+
+    return Rule(f"lost at {places}", told)
+
+
 def cases(made_by):
     """The cases, on symbols that a function makes of the words of `mod` and of packets."""
     five = made_by(f"mod {LINK} made in out", {"in": PACKETS})
@@ -92,6 +106,12 @@ def cases(made_by):
     symbols, places = slip(five, 1, True)
     yield received(symbols, [it for it in places if it != 2 * FRAME - 1], FRAME, "")
     yield received(*slip(five, 1, False), FRAME, "")
+    # In headers alone each frame is lost. A header follows each one, so the first frame has another one inside it, a header later. That one is not
+    # searched again: the next frame begins after its symbols, and it is searched again. A frame has the length of a whole number of headers.
+    repeated, pair = headers_alone(five, 3 * (FRAME // HEADER + 1)), FRAME + HEADER
+    twice = [pair * at + inside for at in range(3) for inside in (0, HEADER)]
+    for options, places in (("", [0, FRAME, 2 * FRAME]), ("--resync", twice), ("--tuned", twice)):
+        yield Case(f"demod {LINK} {options} made in out", NO, begins(places), ANY, reads={"in": repeated}, writes={"out": b""})
     # without a lost frame nothing is searched again
     for options in ("", "--resync"):
         yield Case(f"demod {LINK} {options} made in out", 0, ANY, reads={"in": five}, writes={"out": PACKETS})

@@ -189,7 +189,7 @@ arrival_law m valid sizes t tuning count_old count_new source written counts tot
     let just = frames_at rules.size 0 h.pieces in
     let sent : symbols_of written ≡ stream_symbols h.pieces ++ [] = ap symbols_of (runs.written ∙ ap (λ l. joined runs.units ++ l) runs.begins) ∙ h.symbols [] in
     let met_is : met ≡ just ++ ended no_gap ∷ [] =
-    sym (all_met rules (symbols_of written) state before.taken got.left met spelt got.runs_out.0 processed.left) ∙ ap (met_from rules.finds (searched_again rules) rules.size 0 0 false no_gap) sent ∙ g.met in
+    sym (all_met rules (symbols_of written) state before.taken got.left met spelt got.runs_out.0 processed.left) ∙ ap (met_from rules.finds (searched_again rules) rules.size 0 0 0 false no_gap) sent ∙ g.met in
     let end = after_all rules at_start just in
     let last = with_gap end.totals no_gap in
     let all = g.all refl in

@@ -89,13 +89,13 @@ module _ (link : Link) (tuning : Tuning) (stream : List Symbol) (limit : ℕ) wh
       (record { lines = lines; numbers = refl; frames_are = omega arith; delivered_are = omega arith; cut_only = inl refl; ones = All-nil IsOne })
 
 -- fewer symbols than a frame has give no packet
-none_given : (rules : Rules) (at inside : ℕ) (behind : Bool) (skipped : Gap) (symbols : List Symbol) (s : Standing) → length symbols < rules.size
-    → all_packets rules s (met_from rules.finds (searched_again rules) rules.size at inside behind skipped symbols) ≡ []
-none_given rules at inside behind skipped [] s few = refl
-none_given rules at (suc inside) behind skipped (x ∷ symbols) s few = none_given rules (at + 1) inside true skipped symbols s (omega arith)
-none_given rules at zero behind skipped (x ∷ symbols) s few =
-    by (begins (rules.finds behind) (x ∷ symbols)) _ (lt-leb rules.size (length (x ∷ symbols)) few) _ _ _ (none_given rules (at + 1) 3329 true skipped symbols s (omega arith))
-    (none_given rules (at + 1) 0 false (extended skipped at 1) symbols s (omega arith))
+none_given : (rules : Rules) (until at inside : ℕ) (behind : Bool) (skipped : Gap) (symbols : List Symbol) (s : Standing) → length symbols < rules.size
+    → all_packets rules s (met_from rules.finds (searched_again rules) rules.size until at inside behind skipped symbols) ≡ []
+none_given rules until at inside behind skipped [] s few = refl
+none_given rules until at (suc inside) behind skipped (x ∷ symbols) s few = none_given rules until (at + 1) inside true skipped symbols s (omega arith)
+none_given rules until at zero behind skipped (x ∷ symbols) s few =
+    by (begins (rules.finds behind) (x ∷ symbols)) _ (lt-leb rules.size (length (x ∷ symbols)) few) _ _ _ (none_given rules until (at + 1) 3329 true skipped symbols s (omega arith))
+    (none_given rules until (at + 1) 0 false (extended skipped at 1) symbols s (omega arith))
   where
     by : (f : Found) (whole : Bool) → whole ≡ false → (one dummies none : List Met) → all_packets rules s dummies ≡ [] → all_packets rules s none ≡ []
         → all_packets rules s (by_found f (cond whole one (cut at skipped (length (x ∷ symbols)) ∷ (ended no_gap ∷ []))) dummies none) ≡ []
@@ -118,7 +118,7 @@ module _ (m : Mode) (valid : IsMode m) (sizes : HasCodeSizes m) (link : Link) (t
         ((whole.0, whole.1, (both_codes_law m valid sizes link tuning symbols at field codeword sent few).delivered), tt)
 
     abbrev met_on : List Symbol → List Met
-    met_on symbols = met_from by.finds (searched_again by) by.size 0 0 false no_gap symbols
+    met_on symbols = met_from by.finds (searched_again by) by.size 0 0 0 false no_gap symbols
 
     -- their packets are written first, and no other ones where no whole frame follows
     heard : (symbols : List Symbol) (packets fields later : List (List ℕ)) (pieces : List Piece) (rest : List Symbol) → Arriving link tuning symbols packets fields later pieces rest
@@ -133,9 +133,9 @@ module _ (m : Mode) (valid : IsMode m) (sizes : HasCodeSizes m) (link : Link) (t
         let just = frames_at by.size 0 pieces in
         let n = length (stream_symbols pieces) in
         let s = after_all by at_start just in
-        let more = met_from by.finds (searched_again by) by.size n 0 (nat_lt 0 n) no_gap rest in
+        let more = met_from by.finds (searched_again by) by.size 0 n 0 (nat_lt 0 n) no_gap rest in
         let is = ap (all_packets by at_start) (ap met_on a.spelt ∙ g.met) ∙ packets-append by just more at_start ∙ ap (λ l. l ++ all_packets by s more) g.written in
-        ((all_packets by s more, is, none_given by n 0 (nat_lt 0 n) no_gap rest s), λ none. ap joined (g.all none))
+        ((all_packets by s more, is, none_given by 0 n 0 (nat_lt 0 n) no_gap rest s), λ none. ap joined (g.all none))
 
     headline : (symbols : List Symbol) → Headline link tuning symbols (all_packets by at_start (met_on symbols)) (all_lines by at_start (met_on symbols))
     headline symbols =

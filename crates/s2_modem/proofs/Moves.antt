@@ -1,5 +1,5 @@
 -- Where a search stands after some moves, and what is met from there on.
-use Rattle.s2_modem.proofs.Names.{◌≡◌, ℕ, zero, suc, ◌+◌, ◌-◌, ◌<◌, ◌≤◌, Bool, true, false, List, [], ◌∷◌, ◌++◌, length, take, drop, inl, inr, cases_lt, refl, sym, ap, ◌∙◌, subst, append_assoc, length-append, length-drop, length-take, take-take, drop-drop, drop_all, cond-true, cond-false, le-leb, lt-leb, and-true, and_right, arith, ◌&&◌, nat_eq, Mode, symbols_in, Symbol, Found, Tuning, Link, Gap, Report, cut_line, Met, frame, cut, ended, no_gap, extended, begins, met_from, met-extended, met-dummy, met-inside, behind_or, front_frame, rest_of, cut_frame, is_searched_again, passed_at, symbols_least, Rules, Standing, at_start, report_of, after, found_as, link_rules, frame_from, Place, found_at, past, stands, IsFrameAt, IsCutAt, IsNext, IsWholeFrame, frame_decision, report_at, sought_by}
+use Rattle.s2_modem.proofs.Names.{◌≡◌, ℕ, zero, suc, ◌+◌, ◌-◌, ◌<◌, ◌≤◌, Bool, true, false, List, [], ◌∷◌, ◌++◌, length, take, drop, inl, inr, cases_lt, refl, sym, ap, ◌∙◌, subst, append_assoc, length-append, length-drop, length-take, take-take, drop-drop, drop_all, cond-true, cond-false, le-leb, lt-leb, and-true, and_right, arith, ◌&&◌, nat_eq, Mode, symbols_in, Symbol, Found, Tuning, Link, Gap, Report, cut_line, Met, frame, cut, ended, no_gap, extended, begins, met_from, met-extended, met-dummy, met-inside, behind_or, front_frame, rest_of, cut_frame, is_searched_again, passed_at, until_past, symbols_least, Rules, Standing, at_start, report_of, after, found_as, link_rules, frame_from, Place, found_at, past, stands, IsFrameAt, IsCutAt, IsNext, IsWholeFrame, frame_decision, report_at, sought_by}
 use Rattle.s2_modem.proofs.Names.founds
 
 -- the reports of frames that were met, and the line of one that is cut
@@ -37,7 +37,7 @@ module _ (link : Link) (tuning : Tuning) (stream : List Symbol) where
 
   -- what is met from there on
   abbrev pub met_at : Place → Gap → List Met
-  met_at p skipped = met_from finds lost size p.at 0 p.behind skipped (left p)
+  met_at p skipped = met_from finds lost size p.until p.at 0 p.behind skipped (left p)
 
   -- ---- a move
 
@@ -45,30 +45,31 @@ module _ (link : Link) (tuning : Tuning) (stream : List Symbol) where
       → met_at p skipped ≡ frame p.at skipped (frame_from link stream p.at) ∷ met_at (past link tuning stream p founds.Coded) no_gap
   coded_move p skipped here long =
       let all = left p in
-      let n = rest_of finds lost size all in
+      let n = rest_of finds lost size p.until p.at all in
+      let u = until_past link tuning stream p in
       let enough : size ≤ length all = omega (arith, length-drop p.at stream) in
-      front_frame finds lost size all p.at p.behind skipped enough (symbols_least mode) here
+      front_frame finds lost size p.until all p.at p.behind skipped enough (symbols_least mode) here
       ∙ ap (λ l. frame p.at skipped (take size all) ∷ l)
-      (met-inside finds lost size n (p.at + 1) true no_gap (drop 1 all)
-      ∙ ap (λ b. met_from finds lost size (p.at + 1 + n) 0 b no_gap (drop n (drop 1 all))) (behind_or n true)
-      ∙ ap (λ a. met_from finds lost size a 0 true no_gap (drop n (drop 1 all))) (omega arith)
-      ∙ ap (met_from finds lost size (p.at + (1 + n)) 0 true no_gap) (drop-drop n 1 all ∙ drop-drop (1 + n) p.at stream)
-      ∙ ap (λ k. met_from finds lost size (p.at + k) 0 true no_gap (drop (p.at + k) stream)) (sym (cond-true _ _ _ (le-leb size (length all) enough))))
+      (met-inside finds lost size u n (p.at + 1) true no_gap (drop 1 all)
+      ∙ ap (λ b. met_from finds lost size u (p.at + 1 + n) 0 b no_gap (drop n (drop 1 all))) (behind_or n true)
+      ∙ ap (λ a. met_from finds lost size u a 0 true no_gap (drop n (drop 1 all))) (omega arith)
+      ∙ ap (met_from finds lost size u (p.at + (1 + n)) 0 true no_gap) (drop-drop n 1 all ∙ drop-drop (1 + n) p.at stream)
+      ∙ ap (λ k. met_from finds lost size u (p.at + k) 0 true no_gap (drop (p.at + k) stream)) (sym (cond-true _ _ _ (le-leb size (length all) enough))))
 
   dummy_move : (p : Place) (skipped : Gap) → found_at link tuning stream p ≡ founds.Dummy → met_at p skipped ≡ met_at (past link tuning stream p founds.Dummy) skipped
-  dummy_move p skipped here = met-dummy finds lost size p.at p.behind skipped (left p) here ∙ ap (met_from finds lost size (p.at + 3330) 0 true skipped) (drop-drop 3330 p.at stream)
+  dummy_move p skipped here = met-dummy finds lost size p.until p.at p.behind skipped (left p) here ∙ ap (met_from finds lost size p.until (p.at + 3330) 0 true skipped) (drop-drop 3330 p.at stream)
 
   next_move : (p : Place) (skipped : Gap) → found_at link tuning stream p ≡ founds.Nothing → p.at < length stream → met_at p skipped ≡ met_at (past link tuning stream p founds.Nothing) (extended skipped p.at 1)
   next_move p skipped here more =
       let none : (i : ℕ) → i < 1 → begins (finds (p.behind && nat_eq i 0)) (drop i (left p)) ≡ founds.Nothing =
       λ i low. (let first : 0 ≡ i = omega arith in
       subst (λ k. begins (finds (p.behind && nat_eq k 0)) (drop k (left p)) ≡ founds.Nothing) first (ap (λ b. begins (finds b) (left p)) (and-true p.behind) ∙ here)) in
-      met-extended finds lost size 1 p.at p.behind skipped (left p) (omega (arith, length-drop p.at stream)) none
-      ∙ ap (λ b. met_from finds lost size (p.at + 1) 0 b (extended skipped p.at 1) (drop 1 (left p))) (and_right p.behind false refl)
-      ∙ ap (met_from finds lost size (p.at + 1) 0 false (extended skipped p.at 1)) (drop-drop 1 p.at stream)
+      met-extended finds lost size p.until 1 p.at p.behind skipped (left p) (omega (arith, length-drop p.at stream)) none
+      ∙ ap (λ b. met_from finds lost size p.until (p.at + 1) 0 b (extended skipped p.at 1) (drop 1 (left p))) (and_right p.behind false refl)
+      ∙ ap (met_from finds lost size p.until (p.at + 1) 0 false (extended skipped p.at 1)) (drop-drop 1 p.at stream)
 
   cut_move : (p : Place) (skipped : Gap) → IsCutAt link tuning stream p → met_at p skipped ≡ cut p.at skipped (length (left p)) ∷ ended no_gap ∷ []
-  cut_move p skipped (here, few) = cut_frame finds lost size (left p) p.at p.behind skipped (omega (arith, length-drop p.at stream, symbols_least mode)) here
+  cut_move p skipped (here, few) = cut_frame finds lost size p.until (left p) p.at p.behind skipped (omega (arith, length-drop p.at stream, symbols_least mode)) here
 
   -- ---- all that is met
 
@@ -88,15 +89,15 @@ module _ (link : Link) (tuning : Tuning) (stream : List Symbol) where
   AreMet count (ended skipped ∷ later) = later ≡ []
 
   nothing_left : (count : ℕ) (p : Place) (skipped : Gap) → length stream ≤ p.at → AreMet count (met_at p skipped)
-  nothing_left count p skipped done = subst (λ l. AreMet count (met_from finds lost size p.at 0 p.behind skipped l)) (sym (drop_all p.at stream done)) refl
+  nothing_left count p skipped done = subst (λ l. AreMet count (met_from finds lost size p.until p.at 0 p.behind skipped l)) (sym (drop_all p.at stream done)) refl
 
   next_place : (n : ℕ) (p : Place) (f : Found) → p ≡ stands link tuning stream n → found_at link tuning stream p ≡ f → past link tuning stream p f ≡ stands link tuning stream (suc n)
   next_place n p f is e = ap (past link tuning stream p) (sym e) ∙ ap (λ q. past link tuning stream q (found_at link tuning stream q)) is
 
   -- a whole frame is passed by a symbol at least
-  farther : (k : ℕ) (p : Place) → length stream < p.at + suc k → p.at + size ≤ length stream → length stream < p.at + passed_at link tuning stream p.at + k
+  farther : (k : ℕ) (p : Place) → length stream < p.at + suc k → p.at + size ≤ length stream → length stream < p.at + passed_at link tuning stream p + k
   farther k p h whole =
-      let some : passed_at link tuning stream p.at ≡ 1 + rest_of finds lost size (left p) = cond-true _ _ _ (le-leb size (length (left p)) (omega (arith, length-drop p.at stream))) in
+      let some : passed_at link tuning stream p ≡ 1 + rest_of finds lost size p.until p.at (left p) = cond-true _ _ _ (le-leb size (length (left p)) (omega (arith, length-drop p.at stream))) in
       omega (arith, some)
 
   one_met : (k n : ℕ) (p : Place) (skipped : Gap) → p ≡ stands link tuning stream n → length stream < p.at + suc k → p.at < length stream
@@ -145,7 +146,7 @@ module _ (link : Link) (tuning : Tuning) (stream : List Symbol) where
     walks p founds.Coded e h walked =
         let w = walked (omega arith) in
         let whole : p.at + size ≤ length stream = elim (cases_lt (length stream) (p.at + size)) [
-          | inl few ↦ (let all : passed_at link tuning stream p.at ≡ size = cond-false _ _ _ (lt-leb size (length (left p)) (omega (arith, few, length-drop p.at stream, symbols_least mode))) in absurd (omega (arith, few, all, h)))
+          | inl few ↦ (let all : passed_at link tuning stream p ≡ size = cond-false _ _ _ (lt-leb size (length (left p)) (omega (arith, few, length-drop p.at stream, symbols_least mode))) in absurd (omega (arith, few, all, h)))
           | inr enough ↦ enough
         ] in
         let met = coded_move p w.skipped e whole in

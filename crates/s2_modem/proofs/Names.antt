@@ -94,7 +94,7 @@ pub use Rattle.s2_report.specs.Figures.{refused_in, saturated, sums_after}
 pub use Rattle.s2_report.specs.declared.figures.Figures.{Figures}
 pub use Rattle.s2_report.specs.declared.figures.Tally.{Tally}
 pub use Rattle.s2_receive.specs.Laws.{AreReceived, IsDummy, IsReceived, Piece, SkippedNone, SpellSymbols, coded, dummy, frames_at, joined, stream_symbols}
-pub use Rattle.s2_receive.specs.Meeting.{Met, begins, by_found, cut, ended, extended, frame, met_from, no_gap, rest_of}
+pub use Rattle.s2_receive.specs.Meeting.{Met, begins, by_found, cut, ended, extended, frame, met_from, no_gap, rest_of, until_after}
 pub use Rattle.s2_receive.specs.Decider.{IsSaidBy, delivered_of}
 pub use Rattle.s2_receive.specs.Receiving.{Decision, Meets, Rules, RunsOut, searched_again, Standing, State, after, after_all, all_lines, all_packets, are_all_certified, at_end, at_start, begun, count_of, left_in, left_known, report_of, step_of, with_gap}
 pub use Rattle.s2_report.specs.ReportLines.{cut_line, end_line, frame_line}
@@ -126,7 +126,7 @@ pub use Rattle.s2_message.specs.declared.options.FrameOptions.{FrameOptions}
 pub use Rattle.s2_message.specs.Decisions.{bits_decision, decision_with, delivered_by, field_in, header_in, levelled_frame, measured, removed_frame, message_of, outcome_by, quarters, received_word, soft_frame, upright_frame, word_decision}
 pub use Rattle.s2_message.specs.Reading.{FrameReader, HasFrame, decision_held}
 pub use Rattle.s2_modem.specs.DeciderState.{DeciderState, decides}
-pub use Rattle.s2_modem.specs.Promise.{Arriving, CallsLaw, Headline, IsCutAt, IsHeadline, IsNext, IsReadable, FramePromises, IsFrameAt, KeepsHeadline, Place, report_at, RunsHeadline, closed_packets, decision_from, found_at, frame_from, is_delivered, passed_at, past, stands, wrong_bits}
+pub use Rattle.s2_modem.specs.Promise.{Arriving, CallsLaw, Headline, IsCutAt, IsHeadline, IsNext, IsReadable, FramePromises, IsFrameAt, KeepsHeadline, Place, report_at, RunsHeadline, closed_packets, decision_from, found_at, frame_from, is_delivered, passed_at, past, stands, until_past, wrong_bits}
 pub use Rattle.s2_modem.specs.Reception.{AllAsLikely, TrueReports, IsAsLikely, IsCertifiedBy, IsCorrected, Receiver, is_searched_again, link_rules, rules_for, seen, sought_by}
 pub use Rattle.s2_modem.specs.Reports.{IsUndecided, decided_symbols, decision_by, decision_of, decision_on, figures_by, frame_soft, frame_turn, options_of, upright_symbols}
 unfoldable pub use Rattle.s2_modem.specs.Reports.{frame_decision}

@@ -28,7 +28,7 @@ use Rattle.s2_receive.specs.Windows.{found_as}
 use Rattle.s2_report.specs.ReportLines.{frame_line, cut_line, end_line}
 use Rattle.s2_receive.specs.Calls.{Call, CallsToEnd, call_lines, call_packets, in_memory}
 use Rattle.s2_receive.specs.Receiving.{State, Decision, RunsOut, begun}
-use Rattle.s2_receive.specs.Meeting.{no_gap, begins, met_from, rest_of}
+use Rattle.s2_receive.specs.Meeting.{no_gap, begins, met_from, rest_of, until_after}
 use Rattle.s2_receive.specs.Laws.{Piece, joined, stream_symbols, events_of}
 use Rattle.s2_report.specs.declared.report.Outcome.{Outcome}
 use Rattle.s2_report.specs.declared.report.Outcome.TheVariants.{Delivered}
@@ -52,36 +52,40 @@ decision_from link tuning symbols at = frame_decision link tuning (frame_from li
 
 -- ---- the place of the search
 
--- a place of the search: the symbol of the stream, the number of coded frames before it, and whether a frame ended right
--- before it
+-- A place of the search: the symbol of the stream, the number of coded frames before it, and whether a frame ended right
+-- before it. And the symbol at which the last frame ends that is searched again
 pub record Place : Type 0 where
   pub at : ℕ
   pub frames : ℕ
   pub behind : Bool
+  pub until : ℕ
 
 -- what begins there: a coded frame, a dummy frame, or neither
 abbrev pub found_at : Link → Tuning → List Symbol → Place → Found
 found_at link tuning symbols place = begins (found_as (sought_by link tuning) tuning.max_header_errors place.behind) (drop place.at symbols)
 
 -- The number of symbols from a coded frame's first one to the place at which the search continues: those of the frame. If a frame
--- that has all its symbols is lost, and lost ones are searched again, only those before the place in it at which the search
--- resumes
-abbrev pub passed_at : Link → Tuning → List Symbol → ℕ → ℕ
-passed_at link tuning symbols at =
-    if nat_le (symbols_in link.setup.mode) (length (drop at symbols))
-    then 1 + rest_of (found_as (sought_by link tuning) tuning.max_header_errors) (is_searched_again link tuning) (symbols_in link.setup.mode) (drop at symbols)
+-- that has all its symbols is searched again, only those before the place in it at which the search resumes
+abbrev pub passed_at : Link → Tuning → List Symbol → Place → ℕ
+passed_at link tuning symbols place =
+    if nat_le (symbols_in link.setup.mode) (length (drop place.at symbols))
+    then 1 + rest_of (found_as (sought_by link tuning) tuning.max_header_errors) (is_searched_again link tuning) (symbols_in link.setup.mode) place.until place.at (drop place.at symbols)
     else symbols_in link.setup.mode
+
+-- the symbol at which the last frame ends that is searched again, after this coded frame
+abbrev pub until_past : Link → Tuning → List Symbol → Place → ℕ
+until_past link tuning symbols place = until_after (is_searched_again link tuning (frame_from link symbols place.at)) (symbols_in link.setup.mode) place.until place.at
 
 -- the place at which the search continues: after the coded frame or inside it, after the dummy frame, or at the next symbol
 abbrev pub past : Link → Tuning → List Symbol → Place → Found → Place
-past link tuning symbols place founds.Coded = record { at = place.at + passed_at link tuning symbols place.at; frames = place.frames + 1; behind = true }
-past link tuning symbols place founds.Dummy = record { at = place.at + dummy_symbols; frames = place.frames; behind = true }
-past link tuning symbols place founds.Nothing = record { at = place.at + 1; frames = place.frames; behind = false }
+past link tuning symbols place founds.Coded = record { at = place.at + passed_at link tuning symbols place; frames = place.frames + 1; behind = true; until = until_past link tuning symbols place }
+past link tuning symbols place founds.Dummy = record { at = place.at + dummy_symbols; frames = place.frames; behind = true; until = place.until }
+past link tuning symbols place founds.Nothing = record { at = place.at + 1; frames = place.frames; behind = false; until = place.until }
 
 -- The place of the search after n moves. It begins at the stream's first symbol. It continues after each frame that it
 -- finds, or inside a lost one, and at the next symbol if it finds none
 abbrev pub stands : Link → Tuning → List Symbol → (moves : ℕ) → Place
-stands link tuning symbols zero = record { at = 0; frames = 0; behind = false }
+stands link tuning symbols zero = record { at = 0; frames = 0; behind = false; until = 0 }
 stands link tuning symbols (suc moves) = past link tuning symbols (stands link tuning symbols moves) (found_at link tuning symbols (stands link tuning symbols moves))
 
 -- the header of a coded frame passes there, and all symbols of the frame are there
@@ -146,7 +150,7 @@ is_delivered outcome = false
 -- delivered. Skipped symbols and a cut frame give a gap too
 abbrev pub joined_on : Link → Tuning → List Symbol → Joined
 joined_on link tuning symbols =
-    joining None (events_of (frame_decision link tuning) (met_from (found_as (sought_by link tuning) tuning.max_header_errors) (is_searched_again link tuning) (symbols_in link.setup.mode) 0 0 false no_gap symbols))
+    joining None (events_of (frame_decision link tuning) (met_from (found_as (sought_by link tuning) tuning.max_header_errors) (is_searched_again link tuning) (symbols_in link.setup.mode) 0 0 0 false no_gap symbols))
 
 -- The report has a line for each of these frames, numbered from 1. Then comes the line of a cut frame, exactly if the
 -- search comes to one, with its symbol and the number of symbols left. Then comes the last line, with the numbers of

@@ -7,6 +7,7 @@ ghost use Rattle.s2_mode.specs.Streams.{streams_by};
 ghost use Rattle.s2_receive.specs.declared.report.Phase.TheVariants as phases;
 ghost use Rattle.s2_receive.specs.declared.report.Fault.TheVariants as faults;
 ghost use Rattle.s2_receive.specs.Receiving.{IsLive, asked, begun, room_in, rules_of, taken};
+ghost use Rattle.s2_receive.specs.Synchronization.{room_for};
 ghost use Rattle.s2_receive.specs.Answers.{Advances, Between, OnlyStreamFaults, StepsBy};
 ghost use Rattle.s2_receive.specs.Sinks.{OnlyFaultsWith};
 ghost use Rattle.s2_tuning.specs.Tuning.{tuning_of};
@@ -150,12 +151,12 @@ impl<'a> Receiver<'a> {
         self.inner.limit(symbols);
     }
 
-    /// The number of bytes wanted next: four for each symbol that the next frame lacks, up to the limit. If lost frames are
-    /// searched again, the 90 symbols after a frame are read too, before it is decided. It is 0 if no symbols are needed: after a cut frame and the end, after a fault, and when the limit is reached.
+    /// The number of bytes wanted next: four for each symbol that the next frame lacks, up to the limit. While a lost frame is
+    /// searched again, the 90 symbols after the next one are read too, before that one is decided. It is 0 if no symbols are needed: after a cut frame and the end, after a fault, and when the limit is reached.
     pub fn room(&self) -> usize
         ensures is { result ≡ asked (rules_for self.now) self.now.state }
         ensures few { result ≤ 4 * room_in (rules_for self.now) }
-        ensures held { (length self.now.state.window.symbols < room_in (rules_for self.now))
+        ensures held { (length self.now.state.window.symbols < room_for self.now.state.window.again (rules_for self.now).size)
             × (taken self.now.state ≤ self.now.limit) }
     {
         self.inner.room()

@@ -1,5 +1,5 @@
 -- A step in two halves.
-use Rattle.s2_receive.proofs.Names.{◌≡◌, ◌≢◌, ◌⊎◌, inl, inr, ℕ, ◌+◌, ◌*◌, ◌<◌, ◌≤◌, ◌&&◌, arith, Bool, true, false, nat_eq, List, [], ◌∷◌, ◌++◌, length, length-append, take, flat_map, Option, Some, None, IfSome, refl, sym, ap, ap₂, subst, ◌∙◌, max_symbols, Mode, Sought, Found, Symbol, symbols_of, no_gap, Synchronizer, Window, window_at, reached, wanted, room_for, window_after, passed_by, met_of, HoldsFor, HoldsLast, IsInFront, Takes, found_as, Fits, EndsAt, Rules, Standing, State, state_of, phase_after, Decision, IsDecided, Handles, HandlesNext, Steps, IsLive, KeepsWithout, left_by, asked, asked_by, is_none, is_lost, searched_again, room_in, joined_after, Filled, filled_by, joined_by, counts_by, counted, answer_for, delivered_of, StepCounts, Next, Step, Totals, Phase}
+use Rattle.s2_receive.proofs.Names.{◌≡◌, ◌≢◌, ◌⊎◌, inl, inr, ℕ, ◌+◌, ◌*◌, ◌<◌, ◌≤◌, ◌&&◌, arith, Bool, true, false, nat_eq, List, [], ◌∷◌, ◌++◌, length, length-append, take, flat_map, Option, Some, None, IfSome, refl, sym, ap, ap₂, subst, ◌∙◌, max_symbols, Mode, Sought, Found, Symbol, symbols_of, no_gap, Synchronizer, Window, window_at, reached, wanted, room_for, window_after, passed_by, met_of, HoldsFor, HoldsLast, IsInFront, Takes, found_as, Fits, EndsAt, Rules, Standing, State, state_of, phase_after, Decision, IsDecided, Handles, HandlesNext, Steps, IsLive, KeepsWithout, left_by, asked, asked_by, is_none, is_lost, searched_again, joined_after, Filled, filled_by, joined_by, counts_by, counted, answer_for, delivered_of, StepCounts, Next, Step, Totals, Phase}
 use Rattle.s2_receive.proofs.Names.next
 use Rattle.s2_receive.proofs.Names.steps
 use Rattle.s2_receive.proofs.Names.phases
@@ -18,9 +18,9 @@ some_room true m = omega (arith, symbols_least m)
 some_room false m = omega (arith, symbols_least m)
 
 -- what holds at the start
-pub begins_so : (m : Mode) (resync : Bool) (limit : ℕ) → limit ≤ max_symbols → IsFollowing m resync limit None (window_at 0 false) no_totals
-begins_so m resync limit most = record {
-  few = λ again. some_room resync m;
+pub begins_so : (m : Mode) (limit : ℕ) → limit ≤ max_symbols → IsFollowing m limit None (window_at 0 0 false) no_totals
+begins_so m limit most = record {
+  few = λ again. some_room false m;
   fits = λ again. record {
     most = most;
     place = omega arith;
@@ -39,12 +39,12 @@ begins_so m resync limit most = record {
 }
 
 -- the frames can be counted
-pub frames_most : (m : Mode) (resync : Bool) (limit : ℕ) (found : Option Next) (w : Window) (t : Totals) → IsFollowing m resync limit found w t → t.frames ≤ max_symbols
-frames_most m resync limit found w t sound = let fits = sound.fits true in omega (arith, fits.frames, fits.place, fits.most)
+pub frames_most : (m : Mode) (limit : ℕ) (found : Option Next) (w : Window) (t : Totals) → IsFollowing m limit found w t → t.frames ≤ max_symbols
+frames_most m limit found w t sound = let fits = sound.fits true in omega (arith, fits.frames, fits.place, fits.most)
 
 -- with another limit
-pub limited : (m : Mode) (resync : Bool) (limit symbols : ℕ) (w : Window) (t : Totals) → IsFollowing m resync limit None w t → reached w ≤ symbols → symbols ≤ max_symbols → IsFollowing m resync symbols None w t
-limited m resync limit symbols w t sound within most = record {
+pub limited : (m : Mode) (limit symbols : ℕ) (w : Window) (t : Totals) → IsFollowing m limit None w t → reached w ≤ symbols → symbols ≤ max_symbols → IsFollowing m symbols None w t
+limited m limit symbols w t sound within most = record {
   few = sound.few;
   fits = λ again.
       (let f = sound.fits again in
@@ -57,17 +57,17 @@ limited m resync limit symbols w t sound within most = record {
 
 -- ---- after the first half
 
-module _ (finds : Bool → List Symbol → Found) (m : Mode) (resync : Bool) (limit : ℕ) (old new : Window) (t : Totals) (symbols : List Symbol) (whole : Bool) (buffer : List Symbol) (sound : IsFollowing m resync limit None old t) (most : reached old + length symbols ≤ limit) where
+module _ (finds : Bool → List Symbol → Found) (m : Mode) (limit : ℕ) (old new : Window) (t : Totals) (symbols : List Symbol) (whole : Bool) (buffer : List Symbol) (sound : IsFollowing m limit None old t) (most : reached old + length symbols ≤ limit) where
   abbrev all_symbols : ℕ
   all_symbols = symbols_in m
 
   abbrev room_here : ℕ
-  room_here = room_for resync all_symbols
+  room_here = room_for old.again all_symbols
 
   -- what holds between two halves
-  pub found_on : (found : Option Next) → ((lost : List Symbol → Bool) → Takes finds lost all_symbols room_here old (window_after lost all_symbols found new) symbols whole buffer found) → HoldsFor all_symbols found (length new.symbols) room_here
-      → HoldsLast old.at (old.symbols ++ symbols) new → IsFollowing m resync limit found new t
-  found_on found takes holds last =
+  pub found_on : (room : ℕ) (found : Option Next) → ((lost : List Symbol → Bool) → Takes finds lost all_symbols room_here old (window_after lost all_symbols found new) symbols whole buffer found) → HoldsFor all_symbols found (length new.symbols) room
+      → HoldsLast old.at (old.symbols ++ symbols) new → IsFollowing m limit found new t
+  found_on room found takes holds last =
       record {
         few = λ again. (after_it again).0;
         fits = λ again. (after_it again).1;
@@ -77,27 +77,27 @@ module _ (finds : Bool → List Symbol → Found) (m : Mode) (resync : Bool) (li
         most = sound.most;
       }
     where
-      after_it : (again : Bool) → (length (window_after (λ symbols. again) all_symbols found new).symbols < room_here) × Fits limit (window_after (λ symbols. again) all_symbols found new) t
-      after_it again = sound_on finds (λ symbols. again) m resync limit old (window_after (λ symbols. again) all_symbols found new) t symbols whole buffer found (sound.fits true) most (takes (λ symbols. again))
+      after_it : (again : Bool) → (length (window_after (λ symbols. again) all_symbols found new).symbols < room_for (window_after (λ symbols. again) all_symbols found new).again all_symbols) × Fits limit (window_after (λ symbols. again) all_symbols found new) t
+      after_it again = sound_on finds (λ symbols. again) m room_here limit old (window_after (λ symbols. again) all_symbols found new) t symbols whole buffer found (sound.fits true) most (takes (λ symbols. again))
 
       counts_of : (found : Option Next) (again : Bool) → Takes finds (λ symbols. again) all_symbols room_here old (window_after (λ symbols. again) all_symbols found new) symbols whole buffer found → CanCount all_symbols t found again new
       counts_of None again takes = tt
       counts_of (Some found) again (met, place, behind, holds) = λ delivered one none.
           counts_in (λ symbols. again) all_symbols room_here old (window_after (λ symbols. again) all_symbols (Some found) new) limit t found buffer delivered (symbols_least m) (sound.fits true) behind holds one none
 
-      held_of : (found : Option Next) → HoldsFor all_symbols found (length new.symbols) room_here → IfSome found (λ n. HoldsWhole all_symbols n new)
+      held_of : (found : Option Next) → HoldsFor all_symbols found (length new.symbols) room → IfSome found (λ n. HoldsWhole all_symbols n new)
       held_of None holds = tt
       held_of (Some (next.Frame at skipped)) holds = holds.0
       held_of (Some (next.Cut at skipped count)) holds = tt
       held_of (Some (next.End at skipped)) holds = tt
 
 -- where it is known what was found
-pub known_so : (s : Synchronizer) (limit : ℕ) (found known : Option Next) (t : Totals) → found ≡ known → IsFollowing s.sought.mode s.resync limit found s.window t → IsFollowing s.sought.mode s.resync limit known s.window t
-known_so s limit found known t is sound = subst (λ n. IsFollowing s.sought.mode s.resync limit n s.window t) is sound
+pub known_so : (s : Synchronizer) (limit : ℕ) (found known : Option Next) (t : Totals) → found ≡ known → IsFollowing s.sought.mode limit found s.window t → IsFollowing s.sought.mode limit known s.window t
+known_so s limit found known t is sound = subst (λ n. IsFollowing s.sought.mode limit n s.window t) is sound
 
 -- the end was found, behind no gap
-ends_here : (m : Mode) (resync : Bool) (limit at : ℕ) (w : Window) (t : Totals) → IsFollowing m resync limit None w t → IsFollowing m resync limit (Some (next.End at no_gap)) w t
-ends_here m resync limit at w t sound = record {
+ends_here : (m : Mode) (limit at : ℕ) (w : Window) (t : Totals) → IsFollowing m limit None w t → IsFollowing m limit (Some (next.End at no_gap)) w t
+ends_here m limit at w t sound = record {
   few = sound.few;
   fits = sound.fits;
   counts = λ again delivered one none. (let skipped = (sound.fits true).skipped in omega (arith, skipped));
@@ -108,8 +108,9 @@ ends_here m resync limit at w t sound = record {
 
 -- what a search by the phase gives
 pub record IsSought (phase : Phase) (old new : Synchronizer) (limit : ℕ) (bytes : List ℕ) (found : Option Next) : Type 0 where
-  pub searching : phase ≡ phases.Searching → (lost : List Symbol → Bool) → Takes (found_as old.sought old.max_header_errors) lost (symbols_in old.sought.mode) (room_for old.resync (symbols_in old.sought.mode)) old.window
-      (window_after lost (symbols_in old.sought.mode) found new.window) (symbols_of bytes) (nat_eq (length bytes) (4 * wanted limit (room_for old.resync (symbols_in old.sought.mode)) old.window)) new.frame found
+  pub searching : phase ≡ phases.Searching → (lost : List Symbol → Bool) → Takes (found_as old.sought old.max_header_errors) lost (symbols_in old.sought.mode) (room_for old.window.again (symbols_in old.sought.mode)) old.window
+      (window_after lost (symbols_in old.sought.mode) found new.window) (symbols_of bytes) (nat_eq (length bytes) (4 * wanted limit (room_for old.window.again (symbols_in old.sought.mode)) old.window)) new.frame found
+  pub until : new.window.until ≡ old.window.until
   pub last : phase ≡ phases.Searching → HoldsLast old.window.at (old.window.symbols ++ symbols_of bytes) new.window
   pub holds : phase ≡ phases.Searching → HoldsFor (symbols_in old.sought.mode) found (length new.window.symbols) (room_for old.resync (symbols_in old.sought.mode))
   pub closing : phase ≡ phases.Closing → found ≡ Some (next.End (reached old.window) no_gap)
@@ -133,35 +134,34 @@ module _ (old new : Synchronizer) (limit : ℕ) (bytes : List ℕ) (found : Opti
     where
       by : (phase : Phase) → IsSought phase old new limit bytes found
           → SeeksBy phase (follower_of phase old limit held t before packets) (follower_of phase new limit held t found packets) bytes (nat_eq (length bytes) (asked_of (follower_of phase old limit held t before packets))) found
-      by phases.Searching is = (is.searching refl, is.last refl)
+      by phases.Searching is = (is.searching refl, is.last refl, is.until)
       by phases.Closing is = (is.closing refl, ap (λ (s : Synchronizer). s.window) (is.rests (λ e. cc)))
       by phases.Ended is = (is.ended (inl refl), ap (λ (s : Synchronizer). state_of phases.Ended s.window held t) (is.rests (λ e. cc)))
       by phases.Failed is = (is.ended (inr refl), ap (λ (s : Synchronizer). state_of phases.Failed s.window held t) (is.rests (λ e. cc)))
 
   -- and keeps what holds
-  pub follows_so : (phase : Phase) (t : Totals) → IsSought phase old new limit bytes found → IsFollowing old.sought.mode old.resync limit None old.window t
-      → (phase ≡ phases.Searching → length bytes ≤ 4 * wanted limit (room_for old.resync (symbols_in old.sought.mode)) old.window) → IsFollowing new.sought.mode new.resync limit found new.window t
+  pub follows_so : (phase : Phase) (t : Totals) → IsSought phase old new limit bytes found → IsFollowing old.sought.mode limit None old.window t
+      → (phase ≡ phases.Searching → length bytes ≤ 4 * wanted limit (room_for old.window.again (symbols_in old.sought.mode)) old.window) → IsFollowing new.sought.mode limit found new.window t
   follows_so phase t is sound few =
-      subst (λ (s : Sought). IsFollowing s.mode new.resync limit found new.window t) (sym is.same.0)
-      (subst (λ r. IsFollowing old.sought.mode r limit found new.window t) (sym is.same.2) (by phase is few))
+      subst (λ (s : Sought). IsFollowing s.mode limit found new.window t) (sym is.same.0) (by phase is few)
     where
-      at_rest : (phase : Phase) → IsSought phase old new limit bytes found → phase ≢ phases.Searching → IsFollowing old.sought.mode old.resync limit None new.window t
-      at_rest phase is other = subst (λ (s : Synchronizer). IsFollowing old.sought.mode old.resync limit None s.window t) (sym (is.rests other)) sound
+      at_rest : (phase : Phase) → IsSought phase old new limit bytes found → phase ≢ phases.Searching → IsFollowing old.sought.mode limit None new.window t
+      at_rest phase is other = subst (λ (s : Synchronizer). IsFollowing old.sought.mode limit None s.window t) (sym (is.rests other)) sound
 
-      by : (phase : Phase) → IsSought phase old new limit bytes found → (phase ≡ phases.Searching → length bytes ≤ 4 * wanted limit (room_for old.resync (symbols_in old.sought.mode)) old.window)
-          → IsFollowing old.sought.mode old.resync limit found new.window t
+      by : (phase : Phase) → IsSought phase old new limit bytes found → (phase ≡ phases.Searching → length bytes ≤ 4 * wanted limit (room_for old.window.again (symbols_in old.sought.mode)) old.window)
+          → IsFollowing old.sought.mode limit found new.window t
       by phases.Searching is few =
-          found_on (found_as old.sought old.max_header_errors) old.sought.mode old.resync limit old.window new.window t (symbols_of bytes) _ new.frame sound
-          (few_come bytes limit (room_for old.resync (symbols_in old.sought.mode)) old.window sound.place (few refl)) found (is.searching refl) (is.holds refl) (is.last refl)
+          found_on (found_as old.sought old.max_header_errors) old.sought.mode limit old.window new.window t (symbols_of bytes) _ new.frame sound
+          (few_come bytes limit (room_for old.window.again (symbols_in old.sought.mode)) old.window sound.place (few refl)) (room_for old.resync (symbols_in old.sought.mode)) found (is.searching refl) (is.holds refl) (is.last refl)
       by phases.Closing is few =
-          subst (λ n. IsFollowing old.sought.mode old.resync limit n new.window t) (sym (is.closing refl))
-          (ends_here old.sought.mode old.resync limit (reached old.window) new.window t (at_rest phases.Closing is (λ e. cc)))
-      by phases.Ended is few = subst (λ n. IsFollowing old.sought.mode old.resync limit n new.window t) (sym (is.ended (inl refl))) (at_rest phases.Ended is (λ e. cc))
-      by phases.Failed is few = subst (λ n. IsFollowing old.sought.mode old.resync limit n new.window t) (sym (is.ended (inr refl))) (at_rest phases.Failed is (λ e. cc))
+          subst (λ n. IsFollowing old.sought.mode limit n new.window t) (sym (is.closing refl))
+          (ends_here old.sought.mode limit (reached old.window) new.window t (at_rest phases.Closing is (λ e. cc)))
+      by phases.Ended is few = subst (λ n. IsFollowing old.sought.mode limit n new.window t) (sym (is.ended (inl refl))) (at_rest phases.Ended is (λ e. cc))
+      by phases.Failed is few = subst (λ n. IsFollowing old.sought.mode limit n new.window t) (sym (is.ended (inr refl))) (at_rest phases.Failed is (λ e. cc))
 
 -- what a follower that searches wants
-pub wanted_so : (f : Follower) (bytes : List ℕ) → length bytes ≤ asked_of f → f.state.phase ≡ phases.Searching → length bytes ≤ 4 * wanted f.limit (room_for f.resync (symbols_in f.sought.mode)) f.state.window
-wanted_so f bytes few is = subst (λ p. length bytes ≤ wanted_by p f.limit (room_for f.resync (symbols_in f.sought.mode)) f.state.window) is few
+pub wanted_so : (f : Follower) (bytes : List ℕ) → length bytes ≤ asked_of f → f.state.phase ≡ phases.Searching → length bytes ≤ 4 * wanted f.limit (room_for f.state.window.again (symbols_in f.sought.mode)) f.state.window
+wanted_so f bytes few is = subst (λ p. length bytes ≤ wanted_by p f.limit (room_for f.state.window.again (symbols_in f.sought.mode)) f.state.window) is few
 
 -- ---- the second half
 
@@ -207,13 +207,13 @@ handled rules old (next.End at skipped) d phase window filled t counts step step
     }
 
 -- what holds after it
-pub settled : (old new : Synchronizer) (lost : Bool) (limit : ℕ) (found : Next) (t t' : Totals) → IsFollowing old.sought.mode old.resync limit (Some found) old.window t
+pub settled : (old new : Synchronizer) (lost : Bool) (limit : ℕ) (found : Next) (t t' : Totals) → IsFollowing old.sought.mode limit (Some found) old.window t
     → new.window ≡ window_after (λ symbols. old.resync && lost) (symbols_in old.sought.mode) (Some found) old.window → (new.sought ≡ old.sought) × (new.max_header_errors ≡ old.max_header_errors) × (new.resync ≡ old.resync)
-    → Fits limit new.window t' → IsFollowing new.sought.mode new.resync limit None new.window t'
+    → Fits limit new.window t' → IsFollowing new.sought.mode limit None new.window t'
 settled old new lost limit found t t' sound is same fits = record {
   few = λ again.
-      subst (λ (s : Sought). length new.window.symbols < room_for new.resync (symbols_in s.mode)) (sym same.0)
-      (subst (λ r. length new.window.symbols < room_for r (symbols_in old.sought.mode)) (sym same.2) (subst (λ (w : Window). length w.symbols < room_for old.resync (symbols_in old.sought.mode)) (sym is) (sound.few (old.resync && lost))));
+      subst (λ (s : Sought). length new.window.symbols < room_for new.window.again (symbols_in s.mode)) (sym same.0)
+      (subst (λ (w : Window). length w.symbols < room_for w.again (symbols_in old.sought.mode)) (sym is) (sound.few (old.resync && lost)));
   fits = λ again. fits;
   counts = λ again. tt;
   held = tt;
@@ -235,7 +235,7 @@ passed_so decide resync resync' size size' (next.End at skipped) f d same one fr
 
 -- a search, and what was found is handled
 searched : (rules : Rules) (old mid new : State) (symbols : List Symbol) (whole : Bool) (buffer : List Symbol) (found : Next) (d : Decision) (packets : List ℕ) (step : Step) → old.phase ≡ phases.Searching → mid.standing ≡ old.standing
-    → Takes rules.finds (searched_again rules) rules.size (room_in rules) old.window (window_after (searched_again rules) rules.size (Some found) mid.window) symbols whole buffer (Some found)
+    → Takes rules.finds (searched_again rules) rules.size (room_for old.window.again rules.size) old.window (window_after (searched_again rules) rules.size (Some found) mid.window) symbols whole buffer (Some found)
     → IsDecided rules (met_of found buffer) d → HandlesNext rules mid new d found packets step → new.window ≡ window_after (searched_again rules) rules.size (Some found) mid.window → Steps rules old new symbols whole d packets step
 searched rules old mid new symbols whole buffer found d packets step searching stands (met, place, behind, holds) decided handles same =
     let told = subst (λ (s : Standing). Handles rules (record old { standing = s }) new (met_of found buffer) packets step) stands
@@ -247,7 +247,7 @@ searched rules old mid new symbols whole buffer found d packets step searching s
       spell = λ coming may. ap (λ p. left_by rules p old.window (symbols ++ coming)) searching ∙ met coming may
           ∙ ap (λ l. met_of found buffer ∷ l) (then_left rules found w buffer coming ∙ sym (ap₂ (λ p v. left_by rules p v coming) told.phase same));
       taken_are = ap reached same ∙ place;
-      ends = subst (λ v. EndsAt rules.size (room_in rules) (met_of found buffer) (reached v)) (sym same) (ends_so (searched_again rules) rules.size (room_in rules) found buffer w holds);
+      ends = subst (λ v. EndsAt rules.size (room_for old.window.again rules.size) (met_of found buffer) (reached v)) (sym same) (ends_so (searched_again rules) rules.size (room_for old.window.again rules.size) found buffer w holds);
       decided = decided;
     }
 
@@ -265,11 +265,11 @@ halves decide old mid new bytes whole found d step few seeks decided settles all
 
     closing_few : old.state.phase ≡ phases.Closing → length bytes ≤ asked_of old → length bytes ≤ asked rules old.state
     closing_few is few =
-        let none = subst (λ p. length bytes ≤ wanted_by p old.limit (room_for old.resync (symbols_in old.sought.mode)) old.state.window) is few in
+        let none = subst (λ p. length bytes ≤ wanted_by p old.limit (room_for old.state.window.again (symbols_in old.sought.mode)) old.state.window) is few in
         subst (λ p. length bytes ≤ asked_by rules p old.state.window) (sym is) none
 
     by_phase : (phase : Phase) → old.state.phase ≡ phase → SeeksBy phase old mid bytes whole (Some found) → Steps rules old.state new.state (symbols_of bytes) whole d new.packets step
-    by_phase phases.Searching is (takes, last) =
+    by_phase phases.Searching is (takes, last, until) =
         searched rules old.state mid.state new.state (symbols_of bytes) whole mid.frame found d new.packets step is (ap (λ (s : State). s.standing) seeks.state) (takes (searched_again rules)) decided (settles.handles rules) window
     by_phase phases.Closing is (ended, same) =
         let end : found ≡ next.End (reached old.state.window) no_gap = cc in

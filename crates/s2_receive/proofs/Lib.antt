@@ -3,6 +3,7 @@ pub mod SymbolLists
 pub mod Headers
 pub mod MetLemmas
 pub mod LostFrames
+pub mod FrameSizes
 pub mod LastSymbols
 pub mod FindSteps
 pub mod StepLemmas

@@ -4,7 +4,7 @@ pub use Rattle.std.proofs.KnownBytes.{Consumes-trans, Appends-nil, Appends-trans
 pub use Rattle.std.proofs.Math.Bool.{and-true, and_assoc}
 pub use Rattle.std.proofs.Math.Nat.{div-mul-le_self, lt-div-mul-add, min-le_left, min-le_right, le-min}
 pub use Rattle.std.proofs.Math.Seq.{take-append-add}
-pub use Rattle.std.proofs.lemmas.Bool.{cases_lt, le-leb, lt-leb, lt-ltb, le-ltb, eqb-true, eq-eqb, ne_eqb, cases_eq, cases_Bool, and_right, and_parts, cond-true, cond-false, cond_both}
+pub use Rattle.std.proofs.lemmas.Bool.{cases_lt, leb-true, le-leb, lt-leb, lt-ltb, le-ltb, eqb-true, eq-eqb, ne_eqb, cases_eq, cases_Bool, and_right, and_parts, cond-true, cond-false, cond_both}
 pub use Rattle.std.proofs.lemmas.Bool.Decides.{eqb_tells}
 pub use Rattle.std.proofs.lemmas.List.{take_rest, take_all, nil_from_length, take_at, take-take, length-map, drop-take, drop-drop, drop_all, drop-append-le, take-append-le, take_more, drop_at}
 pub use Rattle.std.proofs.lemmas.List.Concat.{flat_map-append}
@@ -32,10 +32,10 @@ pub use Rattle.s2_bbframe.specs.DataStream.{IsPacket, closed_body, stream_of, cu
 pub use Rattle.s2_bbframe.specs.Joining.{Placed, closed_in, gap, Joined, step, still, begun_body, incomplete_in, incomplete, and_then, joining, field, events_from}
 pub use Rattle.s2_receive.specs.Answers.{RunAnswers, BreaksIn, OnFrame, IsSame, KeepsLast, KeepsDecision, Reads, Seen, Finds, FindsNone, NextAnswers, bytes_by, printing, seen_by}
 pub use Rattle.s2_receive.specs.Faults.{fault_of}
-pub use Rattle.s2_receive.specs.Synchronization.{Window, Synchronizer, window_at, window_of, window_after, passed_by, inside_of, reached, room_for, wanted, met_within, met_then, Follows, MayFollow, Takes, HoldsAfter, HoldsFor, HoldsFrame, HoldsLast, IsInFront, RestOfLost, Scans, NextCoded, Candidate, IsBehind, met_of, found_last, NoHeader}
+pub use Rattle.s2_receive.specs.Synchronization.{Window, Synchronizer, window_at, window_of, window_after, passed_in, passed_by, inside_of, reached, room_for, wanted, met_within, met_then, Follows, MayFollow, Takes, HoldsAfter, HoldsFor, HoldsFrame, HoldsLast, IsInFront, RestOfLost, Scans, NextCoded, Candidate, IsBehind, met_of, found_last, NoHeader}
 pub use Rattle.s2_receive.specs.Laws.{joined, met_events, events_of, IsJoined, Piece, coded, dummy, stream_symbols, AreReceived, frames_at, SkippedNone, Gives, FrontLaw, SpellSymbols, GoOn, HasGiven, SameRunLaw, SameStepLaw, NoneBegins, SearchLaw, IsResumed, ResumeLaw, behind_at}
-pub use Rattle.s2_receive.specs.Meeting.{Met, frame, cut, ended, no_gap, extended, begins, by_found, is_followed, resumes, resumed, rest_of, met_from, is_gap}
-pub use Rattle.s2_receive.specs.Receiving.{Rules, styled, Standing, after, all_packets, packets_of, delivery, is_none, is_lost, searched_again, room_in, joined_after, at_start, after_all, count_of, State, taken, left_by, left_known, met_left, left_in, asked, asked_by, YieldsMet, EndsAt, Steps, Waits, YieldsSymbols, Reaches, Meets, EndsBehind, StopsShort, Stops, Processed, StepAnswers, IsLive, all_lines, line_of, step_of, is_certified_step, are_all_certified, rank, RunsTo, BreaksOff, BreaksAfter, phase_after, Receiver, Decision, Handles, MetFrame, IsDecided, IsDecidedBy, begun, is_at_frame, report_for, rules_of, frame_totals, counts_after, with_gap, state_of}
+pub use Rattle.s2_receive.specs.Meeting.{Met, frame, cut, ended, no_gap, extended, begins, by_found, is_followed, resumes, resumed, is_again, until_after, rest_of, met_from, is_gap}
+pub use Rattle.s2_receive.specs.Receiving.{Rules, styled, Standing, after, all_packets, packets_of, delivery, is_none, is_lost, searched_again, joined_after, at_start, after_all, count_of, State, taken, left_by, left_known, met_left, left_in, asked, asked_by, YieldsMet, EndsAt, Steps, Waits, YieldsSymbols, Reaches, Meets, EndsBehind, StopsShort, Stops, Processed, StepAnswers, IsLive, all_lines, line_of, step_of, is_certified_step, are_all_certified, rank, RunsTo, BreaksOff, BreaksAfter, phase_after, Receiver, Decision, Handles, MetFrame, IsDecided, IsDecidedBy, begun, is_at_frame, report_for, rules_of, frame_totals, counts_after, with_gap, state_of}
 pub use Rattle.s2_receive.specs.Decider.{delivered_of}
 pub use Rattle.s2_report.specs.ReportLines.{frame_line, step_line}
 pub use Rattle.s2_report.specs.Styles.{plain, step_text}

@@ -1,15 +1,15 @@
 -- One step of a receiver, from a reader to two writers, and to a sink.
-use Rattle.s2_receive.proofs.Names.{FrameStart, room_in, ◌≡◌, ◌≤◌, ◌⊎◌, inl, inr, ℕ, [], ◌∷◌, Some, Result, Ok, Err, refl, sym, ap, ◌∙◌, subst, append-nil, Appends, Streams, NoneFailed, OneFailed, Met, frame, cut, ended, FailsIn, Rules, State, Decision, IsDecided, IsLive, Handles, EndsAt, Seen, Finds, FindsNone, KeepsLast, KeepsDecision, NextAnswers, Processed, MetFrame, taken, packets_of, line_of, report_for, step_of, step_text, Fault, Step, Report, ◌+◌, Bool, true, false, nat_lt, if◌then◌else◌, List, arith, lt-ltb, le-ltb, is_gap, Taking, TakesFrames, TakesStep, FailsStep, frames_of, IsNotTaken, NextWith}
+use Rattle.s2_receive.proofs.Names.{FrameStart, room_for, ◌≡◌, ◌≤◌, ◌⊎◌, inl, inr, ℕ, [], ◌∷◌, Some, Result, Ok, Err, refl, sym, ap, ◌∙◌, subst, append-nil, Appends, Streams, NoneFailed, OneFailed, Met, frame, cut, ended, FailsIn, Rules, State, Decision, IsDecided, IsLive, Handles, EndsAt, Seen, Finds, FindsNone, KeepsLast, KeepsDecision, NextAnswers, Processed, MetFrame, taken, packets_of, line_of, report_for, step_of, step_text, Fault, Step, Report, ◌+◌, Bool, true, false, nat_lt, if◌then◌else◌, List, arith, lt-ltb, le-ltb, is_gap, Taking, TakesFrames, TakesStep, FailsStep, frames_of, IsNotTaken, NextWith}
 use Rattle.s2_receive.proofs.Names.faults
 use Rattle.s2_receive.proofs.Names.phases
 use Rattle.s2_receive.proofs.Names.steps
 use Rattle.s2_receive.proofs.StepLemmas.{on_frame}
 use Rattle.s2_receive.specs.Receiving.{StandsBehind}
 
-stands_behind : (rules : Rules) (old : State) (met : Met) (step : Step) (place : ℕ) → step ≡ step_of rules old.standing met → EndsAt rules.size (room_in rules) met place → StandsBehind {E = Fault} rules.size (room_in rules) place (Ok step)
-stands_behind rules old (frame at skipped symbols) step place is ends = subst (λ x. StandsBehind {E = Fault} rules.size (room_in rules) place (Ok x)) (sym is) ends
-stands_behind rules old (cut at skipped count) step place is ends = subst (λ x. StandsBehind {E = Fault} rules.size (room_in rules) place (Ok x)) (sym is) ends
-stands_behind rules old (ended skipped) step place is ends = subst (λ x. StandsBehind {E = Fault} rules.size (room_in rules) place (Ok x)) (sym is) tt
+stands_behind : (rules : Rules) (old : State) (met : Met) (step : Step) (place : ℕ) → step ≡ step_of rules old.standing met → EndsAt rules.size (room_for old.window.again rules.size) met place → StandsBehind {E = Fault} rules.size (room_for old.window.again rules.size) place (Ok step)
+stands_behind rules old (frame at skipped symbols) step place is ends = subst (λ x. StandsBehind {E = Fault} rules.size (room_for old.window.again rules.size) place (Ok x)) (sym is) ends
+stands_behind rules old (cut at skipped count) step place is ends = subst (λ x. StandsBehind {E = Fault} rules.size (room_for old.window.again rules.size) place (Ok x)) (sym is) ends
+stands_behind rules old (ended skipped) step place is ends = subst (λ x. StandsBehind {E = Fault} rules.size (room_for old.window.again rules.size) place (Ok x)) (sym is) tt
 
 keeps : (step : Step) (old new : Decision) → KeepsLast (Some step) old new → KeepsDecision (Ok step) old new
 keeps (steps.Frame report) old new kept = tt

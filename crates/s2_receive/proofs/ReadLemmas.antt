@@ -1,5 +1,5 @@
 -- What is read up to a step.
-use Rattle.s2_receive.proofs.Names.{◌≡◌, ◌≢◌, ℕ, ◌+◌, ◌-◌, ◌*◌, ◌/◌, ◌<◌, arith, inl, inr, ◌⊎◌, min, min-le_right, le-min, ◌≤◌, nat_eq, eqb-true, eq-eqb, ne_eqb, cases_eq, true, List, [], ◌∷◌, ◌++◌, length, length-append, Option, Some, None, Ok, Err, refl, sym, ap, ◌∙◌, subst, Consumes, Consumes-trans, IsAtEnd, Symbol, symbols_of, Met, ended, no_gap, Bool, false, Window, Follows, Rules, searched_again, room_in, room_for, State, Decision, Phase, YieldsMet, EndsAt, Steps, Waits, Handles, IsDecided, left_by, left_known, met_left, left_in, met_within, phase_after, taken, asked, asked_by, after, packets_of, step_of, Meets, Reaches, EndsBehind, StopsShort, Step, Receiver, Reads, Finds, FindsNone, Seen, KeepsLast, IsLive, is_at_frame, rules_of, seen_by, wanted}
+use Rattle.s2_receive.proofs.Names.{◌≡◌, ◌≢◌, ℕ, ◌+◌, ◌-◌, ◌*◌, ◌/◌, ◌<◌, arith, inl, inr, ◌⊎◌, min, min-le_right, le-min, ◌≤◌, nat_eq, eqb-true, eq-eqb, ne_eqb, cases_eq, true, List, [], ◌∷◌, ◌++◌, length, length-append, Option, Some, None, Ok, Err, refl, sym, ap, ◌∙◌, subst, Consumes, Consumes-trans, IsAtEnd, Symbol, symbols_of, Met, frame, cut, ended, no_gap, Bool, false, Window, Follows, Rules, searched_again, room_for, State, Decision, Phase, YieldsMet, EndsAt, Steps, Waits, Handles, IsDecided, left_by, left_known, met_left, left_in, met_within, phase_after, taken, asked, asked_by, after, packets_of, step_of, Meets, Reaches, EndsBehind, StopsShort, Step, Receiver, Reads, Finds, FindsNone, Seen, KeepsLast, IsLive, is_at_frame, rules_of, seen_by, wanted}
 use Rattle.s2_mode.specs.Mode.{symbols_in}
 use Rattle.s2_mode.specs.declared.counts.ReadFault.{ReadFault}
 use Rattle.s2_receive.proofs.Names.phases
@@ -66,12 +66,25 @@ module _ (rules : Rules) (old new : State) (bytes : List ℕ) where
 
 -- ---- no step yet
 
+-- a search that was not in a frame that is searched again needs the fewest symbols
+sooner : (size : ℕ) (now before : Bool) → (now ≡ true → before ≡ true) → room_for now size ≤ room_for before size
+sooner size false true so = omega arith
+sooner size false false so = omega arith
+sooner size true true so = omega arith
+sooner size true false so = let never : false ≡ true = so refl in absurd (cc)
+
+sooner_ends : (size : ℕ) (now before : Bool) (met : Met) (place : ℕ) → (now ≡ true → before ≡ true) → EndsAt size (room_for now size) met place → EndsAt size (room_for before size) met place
+sooner_ends size now before (frame at skipped symbols) place so ends = (ends.0, omega (arith, ends.1, sooner size now before so))
+sooner_ends size now before (cut at skipped count) place so ends = ends
+sooner_ends size now before (ended skipped) place so ends = tt
+
 -- from one state to another only symbols were read
 pub record Waited (rules : Rules) (old new : State) (r r' : Option (List ℕ)) : Type 0 where
   pub phase : new.phase ≡ old.phase
   pub standing : new.standing ≡ old.standing
   pub met : Meets (left_in rules old r) (left_in rules new r') []
   pub reaches : Reaches (taken new) (taken old) r r'
+  pub again : new.window.again ≡ true → old.window.again ≡ true
   pub bytes : List ℕ
   pub read : Consumes r r' bytes
   pub count : length bytes ≡ 4 * (taken new - taken old)
@@ -81,7 +94,7 @@ consumes_nil None = tt
 consumes_nil (Some x) = refl
 
 pub waited_none : (rules : Rules) (s : State) (r : Option (List ℕ)) → Waited rules s s r r
-waited_none rules s r = record { phase = refl; standing = refl; met = meets_nil (left_in rules s r); reaches = ([], yields_nil r, omega arith); bytes = []; read = consumes_nil r; count = omega arith }
+waited_none rules s r = record { phase = refl; standing = refl; met = meets_nil (left_in rules s r); reaches = ([], yields_nil r, omega arith); again = λ is. is; bytes = []; read = consumes_nil r; count = omega arith }
 
 module _ (rules : Rules) (old cur new : State) (a b c : Option (List ℕ)) (so : Waited rules old cur a b) where
   pub waited_on : (bytes : List ℕ) → Waits rules cur new (symbols_of bytes) (nat_eq (length bytes) (asked rules cur)) → Consumes b c bytes → Waited rules old new a c
@@ -97,6 +110,7 @@ module _ (rules : Rules) (old cur new : State) (a b c : Option (List ℕ)) (so :
         standing = waits.standing ∙ so.standing;
         met = meets-trans (left_in rules old a) (left_in rules cur b) (left_in rules new c) [] [] so.met (spelt rules cur new bytes [] b c waits.searching spell read end);
         reaches = reaches_trans a b c (taken old) (taken cur) (taken new) so.reaches here;
+        again = λ is. so.again (waits.again is);
         bytes = so.bytes ++ bytes;
         read = Consumes-trans a b c so.bytes bytes so.read read;
         count = omega (arith, length-append so.bytes bytes, so.count, waits.taken_are, count_symbols bytes, all, is, far);
@@ -106,7 +120,7 @@ module _ (rules : Rules) (old cur new : State) (a b c : Option (List ℕ)) (so :
   pub stepped : (bytes : List ℕ) (last : Decision) (packets : List ℕ) (step : Step) → Steps rules cur new (symbols_of bytes) (nat_eq (length bytes) (asked rules cur)) last packets step → Consumes b c bytes
       → (length bytes ≢ asked rules cur → IsAtEnd c) → IsLive cur.phase
       → (met : Met) × Handles rules old new met packets step × IsDecided rules met last × Meets (left_in rules old a) (left_in rules new c) (met ∷ []) × Reaches (taken new) (taken old) a c
-      × EndsAt rules.size (room_in rules) met (taken new)
+      × EndsAt rules.size (room_for old.window.again rules.size) met (taken new)
   stepped bytes last packets step steps read end live =
       let told = steps.handles in
       let met = steps.met in (
@@ -120,7 +134,7 @@ module _ (rules : Rules) (old cur new : State) (a b c : Option (List ℕ)) (so :
         steps.decided,
         meets-trans (left_in rules old a) (left_in rules cur b) (left_in rules new c) [] (met ∷ []) so.met (next_met cur.phase refl),
         reaches_trans a b c (taken old) (taken cur) (taken new) so.reaches (come rules cur new bytes b c read end steps.taken_are),
-        steps.ends,
+        sooner_ends rules.size cur.window.again old.window.again met (taken new) so.again steps.ends,
       )
     where
       next_met : (phase : Phase) → cur.phase ≡ phase → Meets (left_in rules cur b) (left_in rules new c) (steps.met ∷ [])
@@ -137,28 +151,34 @@ before_ends room place None new same h = tt
 before_ends room place (Some old) None same h = absurd same
 before_ends room place (Some old) (Some new) same h = subst (λ l. EndsBehind room place (Some l)) (sym same) h
 
-ends_behind : (rules : Rules) (s : State) (limit : ℕ) (r : Option (List ℕ)) → s.phase ≡ phases.Searching → limit < s.window.at + room_in rules → EndsBehind (room_in rules) limit (left_in rules s r)
-ends_behind rules s limit r searching h = subst (λ p. EndsBehind (room_in rules) limit (left_known rules p s.window r)) (sym searching) (known r)
+ends_behind : (rules : Rules) (s : State) (room limit : ℕ) (r : Option (List ℕ)) → s.phase ≡ phases.Searching → limit < s.window.at + room → EndsBehind room limit (left_in rules s r)
+ends_behind rules s room limit r searching h = subst (λ p. EndsBehind room limit (left_known rules p s.window r)) (sym searching) (known r)
   where
-    known : (r : Option (List ℕ)) → EndsBehind (room_in rules) limit (left_known rules phases.Searching s.window r)
+    known : (r : Option (List ℕ)) → EndsBehind room limit (left_known rules phases.Searching s.window r)
     known None = tt
-    known (Some bytes) = held_ends rules.finds (searched_again rules) rules.size (room_in rules) limit s.window (symbols_of bytes) h
+    known (Some bytes) = held_ends rules.finds (searched_again rules) rules.size room limit s.window (symbols_of bytes) h
 
-module _ (rules : Rules) (old cur : State) (a b : Option (List ℕ)) (so : Waited rules old cur a b) (few : length cur.window.symbols < room_in rules) (searching : cur.phase ≡ phases.Searching) where
+module _ (rules : Rules) (old cur : State) (a b : Option (List ℕ)) (so : Waited rules old cur a b) (few : length cur.window.symbols < room_for cur.window.again rules.size) (searching : cur.phase ≡ phases.Searching) where
+  abbrev needed : ℕ
+  needed = room_for old.window.again rules.size
+
+  enough : room_for cur.window.again rules.size ≤ needed
+  enough = sooner rules.size cur.window.again old.window.again so.again
+
   -- as many symbols were taken as may be
   pub stops_full : (n : ℕ) → taken cur ≡ rules.limit → StopsShort rules old a b n n
   stops_full n full =
       let far : taken old + length so.reaches.0 ≡ taken cur = so.reaches.2 in
-      let behind = λ (place : ℕ). before_ends (room_in rules) place (left_in rules old a) (left_in rules cur b) so.met in
+      let behind = λ (place : ℕ). before_ends needed place (left_in rules old a) (left_in rules cur b) so.met in
       record {
         bytes = so.bytes;
         read = so.read;
-        short = behind (taken old + length so.bytes / 4) (ends_behind rules cur (taken old + length so.bytes / 4) b searching (omega (arith, so.count, far, few)));
+        short = behind (taken old + length so.bytes / 4) (ends_behind rules cur needed (taken old + length so.bytes / 4) b searching (omega (arith, so.count, far, few, enough)));
         cause = λ other. (
           refl,
           subst (λ to. Reaches to (taken old) a b) full so.reaches,
           omega (arith, so.count, full),
-          behind rules.limit (ends_behind rules cur rules.limit b searching (omega (arith, full, few))),
+          behind rules.limit (ends_behind rules cur needed rules.limit b searching (omega (arith, full, few, enough))),
         );
       }
 
@@ -171,8 +191,8 @@ module _ (rules : Rules) (old cur : State) (a b : Option (List ℕ)) (so : Waite
       record {
         bytes = so.bytes ++ bytes;
         read = Consumes-trans a b c so.bytes bytes so.read read;
-        short = before_ends (room_in rules) place (left_in rules old a) (left_in rules cur b) so.met (ends_behind rules cur place b searching
-            (omega (arith, length-append so.bytes bytes, so.count, far, room, min-le_right (rules.limit - taken cur) (room_in rules - length cur.window.symbols))));
+        short = before_ends needed place (left_in rules old a) (left_in rules cur b) so.met (ends_behind rules cur needed place b searching
+            (omega (arith, length-append so.bytes bytes, so.count, far, room, few, enough, min-le_right (rules.limit - taken cur) (room_for cur.window.again rules.size - length cur.window.symbols))));
         cause = λ other. absurd (other failed);
       }
 
@@ -209,9 +229,9 @@ module _ {D : Type 0} (decide : D → List Symbol → Decision) (last : D → De
       let (met, handles, decided, meets, reaches, ends) = stepped rules first.state cur.state new.state a b c so bytes (last new.decider) new.packets step steps read ended live in
       (met, handles, decided, subst (λ l. KeepsLast (Some step) l (last new.decider)) kept advances.kept, meets, reaches, ends, count, subst (λ (x : Rules). taken new.state ≤ x.limit) same advances.bounded)
 
-  module _ (few : length cur.state.window.symbols < room_for cur.resync (symbols_in cur.sought.mode)) (within : taken cur.state ≤ cur.limit) (n n' : ℕ) where
-    small : length cur.state.window.symbols < room_in rules
-    small = subst (λ (x : Rules). length cur.state.window.symbols < room_in x) same few
+  module _ (few : length cur.state.window.symbols < room_for cur.state.window.again (symbols_in cur.sought.mode)) (within : taken cur.state ≤ cur.limit) (n n' : ℕ) where
+    small : length cur.state.window.symbols < room_for cur.state.window.again rules.size
+    small = subst (λ (x : Rules). length cur.state.window.symbols < room_for cur.state.window.again x.size) same few
 
     pub fails_now : (fault : ReadFault) → Reads (seen_by decide last cur) (seen_by decide last new) b c (Err fault) → n' ≡ n + 1 → FindsNone (seen_by decide last first) (seen_by decide last new) a c n n'
     fails_now fault (is, (bytes, read, less)) failed =
@@ -225,13 +245,13 @@ module _ {D : Type 0} (decide : D → List Symbol → Decision) (last : D → De
         )
 
   -- no symbols may be taken any more
-  pub full_now : (n n' : ℕ) → length cur.state.window.symbols < room_for cur.resync (symbols_in cur.sought.mode) → taken cur.state ≤ cur.limit → cur.state.phase ≡ phases.Searching → asked (rules_of decide cur) cur.state ≡ 0 → n' ≡ n
+  pub full_now : (n n' : ℕ) → length cur.state.window.symbols < room_for cur.state.window.again (symbols_in cur.sought.mode) → taken cur.state ≤ cur.limit → cur.state.phase ≡ phases.Searching → asked (rules_of decide cur) cur.state ≡ 0 → n' ≡ n
       → FindsNone (seen_by decide last first) (seen_by decide last cur) a b n n'
   full_now n n' few within searching none count =
-      let size = room_for cur.resync (symbols_in cur.sought.mode) in
+      let size = room_for cur.state.window.again (symbols_in cur.sought.mode) in
       let zero : 4 * wanted cur.limit size cur.state.window ≡ 0 = sym (ap (λ p. asked_by (rules_of decide cur) p cur.state.window) searching) ∙ none in
       let full : taken cur.state ≡ cur.limit = full_by (cur.limit - taken cur.state) (size - length cur.state.window.symbols) (taken cur.state) cur.limit zero refl within (omega (arith, few)) in
-      let short = subst (λ (x : Rules). length cur.state.window.symbols < room_in x) same few in
+      let short = subst (λ (x : Rules). length cur.state.window.symbols < room_for cur.state.window.again x.size) same few in
       let all = full ∙ ap (λ (x : Rules). x.limit) same in (
         sym so.phase ∙ searching,
         so.standing,

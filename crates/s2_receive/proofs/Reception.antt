@@ -12,28 +12,28 @@ module _ (rules : Rules) (roll_off : ℕ) (large : 90 ≤ rules.size) where
   kept symbols is = and_right rules.resync (is_lost (rules.decide symbols)) (ap is_none is)
 
   -- what comes behind the symbols of a frame
-  further : (at n : ℕ) (behind : Bool) (s xs rest : List Symbol) → length s ≡ n → 0 < n → met_from rules.finds (searched_again rules) rules.size (at + n + length xs) 0 (behind_of (length xs) true) no_gap rest
-      ≡ met_from rules.finds (searched_again rules) rules.size (at + length (s ++ xs)) 0 (behind_of (length (s ++ xs)) behind) no_gap rest
+  further : (at n : ℕ) (behind : Bool) (s xs rest : List Symbol) → length s ≡ n → 0 < n → met_from rules.finds (searched_again rules) rules.size 0 (at + n + length xs) 0 (behind_of (length xs) true) no_gap rest
+      ≡ met_from rules.finds (searched_again rules) rules.size 0 (at + length (s ++ xs)) 0 (behind_of (length (s ++ xs)) behind) no_gap rest
   further at n behind s xs rest here some =
       let long = length-append s xs in
-      ap (λ b. met_from rules.finds (searched_again rules) rules.size (at + n + length xs) 0 b no_gap rest) (behind_or (length xs) true ∙ sym (behind_some (length (s ++ xs)) behind (omega (arith, long))))
-      ∙ ap (λ m. met_from rules.finds (searched_again rules) rules.size m 0 (behind_of (length (s ++ xs)) behind) no_gap rest) (omega (arith, long))
+      ap (λ b. met_from rules.finds (searched_again rules) rules.size 0 (at + n + length xs) 0 b no_gap rest) (behind_or (length xs) true ∙ sym (behind_some (length (s ++ xs)) behind (omega (arith, long))))
+      ∙ ap (λ m. met_from rules.finds (searched_again rules) rules.size 0 m 0 (behind_of (length (s ++ xs)) behind) no_gap rest) (omega (arith, long))
 
   -- they are met as just these frames
   met_frames : (at k : ℕ) (behind : Bool) (pieces : List Piece) (fields : List (List ℕ)) (rest : List Symbol) → AreReceived rules roll_off behind k pieces fields
-      → met_from rules.finds (searched_again rules) rules.size at 0 behind no_gap (stream_symbols pieces ++ rest)
-      ≡ frames_at rules.size at pieces ++ met_from rules.finds (searched_again rules) rules.size (at + length (stream_symbols pieces)) 0 (behind_of (length (stream_symbols pieces)) behind) no_gap rest
-  met_frames at k behind [] [] rest h = ap (λ n. met_from rules.finds (searched_again rules) rules.size n 0 behind no_gap rest) (omega arith)
+      → met_from rules.finds (searched_again rules) rules.size 0 at 0 behind no_gap (stream_symbols pieces ++ rest)
+      ≡ frames_at rules.size at pieces ++ met_from rules.finds (searched_again rules) rules.size 0 (at + length (stream_symbols pieces)) 0 (behind_of (length (stream_symbols pieces)) behind) no_gap rest
+  met_frames at k behind [] [] rest h = ap (λ n. met_from rules.finds (searched_again rules) rules.size 0 n 0 behind no_gap rest) (omega arith)
   met_frames at k behind [] (f ∷ fs) rest h = absurd h
   met_frames at k behind (coded s ∷ ps) [] rest h = absurd h
   met_frames at k behind (coded s ∷ ps) (f ∷ fs) rest h =
-      ap (met_from rules.finds (searched_again rules) rules.size at 0 behind no_gap) (append_assoc s (stream_symbols ps) rest)
-      ∙ whole_frame rules.finds (searched_again rules) rules.size s (stream_symbols ps ++ rest) at behind no_gap h.0.0 large h.0.1 (kept s h.0.2)
+      ap (met_from rules.finds (searched_again rules) rules.size 0 at 0 behind no_gap) (append_assoc s (stream_symbols ps) rest)
+      ∙ whole_frame rules.finds (searched_again rules) rules.size 0 s (stream_symbols ps ++ rest) at behind no_gap h.0.0 large h.0.1 (kept s h.0.2)
       ∙ ap (λ l. frame at no_gap s ∷ l) (met_frames (at + rules.size) (k + length f) true ps fs rest h.1)
       ∙ ap (λ l. frame at no_gap s ∷ (frames_at rules.size (at + rules.size) ps ++ l)) (further at rules.size behind s (stream_symbols ps) rest h.0.0 (omega arith))
   met_frames at k behind (dummy s ∷ ps) fs rest h =
-      ap (met_from rules.finds (searched_again rules) rules.size at 0 behind no_gap) (append_assoc s (stream_symbols ps) rest)
-      ∙ whole_dummy rules.finds (searched_again rules) rules.size s (stream_symbols ps ++ rest) at behind no_gap h.0.0 h.0.1
+      ap (met_from rules.finds (searched_again rules) rules.size 0 at 0 behind no_gap) (append_assoc s (stream_symbols ps) rest)
+      ∙ whole_dummy rules.finds (searched_again rules) rules.size 0 s (stream_symbols ps ++ rest) at behind no_gap h.0.0 h.0.1
       ∙ met_frames (at + 3330) k true ps fs rest h.1
       ∙ ap (λ l. frames_at rules.size (at + 3330) ps ++ l) (further at 3330 behind s (stream_symbols ps) rest h.0.0 (omega arith))
 
@@ -74,8 +74,8 @@ gives rules roll_off size packets fields later pieces rest large room each cut_s
     let good = ap (λ j. j.good) events ∙ trip.0 in
     record {
       met = met_frames rules roll_off large 0 0 false pieces fields rest received
-          ∙ ap (λ n. met ++ met_from rules.finds (searched_again rules) rules.size n 0 (behind_of (length (stream_symbols pieces)) false) no_gap rest) (omega arith)
-          ∙ ap (λ b. met ++ met_from rules.finds (searched_again rules) rules.size (length (stream_symbols pieces)) 0 b no_gap rest) (behind_or (length (stream_symbols pieces)) false);
+          ∙ ap (λ n. met ++ met_from rules.finds (searched_again rules) rules.size 0 n 0 (behind_of (length (stream_symbols pieces)) false) no_gap rest) (omega arith)
+          ∙ ap (λ b. met ++ met_from rules.finds (searched_again rules) rules.size 0 (length (stream_symbols pieces)) 0 b no_gap rest) (behind_or (length (stream_symbols pieces)) false);
       written = join.packets ∙ ap joined good;
       frames_count = counts.2 ∙ omega arith;
       delivered = counts.3 ∙ omega arith;
@@ -98,5 +98,5 @@ front rules roll_off size packets fields later pieces rest mid before behind met
     let symbols = stream_symbols pieces ++ rest in
     let many : length met ≡ length just = count ∙ sym (frames_give rules roll_off large false 0 0 pieces fields at_start received).1 in
     let known = subst (λ m. Meets m (left_in rules mid behind.taken) met) (spelled rules begun.phase begun.window symbols before.taken spelt) processed.left in
-    let same : met ≡ just = front_of (met_from rules.finds (searched_again rules) rules.size 0 0 false no_gap symbols) _ met just _ known g.met many in
+    let same : met ≡ just = front_of (met_from rules.finds (searched_again rules) rules.size 0 0 0 false no_gap symbols) _ met just _ known g.met many in
     (same, subst (Appends before.given behind.given) (ap (all_packets rules at_start) same ∙ g.written) processed.packets)

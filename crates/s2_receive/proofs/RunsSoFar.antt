@@ -1,9 +1,9 @@
 -- A run of a follower, step by step.
-use Rattle.s2_receive.proofs.Names.{◌≡◌, ℕ, ◌+◌, ◌-◌, ◌≤◌, ◌&&◌, arith, Bool, true, false, List, [], ◌∷◌, ◌++◌, length, drop, Option, Some, None, refl, sym, ap, ap₂, subst, ◌∙◌, append-nil, append_assoc, drop_at, drop-drop, drop-append-le, if◌then◌else◌, Symbol, symbols_of, Sought, Met, cut, ended, no_gap, met_from, resumed, Window, room_for, passed_by, window_after, met_of, met_within, Follows, HoldsLast, IsInFront, Rules, Standing, State, Decision, is_lost, left_by, after, line_of, plain, IsDecided, Handles, step_line, Next, Phase, found_as}
+use Rattle.s2_receive.proofs.Names.{◌≡◌, ℕ, ◌+◌, ◌-◌, ◌≤◌, ◌&&◌, arith, Bool, true, false, List, [], ◌∷◌, ◌++◌, length, drop, Option, Some, None, refl, sym, ap, ap₂, subst, ◌∙◌, append-nil, append_assoc, drop_at, drop-drop, drop-append-le, if◌then◌else◌, Symbol, symbols_of, Sought, Met, cut, ended, no_gap, met_from, resumed, is_again, until_after, Window, room_for, passed_in, passed_by, window_after, met_of, met_within, Follows, HoldsLast, IsInFront, Rules, Standing, State, Decision, is_lost, left_by, after, line_of, plain, IsDecided, Handles, step_line, Next, Phase, found_as}
 use Rattle.s2_receive.proofs.Names.next
 use Rattle.s2_receive.proofs.Names.phases
 use Rattle.s2_mode.specs.Mode.{symbols_in}
-use Rattle.s2_receive.specs.Halves.{Follower, GoesOnFrom, IsSameFollower, IsRunBy, IsShown, RunBeginsLaw, RunEndsLaw, RunSeeksLaw, RunSettlesLaw, RunsBy, SeeksBy, ahead, deciding, decision_if, met_behind, rules_with}
+use Rattle.s2_receive.specs.Halves.{Follower, GoesOnFrom, IsSameFollower, IsRunBy, IsShown, RunBeginsLaw, RunEndsLaw, RunSeeksLaw, RunSettlesLaw, RunsBy, SeeksBy, ahead, deciding, decision_if, lets_search, met_behind, rules_with}
 use Rattle.s2_receive.specs.Receiving.{wanted_by}
 use Rattle.s2_receive.proofs.LastSymbols.{last-last, last-more, passed_last}
 use Rattle.s2_receive.proofs.MetLemmas.{passed-inside}
@@ -16,10 +16,10 @@ rules_kept decide old new s = λ i. record { finds = found_as (s.sought i) (s.ma
 size_kept : (old new : Follower) → IsSameFollower old new → symbols_in new.sought.mode ≡ symbols_in old.sought.mode
 size_kept old new s = ap (λ (x : Sought). symbols_in x.mode) s.sought
 
--- a property of a recording, a standing and the things met next, with each of them given otherwise
-moved : (P : List Symbol → Standing → List Met → Type 0) (l l' : List Symbol) (s s' : Standing) (m m' : List Met) → l ≡ l' → s ≡ s' → m ≡ m' → P l s m → P l' s' m'
-moved P l l' s s' m m' same_recording same_standing same_met x =
-    subst (λ n. P l' s' n) same_met (subst (λ t. P l' t m) same_standing (subst (λ k. P k s m) same_recording x))
+-- a property of a recording, a position, a standing and the things met next, with each of them given otherwise
+moved : (P : List Symbol → ℕ → Standing → List Met → Type 0) (l l' : List Symbol) (u u' : ℕ) (s s' : Standing) (m m' : List Met) → l ≡ l' → u ≡ u' → s ≡ s' → m ≡ m' → P l u s m → P l' u' s' m'
+moved P l l' u u' s s' m m' same_recording same_place same_standing same_met x =
+    subst (λ n. P l' u' s' n) same_met (subst (λ t. P l' u' t m) same_standing (subst (λ v. P l' v s m) same_place (subst (λ k. P k u s m) same_recording x)))
 
 -- none may follow the last symbols
 none_follow : (more_come : Bool) → Follows more_come []
@@ -41,8 +41,10 @@ none_in (b ∷ bytes) few = absurd (omega (arith, few))
 
 -- the same is met with the symbols that are held after it
 passes : (rules : Rules) (taken coming : List Symbol) (w : Window) (at : ℕ) (d : Decision) → HoldsLast 0 taken w → w.at ≡ at → rules.size ≤ length w.symbols → 90 ≤ rules.size
-    → met_within rules.finds (λ symbols. false) rules.size (passed_by (rules.resync && is_lost d) rules.size w) coming ≡ met_behind rules (taken ++ coming) at d
-passes rules taken coming w at d last there long least = by (rules.resync && is_lost d)
+    → met_within rules.finds (λ symbols. false) rules.size (passed_by (lets_search rules d) rules.size w) coming ≡ met_behind rules (taken ++ coming) w.until at d
+passes rules taken coming w at d last there long least =
+    by (is_again (lets_search rules d) w.until w.at) ∙ ap (λ a. met_from rules.finds (λ symbols. false) rules.size (if is_again (lets_search rules d) w.until a then a + rules.size else w.until) (at + 1)
+    (if is_again (lets_search rules d) w.until a then resumed rules.finds rules.size (rules.size - 1) (drop 1 (drop at (taken ++ coming))) else rules.size - 1) true no_gap (drop (at + 1) (taken ++ coming))) there
   where
     all : List Symbol
     all = taken ++ coming
@@ -58,18 +60,18 @@ passes rules taken coming w at d last there long least = by (rules.resync && is_
     left_by_size : drop rules.size (drop at all) ≡ drop rules.size w.symbols ++ coming
     left_by_size = ap (drop rules.size) left ∙ drop-append-le rules.size w.symbols coming long
 
-    by : (b : Bool) → met_within rules.finds (λ symbols. false) rules.size (passed_by b rules.size w) coming
-        ≡ met_from rules.finds (λ symbols. false) rules.size (at + 1) (if b then resumed rules.finds rules.size (rules.size - 1) (drop 1 (drop at all)) else rules.size - 1) true no_gap (drop (at + 1) all)
+    by : (b : Bool) → met_within rules.finds (λ symbols. false) rules.size (passed_in b rules.size w) coming
+        ≡ met_from rules.finds (λ symbols. false) rules.size (if b then w.at + rules.size else w.until) (at + 1) (if b then resumed rules.finds rules.size (rules.size - 1) (drop 1 (drop at all)) else rules.size - 1) true no_gap (drop (at + 1) all)
     by true =
-        ap (λ a. met_from rules.finds (λ symbols. false) rules.size (a + 1) (resumed rules.finds rules.size (rules.size - 1) (drop 1 w.symbols ++ coming)) true no_gap (drop 1 w.symbols ++ coming)) there
-        ∙ ap₂ (λ k l. met_from rules.finds (λ symbols. false) rules.size (at + 1) (resumed rules.finds rules.size (rules.size - 1) k) true no_gap l) (sym left_by_one) (sym left_by_one ∙ drop-drop 1 at all)
+        ap (λ a. met_from rules.finds (λ symbols. false) rules.size (w.at + rules.size) (a + 1) (resumed rules.finds rules.size (rules.size - 1) (drop 1 w.symbols ++ coming)) true no_gap (drop 1 w.symbols ++ coming)) there
+        ∙ ap₂ (λ k l. met_from rules.finds (λ symbols. false) rules.size (w.at + rules.size) (at + 1) (resumed rules.finds rules.size (rules.size - 1) k) true no_gap l) (sym left_by_one) (sym left_by_one ∙ drop-drop 1 at all)
     by false =
         let whole : 1 + (rules.size - 1) ≡ rules.size = omega (arith, least) in
-        ap (λ a. met_from rules.finds (λ symbols. false) rules.size (a + rules.size) 0 true no_gap (drop rules.size w.symbols ++ coming)) there
-        ∙ ap (met_from rules.finds (λ symbols. false) rules.size (at + rules.size) 0 true no_gap) (sym left_by_size)
-        ∙ ap (λ n. met_from rules.finds (λ symbols. false) rules.size (at + n) 0 true no_gap (drop n (drop at all))) (sym whole)
-        ∙ sym (passed-inside rules.finds (λ symbols. false) rules.size (rules.size - 1) at (drop at all))
-        ∙ ap (met_from rules.finds (λ symbols. false) rules.size (at + 1) (rules.size - 1) true no_gap) (drop-drop 1 at all)
+        ap (λ a. met_from rules.finds (λ symbols. false) rules.size w.until (a + rules.size) 0 true no_gap (drop rules.size w.symbols ++ coming)) there
+        ∙ ap (met_from rules.finds (λ symbols. false) rules.size w.until (at + rules.size) 0 true no_gap) (sym left_by_size)
+        ∙ ap (λ n. met_from rules.finds (λ symbols. false) rules.size w.until (at + n) 0 true no_gap (drop n (drop at all))) (sym whole)
+        ∙ sym (passed-inside rules.finds (λ symbols. false) rules.size w.until (rules.size - 1) at (drop at all))
+        ∙ ap (met_from rules.finds (λ symbols. false) rules.size w.until (at + 1) (rules.size - 1) true no_gap) (drop-drop 1 at all)
 
 -- ---- the first half
 
@@ -90,7 +92,7 @@ run_seeks Shows decide taken more_come old new ds lines packets bytes whole foun
     -- the run goes on by these rules
     Goes : Rules → Type 0
     Goes x =
-        (coming : List Symbol) → Follows (more_come && whole) coming → (more : List Decision) (later : List (List ℕ)) (rest : List ℕ) → RunsBy Shows x ((taken ++ symbols) ++ coming) new.state.standing (ahead x new new.found coming) more later rest
+        (coming : List Symbol) → Follows (more_come && whole) coming → (more : List Decision) (later : List (List ℕ)) (rest : List ℕ) → RunsBy Shows x ((taken ++ symbols) ++ coming) new.state.window.until new.state.standing (ahead x new new.found coming) more later rest
         → IsRunBy Shows x ((taken ++ symbols) ++ coming) (ds ++ more) (lines ++ later) (packets ++ rest)
 
     -- and only so
@@ -101,7 +103,7 @@ run_seeks Shows decide taken more_come old new ds lines packets bytes whole foun
 
     -- how many bytes are wanted in a phase
     wanted_in : Phase → ℕ
-    wanted_in p = wanted_by p old.limit (room_for old.resync (symbols_in old.sought.mode)) old.state.window
+    wanted_in p = wanted_by p old.limit (room_for old.state.window.again (symbols_in old.sought.mode)) old.state.window
 
     -- where none are wanted
     at_rest : length bytes ≤ 0 → new.state.window ≡ old.state.window → HoldsLast 0 (taken ++ symbols) new.state.window
@@ -118,7 +120,7 @@ run_seeks Shows decide taken more_come old new ds lines packets bytes whole foun
     -- what is met next is still met
     ahead_so : (coming : List Symbol) → Follows whole coming → (phase : Phase) (found : Option Next) → old.state.phase ≡ phase → new.state.phase ≡ phase → SeeksBy phase old new bytes whole found → ahead rules old None (symbols ++ coming) ≡ ahead rules new found coming
     ahead_so coming follows phases.Searching None is still seeks =
-        let (all, met, place, less, further, skipped) = seeks.0 (λ l. false) in
+        let (all, met, place, less, again, further, skipped) = seeks.0 (λ l. false) in
         ap (λ p. left_by (record rules { resync = false }) p old.state.window (symbols ++ coming)) is ∙ met coming ∙ sym (ap (λ p. left_by (record rules { resync = false }) p new.state.window coming) still)
     ahead_so coming follows phases.Searching (Some n) is still seeks =
         let (met, place, behind, holds) = seeks.0 (λ l. false) in
@@ -133,6 +135,15 @@ run_seeks Shows decide taken more_come old new ds lines packets bytes whole foun
     one : (coming : List Symbol) → (taken ++ symbols) ++ coming ≡ taken ++ (symbols ++ coming)
     one coming = append_assoc taken symbols coming
 
+    until_so : (phase : Phase) → SeeksBy phase old new bytes whole found → new.state.window.until ≡ old.state.window.until
+    until_so phases.Searching seeks = seeks.2
+    until_so phases.Closing seeks = ap (λ (w : Window). w.until) seeks.1
+    until_so phases.Ended seeks = ap (λ (s : State). s.window.until) seeks.1
+    until_so phases.Failed seeks = ap (λ (s : State). s.window.until) seeks.1
+
+    until : new.state.window.until ≡ old.state.window.until
+    until = until_so old.state.phase seeks.seeks
+
     standing : new.state.standing ≡ old.state.standing
     standing = ap (λ (s : State). s.standing) seeks.state
 
@@ -144,7 +155,7 @@ run_seeks Shows decide taken more_come old new ds lines packets bytes whole foun
     goes : Goes rules
     goes coming follows more later rest runs =
         let (may_on, whole_on) = follows_on more_come whole symbols coming may follows in
-        let there = moved (λ l s m. RunsBy Shows rules l s m more later rest) _ _ _ _ _ _ (one coming) standing (next_is coming whole_on) runs in
+        let there = moved (λ l u s m. RunsBy Shows rules l u s m more later rest) _ _ _ _ _ _ _ _ (one coming) until standing (next_is coming whole_on) runs in
         subst (λ l. IsRunBy Shows rules l (ds ++ more) (lines ++ later) (packets ++ rest)) (sym (one coming)) (so_far.goes_on (symbols ++ coming) may_on more later rest there)
 
     back : Only rules
@@ -156,7 +167,7 @@ run_seeks Shows decide taken more_come old new ds lines packets bytes whole foun
           rest = all.rest;
           lines_are = all.lines_are;
           packets_are = all.packets_are;
-          runs = moved (λ l s m. RunsBy Shows rules l s m more all.later all.rest) _ _ _ _ _ _ (sym (one coming)) (sym standing) (sym (next_is coming whole_on)) all.runs;
+          runs = moved (λ l u s m. RunsBy Shows rules l u s m more all.later all.rest) _ _ _ _ _ _ _ _ (sym (one coming)) (sym until) (sym standing) (sym (next_is coming whole_on)) all.runs;
         }
 
 -- ---- the second half
@@ -192,7 +203,7 @@ run_settles Shows decide taken more_come old new ds lines packets found d step s
 
     Goes : Rules → Type 0
     Goes x =
-        (coming : List Symbol) → Follows more_come coming → (more : List Decision) (later : List (List ℕ)) (rest : List ℕ) → RunsBy Shows x (taken ++ coming) new.state.standing (ahead x new new.found coming) more later rest
+        (coming : List Symbol) → Follows more_come coming → (more : List Decision) (later : List (List ℕ)) (rest : List ℕ) → RunsBy Shows x (taken ++ coming) new.state.window.until new.state.standing (ahead x new new.found coming) more later rest
         → IsRunBy Shows x (taken ++ coming) ((ds ++ decision_if found d) ++ more) ((lines ++ (line ∷ [])) ++ later) ((packets ++ new.packets) ++ rest)
 
     -- and only so
@@ -211,7 +222,7 @@ run_settles Shows decide taken more_come old new ds lines packets found d step s
 
     -- what is met after it
     met_after : List Symbol → Next → List Met
-    met_after coming (next.Frame at skipped) = met_behind rules (taken ++ coming) at d
+    met_after coming (next.Frame at skipped) = met_behind rules (taken ++ coming) old.state.window.until at d
     met_after coming (next.Cut at skipped count) = ended no_gap ∷ []
     met_after coming (next.End at skipped) = []
 
@@ -224,24 +235,40 @@ run_settles Shows decide taken more_come old new ds lines packets found d step s
     behind coming (next.Cut at skipped count) front handles window = ap (λ n. ahead rules new n coming) settles.none ∙ ap (λ p. left_by (record rules { resync = false }) p new.state.window coming) handles.phase
     behind coming (next.End at skipped) front handles window = ap (λ n. ahead rules new n coming) settles.none ∙ ap (λ p. left_by (record rules { resync = false }) p new.state.window coming) handles.phase
 
+    -- and there the last frame ends that is searched again
+    until_behind : Next → ℕ
+    until_behind (next.Frame at skipped) = until_after (lets_search rules d) rules.size old.state.window.until at
+    until_behind found = old.state.window.until
+
+    until_is : (found : Next) → IsInFront rules.size (Some found) old.state.window old.frame → new.state.window ≡ window_after (λ symbols. old.resync && is_lost d) rules.size (Some found) old.state.window
+        → new.state.window.until ≡ until_behind found
+    until_is (next.Frame at skipped) front window =
+        ap (λ (w : Window). w.until) window ∙ by (is_again (lets_search rules d) old.state.window.until old.state.window.at) ∙ ap (until_after (lets_search rules d) rules.size old.state.window.until) front.0
+      where
+        by : (b : Bool) → (passed_in b rules.size old.state.window).until ≡ (if b then old.state.window.at + rules.size else old.state.window.until)
+        by true = refl
+        by false = refl
+    until_is (next.Cut at skipped count) front window = ap (λ (w : Window). w.until) window
+    until_is (next.End at skipped) front window = ap (λ (w : Window). w.until) window
+
     -- one step more
     step_more : (coming : List Symbol) (more : List Decision) (later : List (List ℕ)) (rest : List ℕ) (found : Next) → IsShown Shows found old.frame d → Handled found
-        → RunsBy Shows rules (taken ++ coming) (after (deciding rules d) old.state.standing (met_of found old.frame)) (met_after coming found) more later rest
-        → RunsBy Shows rules (taken ++ coming) old.state.standing (ahead rules old (Some found) coming) (decision_if found d ++ more) (line ∷ later) (new.packets ++ rest)
+        → RunsBy Shows rules (taken ++ coming) (until_behind found) (after (deciding rules d) old.state.standing (met_of found old.frame)) (met_after coming found) more later rest
+        → RunsBy Shows rules (taken ++ coming) old.state.window.until old.state.standing (ahead rules old (Some found) coming) (decision_if found d ++ more) (line ∷ later) (new.packets ++ rest)
     step_more coming more later rest (next.Frame at skipped) shown handles runs = (shown, line_is (next.Frame at skipped) handles, (rest, ap (λ p. p ++ rest) handles.packets_are, runs))
     step_more coming more later rest (next.Cut at skipped count) shown handles runs =
-        (line_is (next.Cut at skipped count) handles, subst (λ p. RunsBy Shows rules (taken ++ coming) (after rules old.state.standing (cut at skipped count)) (ended no_gap ∷ []) more later (p ++ rest)) (sym handles.packets_are) runs)
+        (line_is (next.Cut at skipped count) handles, subst (λ p. RunsBy Shows rules (taken ++ coming) old.state.window.until (after rules old.state.standing (cut at skipped count)) (ended no_gap ∷ []) more later (p ++ rest)) (sym handles.packets_are) runs)
     step_more coming more later rest (next.End at skipped) shown handles runs =
-        (line_is (next.End at skipped) handles, subst (λ p. RunsBy Shows rules (taken ++ coming) (after rules old.state.standing (ended skipped)) [] more later (p ++ rest)) (sym handles.packets_are) runs)
+        (line_is (next.End at skipped) handles, subst (λ p. RunsBy Shows rules (taken ++ coming) old.state.window.until (after rules old.state.standing (ended skipped)) [] more later (p ++ rest)) (sym handles.packets_are) runs)
 
     -- a run that was one step more: the line of the step, its packets, and a run after it
     StepBack : (coming : List Symbol) (more : List Decision) (all_lines : List (List ℕ)) (all_given : List ℕ) → Next → Type 0
     StepBack coming more all_lines all_given found =
         (later : List (List ℕ)) × (rest : List ℕ) × (all_lines ≡ line ∷ later) × (all_given ≡ new.packets ++ rest)
-        × RunsBy Shows rules (taken ++ coming) (after (deciding rules d) old.state.standing (met_of found old.frame)) (met_after coming found) more later rest
+        × RunsBy Shows rules (taken ++ coming) (until_behind found) (after (deciding rules d) old.state.standing (met_of found old.frame)) (met_after coming found) more later rest
 
     step_back : (coming : List Symbol) (more : List Decision) (all_lines : List (List ℕ)) (all_given : List ℕ) (found : Next) → Handled found
-        → RunsBy Shows rules (taken ++ coming) old.state.standing (ahead rules old (Some found) coming) (decision_if found d ++ more) all_lines all_given → StepBack coming more all_lines all_given found
+        → RunsBy Shows rules (taken ++ coming) old.state.window.until old.state.standing (ahead rules old (Some found) coming) (decision_if found d ++ more) all_lines all_given → StepBack coming more all_lines all_given found
     step_back coming more [] all_given (next.Frame at skipped) handles runs = absurd runs
     step_back coming more [] all_given (next.Cut at skipped count) handles runs = absurd runs
     step_back coming more [] all_given (next.End at skipped) handles runs = absurd runs
@@ -257,9 +284,9 @@ run_settles Shows decide taken more_come old new ds lines packets found d step s
 
     goes : Goes rules
     goes coming follows more later rest runs =
-        let runs_on = moved (λ l s m. RunsBy Shows rules l s m more later rest) _ _ _ _ _ _ refl handled.standing (behind coming found front handled settles.window) runs in
+        let runs_on = moved (λ l u s m. RunsBy Shows rules l u s m more later rest) _ _ _ _ _ _ _ _ refl (until_is found front settles.window) handled.standing (behind coming found front handled settles.window) runs in
         let here = step_more coming more later rest found shown handled runs_on in
-        let found_here = subst (λ n. RunsBy Shows rules (taken ++ coming) old.state.standing (ahead rules old n coming) (decision_if found d ++ more) (line ∷ later) (new.packets ++ rest)) (sym is) here in
+        let found_here = subst (λ n. RunsBy Shows rules (taken ++ coming) old.state.window.until old.state.standing (ahead rules old n coming) (decision_if found d ++ more) (line ∷ later) (new.packets ++ rest)) (sym is) here in
         let all = so_far.goes_on coming follows (decision_if found d ++ more) (line ∷ later) (new.packets ++ rest) found_here in
         subst (λ l. IsRunBy Shows rules (taken ++ coming) l ((lines ++ (line ∷ [])) ++ later) ((packets ++ new.packets) ++ rest)) (sym (append_assoc ds (decision_if found d) more))
         (subst (λ l. IsRunBy Shows rules (taken ++ coming) (ds ++ (decision_if found d ++ more)) l ((packets ++ new.packets) ++ rest)) (sym (append_assoc lines (line ∷ []) later))
@@ -269,14 +296,14 @@ run_settles Shows decide taken more_come old new ds lines packets found d step s
     back coming follows more all_lines all_given run =
         let there = subst (λ l. IsRunBy Shows rules (taken ++ coming) l all_lines all_given) (append_assoc ds (decision_if found d) more) run in
         let all = so_far.only coming follows (decision_if found d ++ more) all_lines all_given there in
-        let found_here = subst (λ n. RunsBy Shows rules (taken ++ coming) old.state.standing (ahead rules old n coming) (decision_if found d ++ more) all.later all.rest) is all.runs in
+        let found_here = subst (λ n. RunsBy Shows rules (taken ++ coming) old.state.window.until old.state.standing (ahead rules old n coming) (decision_if found d ++ more) all.later all.rest) is all.runs in
         let (later, rest, lines_are, given_are, runs) = step_back coming more all.later all.rest found handled found_here in
         record {
           later = later;
           rest = rest;
           lines_are = all.lines_are ∙ ap (λ l. lines ++ l) lines_are ∙ sym (append_assoc lines (line ∷ []) later);
           packets_are = all.packets_are ∙ ap (λ p. packets ++ p) given_are ∙ sym (append_assoc packets new.packets rest);
-          runs = moved (λ l s m. RunsBy Shows rules l s m more later rest) _ _ _ _ _ _ refl (sym handled.standing) (sym (behind coming found front handled settles.window)) runs;
+          runs = moved (λ l u s m. RunsBy Shows rules l u s m more later rest) _ _ _ _ _ _ _ _ refl (sym (until_is found front settles.window)) (sym handled.standing) (sym (behind coming found front handled settles.window)) runs;
         }
 
 -- ---- the beginning and the end
@@ -287,17 +314,17 @@ run_begins Shows decide f is none = record {
   front = subst (λ n. IsInFront (symbols_in f.sought.mode) n f.state.window f.frame) (sym none) tt;
   goes_on = λ coming follows more later rest runs.
       (let rules = rules_with decide f in
-      let first = subst (λ n. RunsBy Shows rules coming f.state.standing (ahead rules f n coming) more later rest) none runs in
-      subst (λ (s : State). RunsBy Shows rules coming s.standing (left_by (record rules { resync = false }) s.phase s.window coming) more later rest) is first);
+      let first = subst (λ n. RunsBy Shows rules coming f.state.window.until f.state.standing (ahead rules f n coming) more later rest) none runs in
+      subst (λ (s : State). RunsBy Shows rules coming s.window.until s.standing (left_by (record rules { resync = false }) s.phase s.window coming) more later rest) is first);
   only = λ coming follows more all_lines all_given run.
       (let rules = rules_with decide f in
-      let first = subst (λ (s : State). RunsBy Shows rules coming s.standing (left_by (record rules { resync = false }) s.phase s.window coming) more all_lines all_given) (sym is) run in
+      let first = subst (λ (s : State). RunsBy Shows rules coming s.window.until s.standing (left_by (record rules { resync = false }) s.phase s.window coming) more all_lines all_given) (sym is) run in
       record {
         later = all_lines;
         rest = all_given;
         lines_are = refl;
         packets_are = refl;
-        runs = subst (λ n. RunsBy Shows rules coming f.state.standing (ahead rules f n coming) more all_lines all_given) (sym none) first;
+        runs = subst (λ n. RunsBy Shows rules coming f.state.window.until f.state.standing (ahead rules f n coming) more all_lines all_given) (sym none) first;
       });
 }
 
@@ -305,7 +332,7 @@ pub run_ends : (Shows : List Symbol → Decision → Type 0) → RunEndsLaw Show
 run_ends Shows decide taken more_come f ds lines packets so_far none over =
     let rules = rules_with decide f in
     let nothing : ahead rules f f.found [] ≡ [] = ap (λ n. ahead rules f n []) none ∙ ap (λ p. left_by (record rules { resync = false }) p f.state.window []) over in
-    let all = so_far.goes_on [] (none_follow more_come) [] [] [] (subst (λ m. RunsBy Shows rules (taken ++ []) f.state.standing m [] [] []) (sym nothing) (refl, refl)) in
+    let all = so_far.goes_on [] (none_follow more_come) [] [] [] (subst (λ m. RunsBy Shows rules (taken ++ []) f.state.window.until f.state.standing m [] [] []) (sym nothing) (refl, refl)) in
     subst (λ l. IsRunBy Shows rules l ds lines packets) (append-nil taken)
     (subst (λ l. IsRunBy Shows rules (taken ++ []) l lines packets) (append-nil ds)
     (subst (λ l. IsRunBy Shows rules (taken ++ []) (ds ++ []) l packets) (append-nil lines)

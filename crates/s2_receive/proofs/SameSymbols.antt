@@ -62,8 +62,8 @@ same_step rules old first second symbols before behind other_before other_behind
 
 -- a new receiver that came to the end met all that is in known symbols
 pub all_met : (rules : Rules) (symbols : List Symbol) (new : State) (taken left : Option (List ℕ)) (met : List Met) → SpellSymbols taken symbols → new.phase ≡ phases.Ended
-    → Meets (left_in rules begun taken) (left_in rules new left) met → met_from rules.finds (searched_again rules) rules.size 0 0 false no_gap symbols ≡ met
+    → Meets (left_in rules begun taken) (left_in rules new left) met → met_from rules.finds (searched_again rules) rules.size 0 0 0 false no_gap symbols ≡ met
 all_met rules symbols new None left met spelt phase h = absurd spelt
 all_met rules symbols new (Some bytes) left met spelt phase h =
     let whole = subst (λ x. Meets (left_in rules begun (Some bytes)) (left_known rules x new.window left) met) phase h in
-    ap (met_from rules.finds (searched_again rules) rules.size 0 0 false no_gap) (sym spelt) ∙ whole ∙ append-nil met
+    ap (met_from rules.finds (searched_again rules) rules.size 0 0 0 false no_gap) (sym spelt) ∙ whole ∙ append-nil met

@@ -9,7 +9,8 @@ use Rattle.s2_mode.specs.declared.stream_fault.StreamFault.TheVariants as stream
 use Rattle.s2_mode.specs.declared.counts.ReadFault.{ReadFault}
 use Rattle.s2_mode.specs.declared.counts.WriteFault.{WriteFault}
 use Rattle.s2_receive.specs.Meeting.{Met}
-use Rattle.s2_receive.specs.Receiving.{Rules, Decision, State, Receiver, EndsAt, IsDecided, IsLive, Meets, MetFrame, Reaches, StepAnswers, StandsBehind, Steps, StopsShort, Handles, Waits, RunsOut, RunsTo, StopsAfter, BreaksAfter, begun, left_in, asked, room_in, rules_of, styled, taken}
+use Rattle.s2_receive.specs.Receiving.{Rules, Decision, State, Receiver, EndsAt, IsDecided, IsLive, Meets, MetFrame, Reaches, StepAnswers, StandsBehind, Steps, StopsShort, Handles, Waits, RunsOut, RunsTo, StopsAfter, BreaksAfter, begun, left_in, asked, rules_of, styled, taken}
+use Rattle.s2_receive.specs.Synchronization.{room_for}
 use Rattle.s2_receive.specs.declared.report.Fault.{Fault}
 use Rattle.s2_receive.specs.declared.report.Fault.TheVariants as faults
 use Rattle.s2_receive.specs.declared.report.Phase.TheVariants as phases
@@ -98,7 +99,7 @@ FindsNone old new r r' n n' =
 abbrev pub Finds : (old new : Seen) → (reader_old reader_new : Option (List ℕ)) → (reads_old reads_new : ℕ) → Result Step ReadFault → Type 0
 Finds old new r r' n n' (Ok step) =
     (met : Met) × Handles old.rules old.state new.state met new.packets step × IsDecided old.rules met new.last × KeepsLast (Some step) old.last new.last
-    × Meets (left_in old.rules old.state r) (left_in old.rules new.state r') (met ∷ []) × Reaches (taken new.state) (taken old.state) r r' × EndsAt old.rules.size (room_in old.rules) met (taken new.state)
+    × Meets (left_in old.rules old.state r) (left_in old.rules new.state r') (met ∷ []) × Reaches (taken new.state) (taken old.state) r r' × EndsAt old.rules.size (room_for old.state.window.again old.rules.size) met (taken new.state)
     × (n' ≡ n) × (taken new.state ≤ old.rules.limit)
 Finds old new r r' n n' (Err fault) = FindsNone old new r r' n n'
 
@@ -123,7 +124,7 @@ pub record NextAnswers (old new : Seen) (before behind : Streams) (result : Resu
   pub live : IsLive old.state.phase → StepAnswers old.rules old.state new.state before behind result
   pub frame : OnFrame result (λ report. MetFrame old.rules old.state new.state before behind report new.last)
   pub kept : KeepsDecision result old.last new.last
-  pub taken_are : StandsBehind old.rules.size (room_in old.rules) (taken new.state) result
+  pub taken_are : StandsBehind old.rules.size (room_for old.state.window.again old.rules.size) (taken new.state) result
   pub bounded : taken new.state ≤ old.rules.limit
   pub ended : old.state.phase ≡ phases.Ended → result ≡ Ok steps.End
   pub failed : IsErrOf result faults.Failed ↔ (old.state.phase ≡ phases.Failed)

@@ -8,7 +8,7 @@ use Rattle.s2_plframe.specs.Turns.{Sought}
 use Rattle.s2_receive.specs.Answers.{Seen}
 use Rattle.s2_receive.specs.Decider.{delivered_of}
 use Rattle.s2_receive.specs.Limits.{max_symbols}
-use Rattle.s2_receive.specs.Meeting.{Met, frame, cut, ended, met_from, no_gap, rest_of}
+use Rattle.s2_receive.specs.Meeting.{Met, frame, cut, ended, met_from, no_gap, rest_of, until_after}
 use Rattle.s2_receive.specs.Output.{HandlesNext}
 use Rattle.s2_receive.specs.ReceiverCore.{CanCountIn, Fits}
 use Rattle.s2_receive.specs.Receiving.{Decision, IsDecided, Rules, Standing, State, Steps, after, all_lines, all_packets, at_start, begun, is_lost, left_by, line_of, packets_of, searched_again, state_of, wanted_by}
@@ -48,7 +48,7 @@ rules_with decide f = record { finds = found_as f.sought f.max_header_errors; si
 
 -- the number of bytes that it needs next
 abbrev pub asked_of : Follower → ℕ
-asked_of f = wanted_by f.state.phase f.limit (room_for f.resync (symbols_in f.sought.mode)) f.state.window
+asked_of f = wanted_by f.state.phase f.limit (room_for f.state.window.again (symbols_in f.sought.mode)) f.state.window
 
 -- it as a receiver with this rule of decision and this last decision
 abbrev pub seen_with : (List Symbol → Decision) → (last : Decision) → Follower → Seen
@@ -64,12 +64,13 @@ pub record IsSameFollower (old new : Follower) : Type 0 where
 -- ---- the first half
 
 -- The search of these bytes, all that it needs (`whole`) or the last ones. Nothing is met in them, or this was found, in
--- front of the symbols held, whichever frames are lost. The symbols held are the last ones that came
+-- front of the symbols held, whichever frames are lost. The symbols held are the last ones that came. No frame was passed, so that
+-- the last frame that is searched again is still the same
 abbrev pub SeeksIn : (old new : Follower) → List ℕ → (whole : Bool) → Option Next → Type 0
 SeeksIn old new bytes whole found =
-    ((lost : List Symbol → Bool) → Takes (found_as old.sought old.max_header_errors) lost (symbols_in old.sought.mode) (room_for old.resync (symbols_in old.sought.mode)) old.state.window
+    ((lost : List Symbol → Bool) → Takes (found_as old.sought old.max_header_errors) lost (symbols_in old.sought.mode) (room_for old.state.window.again (symbols_in old.sought.mode)) old.state.window
     (window_after lost (symbols_in old.sought.mode) found new.state.window) (symbols_of bytes) whole new.frame found)
-    × HoldsLast old.state.window.at (old.state.window.symbols ++ symbols_of bytes) new.state.window
+    × HoldsLast old.state.window.at (old.state.window.symbols ++ symbols_of bytes) new.state.window × (new.state.window.until ≡ old.state.window.until)
 
 -- by the phase: a search; or the end, after a cut frame
 abbrev pub SeeksBy : Phase → (old new : Follower) → List ℕ → (whole : Bool) → Option Next → Type 0
@@ -118,35 +119,42 @@ HalvesLaw =
 abbrev pub deciding : Rules → Decision → Rules
 deciding rules d = record rules { decide = λ symbols. d }
 
--- The things met in a recording after the frame at this position, by its decision: if it is lost and lost frames are searched
--- again, the search goes on in it. Only the first thing is used; it does not depend on the decisions to come
-abbrev pub met_behind : Rules → (recording : List Symbol) → (at : ℕ) → Decision → List Met
-met_behind rules recording at d =
-    met_from rules.finds (λ symbols. false) rules.size (at + 1) (rest_of rules.finds (searched_again (deciding rules d)) rules.size (drop at recording)) true no_gap (drop (at + 1) recording)
+-- whether such a decision has a frame searched again, if it lies in no frame that is
+abbrev pub lets_search : Rules → Decision → Bool
+lets_search rules d = rules.resync && is_lost d
+
+-- The things met in a recording after the frame at this position, by its decision. If it is lost and lost frames are searched
+-- again, the search goes on in it, unless it begins before the position `until`. Only the first thing is used; it does not depend on
+-- the decisions to come
+abbrev pub met_behind : Rules → (recording : List Symbol) → (until at : ℕ) → Decision → List Met
+met_behind rules recording until at d =
+    met_from rules.finds (λ symbols. false) rules.size (until_after (lets_search rules d) rules.size until at) (at + 1) (rest_of rules.finds (searched_again (deciding rules d)) rules.size until at (drop at recording)) true no_gap (drop (at + 1) recording)
 
 -- A run in a recording from the next things met, whose frames are decided so, in order, writes exactly these lines and these
--- packets. Each decision is one that may be shown for the frame's symbols. A cut frame and the end have no decision
-abbrev pub RunsBy : (Shows : List Symbol → Decision → Type 0) → Rules → (recording : List Symbol) → Standing → List Met → List Decision → (lines : List (List ℕ)) → (packets : List ℕ) → Type 0
-RunsBy Shows rules recording s (frame at skipped symbols ∷ later) (d ∷ more) (line ∷ lines) packets =
+-- packets. The last frame that is searched again ends at the position `until`. Each decision is one that may be shown for the frame's
+-- symbols. A cut frame and the end have no decision
+abbrev pub RunsBy : (Shows : List Symbol → Decision → Type 0) → Rules → (recording : List Symbol) → (until : ℕ) → Standing → List Met → List Decision → (lines : List (List ℕ)) → (packets : List ℕ) → Type 0
+RunsBy Shows rules recording until s (frame at skipped symbols ∷ later) (d ∷ more) (line ∷ lines) packets =
     let here = frame at skipped symbols in
     Shows symbols d × (line ≡ line_of (deciding rules d) s here)
-    × ((rest : List ℕ) × (packets ≡ packets_of (deciding rules d) s here ++ rest) × RunsBy Shows rules recording (after (deciding rules d) s here) (met_behind rules recording at d) more lines rest)
-RunsBy Shows rules recording s (cut at skipped count ∷ later) decisions (line ∷ lines) packets =
-    let here = cut at skipped count in (line ≡ line_of rules s here) × RunsBy Shows rules recording (after rules s here) later decisions lines packets
-RunsBy Shows rules recording s (ended skipped ∷ later) decisions (line ∷ lines) packets =
-    let here = ended skipped in (line ≡ line_of rules s here) × RunsBy Shows rules recording (after rules s here) later decisions lines packets
-RunsBy Shows rules recording s [] decisions [] packets = (decisions ≡ []) × (packets ≡ [])
-RunsBy Shows rules recording s met decisions lines packets = ⊥
+    × ((rest : List ℕ) × (packets ≡ packets_of (deciding rules d) s here ++ rest)
+    × RunsBy Shows rules recording (until_after (lets_search rules d) rules.size until at) (after (deciding rules d) s here) (met_behind rules recording until at d) more lines rest)
+RunsBy Shows rules recording until s (cut at skipped count ∷ later) decisions (line ∷ lines) packets =
+    let here = cut at skipped count in (line ≡ line_of rules s here) × RunsBy Shows rules recording until (after rules s here) later decisions lines packets
+RunsBy Shows rules recording until s (ended skipped ∷ later) decisions (line ∷ lines) packets =
+    let here = ended skipped in (line ≡ line_of rules s here) × RunsBy Shows rules recording until (after rules s here) later decisions lines packets
+RunsBy Shows rules recording until s [] decisions [] packets = (decisions ≡ []) × (packets ≡ [])
+RunsBy Shows rules recording until s met decisions lines packets = ⊥
 
 -- from the beginning of a recording
 abbrev pub IsRunBy : (Shows : List Symbol → Decision → Type 0) → Rules → (recording : List Symbol) → List Decision → (lines : List (List ℕ)) → (packets : List ℕ) → Type 0
-IsRunBy Shows rules recording decisions lines packets = RunsBy Shows rules recording at_start (met_within rules.finds (λ symbols. false) rules.size (window_at 0 false) recording) decisions lines packets
+IsRunBy Shows rules recording decisions lines packets = RunsBy Shows rules recording 0 at_start (met_within rules.finds (λ symbols. false) rules.size (window_at 0 0 false) recording) decisions lines packets
 
 -- ---- by the decisions of a rule
 
 -- the things that a receiver meets in a recording
 abbrev pub met_in : Rules → (recording : List Symbol) → List Met
-met_in rules recording = met_within rules.finds (searched_again rules) rules.size (window_at 0 false) recording
+met_in rules recording = met_within rules.finds (searched_again rules) rules.size (window_at 0 0 false) recording
 
 -- the decisions on the frames among them
 abbrev pub decisions_on : (List Symbol → Decision) → List Met → List Decision
@@ -187,7 +195,7 @@ pub record GoesOnFrom (Shows : List Symbol → Decision → Type 0) (rules : Rul
   pub rest : List ℕ
   pub lines_are : all_lines ≡ lines ++ later
   pub packets_are : all_given ≡ packets ++ rest
-  pub runs : RunsBy Shows rules recording f.state.standing (ahead rules f f.found coming) more later rest
+  pub runs : RunsBy Shows rules recording f.state.window.until f.state.standing (ahead rules f f.found coming) more later rest
 
 -- What a follower has run so far, by these decisions, with these lines and packets, in the symbols that it has taken. More
 -- symbols may come (`more_come`), or none. With each run that follows it is a run over the recording, and each run over the
@@ -196,7 +204,7 @@ pub record RunSoFar (Shows : List Symbol → Decision → Type 0) (decide : List
   pub last : HoldsLast 0 taken f.state.window
   pub front : IsInFront (symbols_in f.sought.mode) f.found f.state.window f.frame
   pub goes_on : (coming : List Symbol) → Follows more_come coming → (more : List Decision) (later : List (List ℕ)) (rest : List ℕ)
-      → RunsBy Shows (rules_with decide f) (taken ++ coming) f.state.standing (ahead (rules_with decide f) f f.found coming) more later rest
+      → RunsBy Shows (rules_with decide f) (taken ++ coming) f.state.window.until f.state.standing (ahead (rules_with decide f) f f.found coming) more later rest
       → IsRunBy Shows (rules_with decide f) (taken ++ coming) (decisions ++ more) (lines ++ later) (packets ++ rest)
   pub only : (coming : List Symbol) → Follows more_come coming → (more : List Decision) (all_lines : List (List ℕ)) (all_given : List ℕ)
       → IsRunBy Shows (rules_with decide f) (taken ++ coming) (decisions ++ more) all_lines all_given
@@ -251,10 +259,10 @@ abbrev pub HoldsWhole : ℕ → Next → Window → Type 0
 HoldsWhole size (next.Frame at skipped) w = size ≤ length w.symbols
 HoldsWhole size found w = ⊤
 
--- The totals fit, and the search holds fewer symbols than it has room for, also after the thing found, whether or not a frame is
+-- The totals fit, and the search holds fewer symbols than it needs, also after the thing found, whether or not a frame is
 -- searched again. A frame that was found is held, and no more symbols were taken than the limit
-pub record IsFollowing (mode : Mode) (resync : Bool) (limit : ℕ) (found : Option Next) (window : Window) (t : Totals) : Type 0 where
-  pub few : (again : Bool) → length (window_after (λ symbols. again) (symbols_in mode) found window).symbols < room_for resync (symbols_in mode)
+pub record IsFollowing (mode : Mode) (limit : ℕ) (found : Option Next) (window : Window) (t : Totals) : Type 0 where
+  pub few : (again : Bool) → length (window_after (λ symbols. again) (symbols_in mode) found window).symbols < room_for (window_after (λ symbols. again) (symbols_in mode) found window).again (symbols_in mode)
   pub fits : (again : Bool) → Fits limit (window_after (λ symbols. again) (symbols_in mode) found window) t
   pub counts : (again : Bool) → CanCount (symbols_in mode) t found again window
   pub held : IfSome found (λ n. HoldsWhole (symbols_in mode) n window)

@@ -1,5 +1,5 @@
 -- Laws, which follow from the definitions alone (own).
-use Rattle.std.specs.Prelude.{Bool, true, nat_lt, nat_eq, ◌&&◌, ◌≡◌, ℕ, ◌+◌, ◌-◌, ◌<◌, ◌≤◌, false, if◌then◌else◌, List, [], ◌∷◌, ◌++◌, length, take, drop, All, Option, Some, None, Ok, ⊤}
+use Rattle.std.specs.Prelude.{Bool, true, nat_lt, nat_eq, ◌&&◌, ◌≡◌, ℕ, ◌+◌, ◌-◌, ◌*◌, ◌<◌, ◌≤◌, false, if◌then◌else◌, List, [], ◌∷◌, ◌++◌, length, take, drop, All, Option, Some, None, Ok, ⊤}
 use Rattle.std.specs.List.{flat_map}
 use Rattle.s2_mode.specs.declared.symbols.Symbol.{Symbol}
 use Rattle.s2_bbframe.specs.declared.header.Header.{Header}
@@ -10,7 +10,8 @@ use Rattle.s2_bbframe.specs.Limits.{packet_bytes}
 use Rattle.s2_bbframe.specs.DataStream.{IsPacket, stream_of, fields_of, header_at}
 use Rattle.s2_bbframe.specs.Joining.{Event, gap, joining, incomplete, closed_in}
 use Rattle.s2_receive.specs.declared.gap.Gap.{Gap}
-use Rattle.s2_receive.specs.Meeting.{Met, frame, cut, ended, no_gap, is_gap, begins, met_from, extended, resumes, resumed}
+use Rattle.s2_receive.specs.Meeting.{Met, frame, cut, ended, no_gap, is_gap, begins, met_from, extended, resumes, resumed, is_again}
+use Rattle.s2_receive.specs.Halves.{met_in}
 use Rattle.s2_receive.specs.Receiving.{Rules, Decision, Standing, State, Processed, StepAnswers, RunsOut, RunsTo, begun, delivery, at_start, searched_again, after_all, all_packets, all_lines, are_all_certified}
 use Rattle.s2_mode.specs.Streams.{Streams}
 use Rattle.s2_report.specs.declared.report.Step.{Step}
@@ -94,7 +95,7 @@ SkippedNone t = (t.skipped ≡ 0) × (t.places ≡ 0) × (t.first ≡ 0)
 -- Coded frames received as sent, the first of a stream, are met as exactly these, and no packet is incomplete. The packets
 -- written then are those whose closing CRC-8 is in the fields of these frames; all packets if these are all fields
 pub record Gives (rules : Rules) (packets fields later : List (List ℕ)) (pieces : List Piece) (rest : List Symbol) : Type 0 where
-  pub met : met_from rules.finds (searched_again rules) rules.size 0 0 false no_gap (stream_symbols pieces ++ rest) ≡ frames_at rules.size 0 pieces ++ met_from rules.finds (searched_again rules) rules.size (length (stream_symbols pieces)) 0 (nat_lt 0 (length (stream_symbols pieces))) no_gap rest
+  pub met : met_from rules.finds (searched_again rules) rules.size 0 0 0 false no_gap (stream_symbols pieces ++ rest) ≡ frames_at rules.size 0 pieces ++ met_from rules.finds (searched_again rules) rules.size 0 (length (stream_symbols pieces)) 0 (nat_lt 0 (length (stream_symbols pieces))) no_gap rest
   pub written : all_packets rules at_start (frames_at rules.size 0 pieces) ≡ joined (take (closed_in (length (joined fields))) packets)
   pub frames_count : (after_all rules at_start (frames_at rules.size 0 pieces)).totals.frames ≡ length fields
   pub delivered : (after_all rules at_start (frames_at rules.size 0 pieces)).totals.delivered ≡ length fields
@@ -138,28 +139,40 @@ abbrev pub NoneBegins : (Bool → List Symbol → Found) → Bool → ℕ → Li
 NoneBegins finds behind n symbols = (i : ℕ) → i < n → begins (finds (behind_at behind i)) (drop i symbols) ≡ founds.Nothing
 
 -- The search in its own words. If no header begins at the first n symbols and a coded frame's begins at the next, the
--- next frame is there. It has its symbols, or it is cut. The search continues after its symbols. If it is searched again since
--- it is lost, the search continues in it, at the first place after its first symbol at which a frame begins that is followed;
--- without one, after its symbols. If a dummy frame's header begins there, the search continues after its symbols, or the end
--- comes if it lacks some. If no header begins anywhere, the end comes
-pub record SearchRules (finds : Bool → List Symbol → Found) (lost : List Symbol → Bool) (size at : ℕ) (behind : Bool) (skipped : Gap) (symbols : List Symbol) : Type 0 where
-  pub found : (n : ℕ) → n + size ≤ length symbols → NoneBegins finds behind n symbols → begins (finds (behind_at behind n)) (drop n symbols) ≡ founds.Coded → lost (take size (drop n symbols)) ≡ false
-      → met_from finds lost size at 0 behind skipped symbols ≡ frame (at + n) (extended skipped at n) (take size (drop n symbols)) ∷ met_from finds lost size (at + n + size) 0 true no_gap (drop (n + size) symbols)
-  pub again : (n p : ℕ) → n + size ≤ length symbols → NoneBegins finds behind n symbols → begins (finds (behind_at behind n)) (drop n symbols) ≡ founds.Coded → lost (take size (drop n symbols)) ≡ true
+-- next frame is there. It has its symbols, or it is cut. The search continues after its symbols. If it is searched again, the search
+-- continues in it, at the first place after its first symbol at which a frame begins that is followed; without one, after its
+-- symbols. A frame is searched again if it is lost and does not begin before the end of the last frame that is. If a dummy
+-- frame's header begins there, the search continues after its symbols, or the end comes if it lacks some. If no header begins
+-- anywhere, the end comes
+pub record SearchRules (finds : Bool → List Symbol → Found) (lost : List Symbol → Bool) (size until at : ℕ) (behind : Bool) (skipped : Gap) (symbols : List Symbol) : Type 0 where
+  pub found : (n : ℕ) → n + size ≤ length symbols → NoneBegins finds behind n symbols → begins (finds (behind_at behind n)) (drop n symbols) ≡ founds.Coded → is_again (lost (take size (drop n symbols))) until (at + n) ≡ false
+      → met_from finds lost size until at 0 behind skipped symbols ≡ frame (at + n) (extended skipped at n) (take size (drop n symbols)) ∷ met_from finds lost size until (at + n + size) 0 true no_gap (drop (n + size) symbols)
+  pub again : (n p : ℕ) → n + size ≤ length symbols → NoneBegins finds behind n symbols → begins (finds (behind_at behind n)) (drop n symbols) ≡ founds.Coded → is_again (lost (take size (drop n symbols))) until (at + n) ≡ true
       → p ≡ n + 1 + resumed finds size (size - 1) (drop (n + 1) symbols)
-      → met_from finds lost size at 0 behind skipped symbols ≡ frame (at + n) (extended skipped at n) (take size (drop n symbols)) ∷ met_from finds lost size (at + p) 0 true no_gap (drop p symbols)
+      → met_from finds lost size until at 0 behind skipped symbols ≡ frame (at + n) (extended skipped at n) (take size (drop n symbols)) ∷ met_from finds lost size (at + n + size) (at + p) 0 true no_gap (drop p symbols)
   pub lacks : (n : ℕ) → n < length symbols → length symbols < n + size → NoneBegins finds behind n symbols → begins (finds (behind_at behind n)) (drop n symbols) ≡ founds.Coded
-      → met_from finds lost size at 0 behind skipped symbols ≡ cut (at + n) (extended skipped at n) (length symbols - n) ∷ (ended no_gap ∷ [])
+      → met_from finds lost size until at 0 behind skipped symbols ≡ cut (at + n) (extended skipped at n) (length symbols - n) ∷ (ended no_gap ∷ [])
   pub goes_on : (n : ℕ) → n + dummy_symbols ≤ length symbols → NoneBegins finds behind n symbols → begins (finds (behind_at behind n)) (drop n symbols) ≡ founds.Dummy
-      → met_from finds lost size at 0 behind skipped symbols ≡ met_from finds lost size (at + n + dummy_symbols) 0 true (extended skipped at n) (drop (n + dummy_symbols) symbols)
+      → met_from finds lost size until at 0 behind skipped symbols ≡ met_from finds lost size until (at + n + dummy_symbols) 0 true (extended skipped at n) (drop (n + dummy_symbols) symbols)
   pub breaks_off : (n : ℕ) → n < length symbols → length symbols < n + dummy_symbols → NoneBegins finds behind n symbols → begins (finds (behind_at behind n)) (drop n symbols) ≡ founds.Dummy
-      → met_from finds lost size at 0 behind skipped symbols ≡ ended (extended skipped at n) ∷ []
-  pub none : NoneBegins finds behind (length symbols) symbols → met_from finds lost size at 0 behind skipped symbols ≡ ended (extended skipped at (length symbols)) ∷ []
+      → met_from finds lost size until at 0 behind skipped symbols ≡ ended (extended skipped at n) ∷ []
+  pub none : NoneBegins finds behind (length symbols) symbols → met_from finds lost size until at 0 behind skipped symbols ≡ ended (extended skipped at (length symbols)) ∷ []
 
 -- the search, in its own words, is as `SearchRules` says
 abbrev pub SearchLaw : Type 0
 SearchLaw =
-    (finds : Bool → List Symbol → Found) (lost : List Symbol → Bool) (size at : ℕ) (behind : Bool) (skipped : Gap) (symbols : List Symbol) → header_symbols ≤ size → SearchRules finds lost size at behind skipped symbols
+    (finds : Bool → List Symbol → Found) (lost : List Symbol → Bool) (size until at : ℕ) (behind : Bool) (skipped : Gap) (symbols : List Symbol) → header_symbols ≤ size → SearchRules finds lost size until at behind skipped symbols
+
+-- the number of symbols of all frames among these things, with those of a frame that is cut
+abbrev pub frame_symbols : List Met → ℕ
+frame_symbols [] = 0
+frame_symbols (frame at skipped symbols ∷ later) = length symbols + frame_symbols later
+frame_symbols (cut at skipped count ∷ later) = count + frame_symbols later
+frame_symbols (ended skipped ∷ later) = frame_symbols later
+
+-- The frames that are met in a recording have at most twice its symbols
+abbrev pub TwiceLaw : Type 0
+TwiceLaw = (rules : Rules) (recording : List Symbol) → frame_symbols (met_in rules recording) ≤ 2 * length recording
 
 -- The place at which the search continues in symbols that begin in a lost frame: no place before it resumes the search. It is
 -- before n exactly if a frame begins there that is followed

@@ -84,7 +84,7 @@ styled style rules = record rules { style = style }
 abbrev pub searched_again : Rules → List Symbol → Bool
 searched_again rules symbols = rules.resync && is_lost (rules.decide symbols)
 
--- the number of symbols that the search holds before it reports a frame
+-- the most symbols that the search holds
 abbrev pub room_in : Rules → ℕ
 room_in rules = room_for rules.resync rules.size
 
@@ -249,7 +249,7 @@ state_of phase window held totals = record { phase = phase; window = window; sta
 
 -- the state of a new receiver
 abbrev pub begun : State
-begun = record { phase = phases.Searching; window = window_at 0 false; standing = at_start }
+begun = record { phase = phases.Searching; window = window_at 0 0 false; standing = at_start }
 
 -- more can be met: not after the end or a fault
 abbrev pub IsLive : Phase → Type 0
@@ -306,7 +306,7 @@ wanted_by phases.Searching limit room w = 4 * wanted limit room w
 wanted_by phase limit room w = 0
 
 abbrev pub asked_by : Rules → Phase → Window → ℕ
-asked_by rules phase window = wanted_by phase rules.limit (room_in rules) window
+asked_by rules phase window = wanted_by phase rules.limit (room_for window.again rules.size) window
 
 -- the same for a receiver in this state
 abbrev pub asked : Rules → State → ℕ
@@ -332,8 +332,8 @@ pub record Handles (rules : Rules) (old new : State) (met : Met) (packets : List
   pub standing : new.standing ≡ after rules old.standing met
   pub packets_are : packets ≡ packets_of rules old.standing met
 
--- It ends at this position of the stream, up to which symbols were taken. For a frame no more were taken than the search holds
--- before it reports one. If lost frames are not searched again, these are the symbols of the frame alone
+-- It ends at this position of the stream, up to which symbols were taken. For a frame no more were taken than the search needs
+-- before it reports one: the symbols of the frame alone, unless the search was in a frame that is searched again
 abbrev pub EndsAt : (size room : ℕ) → Met → ℕ → Type 0
 EndsAt size room (frame at skipped symbols) place = (at + size ≤ place) × (place ≤ at + room)
 EndsAt size room (cut at skipped count) place = place ≡ at + count
@@ -346,11 +346,11 @@ pub record Steps (rules : Rules) (old new : State) (symbols : List Symbol) (whol
   pub handles : Handles rules old new met packets step
   pub spell : YieldsMet rules old new symbols whole (met ∷ [])
   pub taken_are : taken new ≡ taken old + length symbols
-  pub ends : EndsAt rules.size (room_in rules) met (taken new)
+  pub ends : EndsAt rules.size (room_for old.window.again rules.size) met (taken new)
   pub decided : IsDecided rules met last
 
 -- No step yet: all wanted symbols came, and nothing is met in them. They were taken. Fewer symbols are held now than the
--- search has room for, so that the receiver requires more of them, unless its limit is reached.
+-- search needs, so that the receiver requires more of them, unless its limit is reached. No frame is searched again that was not.
 pub record Waits (rules : Rules) (old new : State) (symbols : List Symbol) (whole : Bool) : Type 0 where
   pub all : whole ≡ true
   pub searching : old.phase ≡ phases.Searching
@@ -358,7 +358,8 @@ pub record Waits (rules : Rules) (old new : State) (symbols : List Symbol) (whol
   pub standing : new.standing ≡ old.standing
   pub spell : YieldsMet rules old new symbols true []
   pub taken_are : taken new ≡ taken old + length symbols
-  pub few : length new.window.symbols < room_in rules
+  pub few : length new.window.symbols < room_for new.window.again rules.size
+  pub again : new.window.again ≡ true → old.window.again ≡ true
 
 -- ---- reads and writes
 
@@ -378,7 +379,7 @@ Meets None new front = ⊤
 Meets (Some old) None front = ⊥
 Meets (Some old) (Some new) front = old ≡ front ++ new
 
--- if the next thing of those known is a coded frame, what the search holds of it ends after this position
+-- if the next thing of those known is a coded frame, what the search needs of it ends after this position
 abbrev pub EndsBehind : (room : ℕ) → ℕ → Option (List Met) → Type 0
 EndsBehind room place None = ⊤
 EndsBehind room place (Some []) = ⊤
@@ -386,16 +387,16 @@ EndsBehind room place (Some (frame at skipped symbols ∷ later)) = place < at +
 EndsBehind room place (Some (cut at skipped count ∷ later)) = ⊤
 EndsBehind room place (Some (ended skipped ∷ later)) = ⊤
 
--- Nothing was met, since a read failed or the limit was reached. What the search holds of the next frame, if that is known,
+-- Nothing was met, since a read failed or the limit was reached. What the search needs of the next frame, if that is known,
 -- ends after the bytes that were read. If no read failed, it ends after the limit, and exactly the bytes up to the limit were
 -- read.
 pub record StopsShort (rules : Rules) (old : State) (reader_old reader_new : Option (List ℕ)) (reads_old reads_new : ℕ) : Type 0 where
   pub bytes : List ℕ
   pub read : Consumes reader_old reader_new bytes
-  pub short : EndsBehind (room_in rules) (taken old + length bytes / 4) (left_in rules old reader_old)
+  pub short : EndsBehind (room_for old.window.again rules.size) (taken old + length bytes / 4) (left_in rules old reader_old)
   pub cause : reads_new ≢ reads_old + 1
       → (reads_new ≡ reads_old) × Reaches rules.limit (taken old) reader_old reader_new × (length bytes ≡ 4 * (rules.limit - taken old))
-      × EndsBehind (room_in rules) rules.limit (left_in rules old reader_old)
+      × EndsBehind (room_for old.window.again rules.size) rules.limit (left_in rules old reader_old)
 
 -- Nothing could be met, because a read failed or the limit of symbols was reached. The receiver was searching, and now
 -- counts as failed
@@ -444,7 +445,7 @@ StepAnswers rules old new before behind (Err faults.Read) = Stops rules old new 
 StepAnswers rules old new before behind (Err faults.Write) = (new.phase ≡ phases.Failed) × BreaksOff rules old before behind
 StepAnswers rules old new before behind (Err faults.Failed) = ⊥
 
--- the number of symbols taken after a step: up to the end of the frame, and no more than the search holds; or up to the end
+-- the number of symbols taken after a step: up to the end of the frame, and no more than the search needs; or up to the end
 -- of the symbols of a cut one
 abbrev pub StandsBehind : {E : Type 0} → (size room : ℕ) → ℕ → Result Step E → Type 0
 StandsBehind size room at (Ok (steps.Frame report)) = (report.at + size ≤ at) × (at ≤ report.at + room)

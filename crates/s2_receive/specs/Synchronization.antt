@@ -7,7 +7,7 @@ use Rattle.s2_plframe.specs.Turns.{Sought}
 use Rattle.s2_plframe.specs.declared.receive.found.Found.{Found}
 use Rattle.s2_plframe.specs.declared.receive.found.Found.TheVariants as founds
 use Rattle.s2_receive.specs.declared.gap.Gap.{Gap}
-use Rattle.s2_receive.specs.Meeting.{Met, frame, cut, ended, no_gap, begins, met_from, resumes, resumed}
+use Rattle.s2_receive.specs.Meeting.{Met, frame, cut, ended, no_gap, begins, met_from, resumes, resumed, is_again}
 use Rattle.s2_receive.specs.declared.window.Held.{Held}
 use Rattle.s2_receive.specs.declared.window.Next.{Next}
 use Rattle.s2_receive.specs.declared.window.Next.TheVariants as next
@@ -16,34 +16,35 @@ use Rattle.s2_receive.specs.declared.header_search.Scan.{Scan}
 -- ---- the symbols held
 
 -- The symbols of a stream that a search holds, the position of the first one, and the gap before it. Also the number of
--- first symbols that still belong to a frame. That frame is lost, so that they are searched again, or it is a dummy frame. Then
--- whether a frame ended right before the first symbol that belongs to none.
+-- first symbols that still belong to a frame. That frame is searched again, or it is a dummy frame. Then whether a frame ended right
+-- before the first symbol that belongs to none, and the position at which the last frame that is searched again ends.
 pub record Window : Type 0 where
   pub at : ℕ
   pub skipped : Gap
   pub inside : ℕ
   pub again : Bool
   pub behind : Bool
+  pub until : ℕ
   pub symbols : List Symbol
 
 -- no symbols are held, from this position of the stream on, right after a frame or not
-abbrev pub window_at : ℕ → Bool → Window
-window_at at behind = record { at = at; skipped = no_gap; inside = 0; again = false; behind = behind; symbols = [] }
+abbrev pub window_at : (until at : ℕ) → Bool → Window
+window_at until at behind = record { at = at; skipped = no_gap; inside = 0; again = false; behind = behind; until = until; symbols = [] }
 
 -- the symbols at the front of a frame's buffer
 abbrev pub window_of : Held → List Symbol → Window
-window_of held buffer = record { at = held.at; skipped = held.skipped; inside = held.inside; again = held.again; behind = held.behind; symbols = take held.count buffer }
+window_of held buffer = record { at = held.at; skipped = held.skipped; inside = held.inside; again = held.again; behind = held.behind; until = held.until; symbols = take held.count buffer }
 
 -- the position up to which symbols came
 abbrev pub reached : Window → ℕ
 reached w = w.at + length w.symbols
 
--- The number of symbols that a search holds before it reports a frame of this size: those of the frame. If lost frames are
+-- The number of symbols that a search needs before it reports a frame of this size: those of the frame. In a frame that is
 -- searched again, also those of the next header
-abbrev pub room_for : (resync : Bool) → ℕ → ℕ
-room_for resync size = if resync then size + header_symbols else size
+abbrev pub room_for : (again : Bool) → ℕ → ℕ
+room_for again size = if again then size + header_symbols else size
 
--- the number of symbols wanted next: those that a search of this room lacks, but no more than the limit leaves
+-- the number of symbols to be read next: those that a search lacks which needs this number, but no more than the limit leaves
 abbrev pub wanted : ℕ → ℕ → Window → ℕ
 wanted limit room w = min (limit - reached w) (room - length w.symbols)
 
@@ -53,12 +54,16 @@ inside_of finds size w symbols = if w.again then resumed finds size w.inside sym
 
 -- the things still to be met in the symbols held and in those to come
 abbrev pub met_within : (Bool → List Symbol → Found) → (List Symbol → Bool) → ℕ → Window → List Symbol → List Met
-met_within finds lost size w coming = met_from finds lost size w.at (inside_of finds size w (w.symbols ++ coming)) w.behind w.skipped (w.symbols ++ coming)
+met_within finds lost size w coming = met_from finds lost size w.until w.at (inside_of finds size w (w.symbols ++ coming)) w.behind w.skipped (w.symbols ++ coming)
 
--- the symbols held after the frame that they begin with, by whether it is lost
+-- the symbols held after the frame that they begin with, by whether it is searched again
+abbrev pub passed_in : (again : Bool) → ℕ → Window → Window
+passed_in true size w = record { at = w.at + 1; skipped = no_gap; inside = size - 1; again = true; behind = true; until = w.at + size; symbols = drop 1 w.symbols }
+passed_in false size w = record { at = w.at + size; skipped = no_gap; inside = 0; again = false; behind = true; until = w.until; symbols = drop size w.symbols }
+
+-- the same, by whether it is lost
 abbrev pub passed_by : (lost : Bool) → ℕ → Window → Window
-passed_by true size w = record { at = w.at + 1; skipped = no_gap; inside = size - 1; again = true; behind = true; symbols = drop 1 w.symbols }
-passed_by false size w = record { at = w.at + size; skipped = no_gap; inside = 0; again = false; behind = true; symbols = drop size w.symbols }
+passed_by lost size w = passed_in (is_again lost w.until w.at) size w
 
 -- ---- the search in symbols
 
@@ -95,7 +100,7 @@ found_last finds seen = if nat_le header_symbols (length seen) then finds (drop 
 -- same is met. A coded frame begins there, or too few symbols are left for a header. A frame ended right before it, or
 -- not
 pub record Scans (finds : Bool → List Symbol → Found) (symbols : List Symbol) (at inside : ℕ) (behind : Bool) (skipped : Gap) (scan : Scan) : Type 0 where
-  pub met : (lost : List Symbol → Bool) (size : ℕ) (rest : List Symbol) → met_from finds lost size at inside behind skipped (symbols ++ rest) ≡ met_from finds lost size (at + scan.place) 0 scan.behind scan.skipped (drop scan.place (symbols ++ rest))
+  pub met : (lost : List Symbol → Bool) (size until : ℕ) (rest : List Symbol) → met_from finds lost size until at inside behind skipped (symbols ++ rest) ≡ met_from finds lost size until (at + scan.place) 0 scan.behind scan.skipped (drop scan.place (symbols ++ rest))
   pub further : inside ≤ scan.place
   -- no more of these symbols were skipped
   pub within : (scan.skipped.symbols ≤ scan.place + skipped.symbols) × (scan.skipped.symbols ≤ length symbols + skipped.symbols)
@@ -130,13 +135,14 @@ met_then finds lost size (next.Frame at skipped) w coming = met_within finds los
 met_then finds lost size (next.Cut at skipped count) w coming = ended no_gap ∷ []
 met_then finds lost size (next.End at skipped) w coming = []
 
--- After a frame with these symbols fewer are held than the room. The first of them comes after the frame, or after its first
--- symbol if the frame is lost. Up to there no symbol is skipped. After a cut frame and at the end, nothing is held
+-- After a frame with these symbols fewer are held than the search needs next. The first of them comes after the frame, or at least
+-- after its first symbol if the frame is lost. Up to there no symbol is skipped. No more symbols were taken than those that the
+-- search needed. After a cut frame and at the end, nothing is held
 abbrev pub HoldsAfter : (List Symbol → Bool) → (size room : ℕ) → Next → List Symbol → Window → Type 0
 HoldsAfter lost size room (next.Frame at skipped) symbols w =
-    (length w.symbols < room) × (w.at ≡ at + (if lost symbols then 1 else size)) × (w.skipped ≡ no_gap) × (at + size ≤ reached w) × (reached w ≤ at + room)
-HoldsAfter lost size room (next.Cut at skipped count) symbols w = w ≡ window_at (at + count) true
-HoldsAfter lost size room (next.End at skipped) symbols w = w ≡ window_at at true
+    (length w.symbols < room_for w.again size) × (at + 1 ≤ w.at) × (lost symbols ≡ false → w.at ≡ at + size) × (w.skipped ≡ no_gap) × (at + size ≤ reached w) × (reached w ≤ at + room)
+HoldsAfter lost size room (next.Cut at skipped count) symbols w = w ≡ window_at w.until (at + count) true
+HoldsAfter lost size room (next.End at skipped) symbols w = w ≡ window_at w.until at true
 
 -- the symbols that may follow some: any, or none if the stream ends with them
 abbrev pub Follows : Bool → List Symbol → Type 0
@@ -148,7 +154,7 @@ Follows false coming = coming ≡ []
 abbrev pub Takes : (Bool → List Symbol → Found) → (List Symbol → Bool) → (size room : ℕ) → (old new : Window) → (symbols : List Symbol) → (whole : Bool) → (buffer : List Symbol) → Option Next → Type 0
 Takes finds lost size room old new symbols whole buffer None =
     (whole ≡ true) × ((coming : List Symbol) → met_within finds lost size old (symbols ++ coming) ≡ met_within finds lost size new coming)
-    × (reached new ≡ reached old + length symbols) × (length new.symbols < room) × (old.at ≤ new.at) × (old.at + new.skipped.symbols ≤ new.at + old.skipped.symbols)
+    × (reached new ≡ reached old + length symbols) × (length new.symbols < room_for new.again size) × (new.again ≡ true → old.again ≡ true) × (old.at ≤ new.at) × (old.at + new.skipped.symbols ≤ new.at + old.skipped.symbols)
 Takes finds lost size room old new symbols whole buffer (Some found) =
     ((coming : List Symbol) → Follows whole coming → met_within finds lost size old (symbols ++ coming) ≡ met_of found buffer ∷ met_then finds lost size found new coming)
     × (reached new ≡ reached old + length symbols) × IsBehind old.at old.skipped found × HoldsAfter lost size room found buffer new
@@ -187,7 +193,7 @@ RestOfLost size room held = (room ≡ size + header_symbols) × (1 ≤ held.insi
 pub record HoldsFrame (mode : Mode) (resync : Bool) (size room : ℕ) (held : Held) : Type 0 where
   pub size_is : size ≡ symbols_in mode
   pub room_is : room ≡ room_for resync size
-  pub least : header_symbols ≤ size
+  pub least : header_symbols < size
   pub most : size ≤ 2 ^ 31
   pub few : held.count ≤ room
   pub again : held.again ≡ true → RestOfLost size room held

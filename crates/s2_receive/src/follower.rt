@@ -31,13 +31,14 @@ use std::marker::Model;
 
 /// Looks for the next thing in the symbols of these bytes, by the phase. After a cut frame it is the end.
 fn seek_in(synchronizer: &mut Synchronizer, phase: Phase, bytes: &[u8], limit: u64) -> Option<Next>
-    requires few { length synchronizer.old.window.symbols < room_for synchronizer.old.resync (symbols_in synchronizer.old.sought.mode) }
-    requires room { phase ≡ phases.Searching → length bytes.now ≤ 4 * wanted limit (room_for synchronizer.old.resync (symbols_in synchronizer.old.sought.mode)) synchronizer.old.window }
+    requires few { length synchronizer.old.window.symbols < room_for synchronizer.old.window.again (symbols_in synchronizer.old.sought.mode) }
+    requires room { phase ≡ phases.Searching → length bytes.now ≤ 4 * wanted limit (room_for synchronizer.old.window.again (symbols_in synchronizer.old.sought.mode)) synchronizer.old.window }
     requires limit { (reached synchronizer.old.window ≤ limit) × (limit ≤ max_symbols) }
     requires skipped { synchronizer.old.window.skipped.symbols ≤ synchronizer.old.window.at }
-    ensures searching { phase ≡ phases.Searching → (lost : List SymbolValue → Bool) → Takes (found_as synchronizer.old.sought synchronizer.old.max_header_errors) lost (symbols_in synchronizer.old.sought.mode) (room_for synchronizer.old.resync (symbols_in synchronizer.old.sought.mode)) synchronizer.old.window
+    ensures searching { phase ≡ phases.Searching → (lost : List SymbolValue → Bool) → Takes (found_as synchronizer.old.sought synchronizer.old.max_header_errors) lost (symbols_in synchronizer.old.sought.mode) (room_for synchronizer.old.window.again (symbols_in synchronizer.old.sought.mode)) synchronizer.old.window
         (window_after lost (symbols_in synchronizer.old.sought.mode) result synchronizer.new.window) (symbols_of bytes.now)
-        (nat_eq (length bytes.now) (4 * wanted limit (room_for synchronizer.old.resync (symbols_in synchronizer.old.sought.mode)) synchronizer.old.window)) synchronizer.new.frame result }
+        (nat_eq (length bytes.now) (4 * wanted limit (room_for synchronizer.old.window.again (symbols_in synchronizer.old.sought.mode)) synchronizer.old.window)) synchronizer.new.frame result }
+    ensures until { synchronizer.new.window.until ≡ synchronizer.old.window.until }
     ensures last { phase ≡ phases.Searching → HoldsLast synchronizer.old.window.at (synchronizer.old.window.symbols ++ symbols_of bytes.now) synchronizer.new.window }
     ensures front { IsInFront (symbols_in synchronizer.old.sought.mode) result synchronizer.new.window synchronizer.new.frame }
     ensures holds { phase ≡ phases.Searching → HoldsFor (symbols_in synchronizer.old.sought.mode) result (length synchronizer.new.window.symbols) (room_for synchronizer.old.resync (symbols_in synchronizer.old.sought.mode)) }
@@ -66,8 +67,7 @@ fn is_lost(decided: Decided) -> bool
     }
 }
 
-/// Passes the thing found. Of a frame that is all of it, or only its first symbol if it is lost and lost frames are searched
-/// again.
+/// Passes the thing found. Of a frame that is all of it, or only its first symbol if it is searched again.
 fn pass_found(synchronizer: &mut Synchronizer, next: Next, lost: bool)
     requires held { HoldsWhole (symbols_in synchronizer.old.sought.mode) next synchronizer.old.window }
     requires limit { reached synchronizer.old.window ≤ max_symbols }
@@ -113,7 +113,7 @@ impl Model for Follower {
 
     ghost view = { λ f. follower_of f.status.phase f.synchronizer f.limit f.joiner.held f.status.totals f.found f.joiner.packets };
 
-    ghost invariant = { λ f. IsFollowing f.synchronizer.sought.mode f.synchronizer.resync f.limit f.found f.synchronizer.window f.status.totals };
+    ghost invariant = { λ f. IsFollowing f.synchronizer.sought.mode f.limit f.found f.synchronizer.window f.status.totals };
 }
 
 impl Follower {
@@ -149,7 +149,7 @@ impl Follower {
         requires none { self.now.found ≡ None }
         ensures is { result ≡ asked_of self.now }
         ensures few { result ≤ 4 * room_for self.now.resync (symbols_in self.now.sought.mode) }
-        ensures held { (length self.now.state.window.symbols < room_for self.now.resync (symbols_in self.now.sought.mode)) × (reached self.now.state.window ≤ self.now.limit) }
+        ensures held { (length self.now.state.window.symbols < room_for self.now.state.window.again (symbols_in self.now.sought.mode)) × (reached self.now.state.window ≤ self.now.limit) }
     {
         match self.status.phase {
             Phase::Searching => 4 * self.synchronizer.wanted(self.limit),

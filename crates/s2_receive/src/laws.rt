@@ -5,7 +5,7 @@ ghost use Rattle.s2_receive.specs.Calls.{CallsLaw};
 ghost use Rattle.s2_receive.specs.Halves.{HalvesLaw, OwnRunLaw, RunBeginsLaw, RunSeeksLaw, RunSettlesLaw, RunEndsLaw};
 ghost use Rattle.s2_receive.specs.Limits.{LimitsLaw};
 ghost use Rattle.s2_receive.specs.Receiving.{Decision};
-ghost use Rattle.s2_receive.specs.Laws.{JoiningLaw, ReceptionLaw, FrontLaw, ResumeLaw, SearchLaw, SameRunLaw, SameStepLaw, TwoRunsLaw};
+ghost use Rattle.s2_receive.specs.Laws.{JoiningLaw, ReceptionLaw, FrontLaw, ResumeLaw, SearchLaw, SameRunLaw, SameStepLaw, TwiceLaw, TwoRunsLaw};
 
 /// The packets written are those of all fields and gaps that came to the joiner, one after another. The totals
 /// count them.
@@ -26,8 +26,8 @@ pub fn front()
 {}
 
 /// The next frame is at the first header, if it is a coded frame's, and has all its symbols from there, or is
-/// cut. The search continues after it, or inside it if it is lost and lost frames are searched again. After a dummy
-/// frame the search continues as if its symbols were not there. If no header begins, the end comes.
+/// cut. The search continues after it, or inside it if it is lost and lost frames are searched again, unless it was itself found
+/// inside one. After a dummy frame the search continues as if its symbols were not there. If no header begins, the end comes.
 pub fn searching()
     ensures { SearchLaw }
 {}
@@ -36,6 +36,12 @@ pub fn searching()
 /// or by the end of the stream. If there is none, it resumes after the frame.
 pub fn resuming()
     ensures { ResumeLaw }
+{}
+
+/// The frames of a run have at most twice the symbols of the stream, also if lost frames are searched again: a lost frame that
+/// was found inside a lost one is not.
+pub fn twice()
+    ensures { TwiceLaw }
 {}
 
 /// However a reader cuts the bytes of a stream, the same is met, written and counted: in a run to the

@@ -183,12 +183,12 @@ impl<D: Decide> Receiver<D> {
         self.inner.supply(alloc, source);
     }
 
-    /// The number of bytes wanted next: four for each symbol that the next frame lacks, up to the limit. With `resync` the
-    /// 90 symbols after a frame are read too, before it is decided. It is 0 if no symbols are needed: after a cut frame and the end, after a fault, and when the limit is reached.
+    /// The number of bytes wanted next: four for each symbol that the next frame lacks, up to the limit. While a lost frame is
+    /// searched again, the 90 symbols after the next one are read too, before that one is decided. It is 0 if no symbols are needed: after a cut frame and the end, after a fault, and when the limit is reached.
     pub fn room(&self) -> usize
         ensures is { result ≡ asked (rules_of D.decide self.now) self.now.state }
         ensures few { result ≤ 4 * room_for self.now.resync (symbols_in self.now.sought.mode) }
-        ensures held { (length self.now.state.window.symbols < room_for self.now.resync (symbols_in self.now.sought.mode))
+        ensures held { (length self.now.state.window.symbols < room_for self.now.state.window.again (symbols_in self.now.sought.mode))
             × (taken self.now.state ≤ self.now.limit) }
     {
         self.inner.room()

@@ -161,7 +161,7 @@ impl<D: Decide> ReceiverCore<D> {
     pub(crate) fn room(&self) -> usize
         ensures is { result ≡ asked (rules_of D.decide self.now) self.now.state }
         ensures few { result ≤ 4 * room_for self.now.resync (symbols_in self.now.sought.mode) }
-        ensures held { (length self.now.state.window.symbols < room_for self.now.resync (symbols_in self.now.sought.mode)) × (taken self.now.state ≤ self.now.limit) }
+        ensures held { (length self.now.state.window.symbols < room_for self.now.state.window.again (symbols_in self.now.sought.mode)) × (taken self.now.state ≤ self.now.limit) }
     {
         self.follower.room()
     }

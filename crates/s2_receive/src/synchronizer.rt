@@ -9,14 +9,14 @@ ghost use Rattle.s2_receive.specs.Synchronization.{HoldsFor, HoldsLast, IsInFron
 ghost use Rattle.s2_plframe.specs.Turns.{sought_of};
 ghost use Rattle.s2_receive.specs.Windows.{found_as};
 
-use crate::window::{Held, Next, pass_frame, take_symbols};
+use crate::window::{self, Held, Next, pass_frame, take_symbols};
 use s2_mode::{HEADER_SYMBOLS, Mode, Symbol};
 use s2_plframe::{HeaderTolerance, Search};
 use std::alloc::{AllocError, Global};
 use std::marker::Model;
 
-/// The number of symbols that a search for a mode's frames holds before it reports a frame: those of the frame, and
-/// those of the next header if lost frames are searched again.
+/// The most symbols that a search for a mode's frames holds: those of a frame, and those of the next header if lost frames are
+/// searched again.
 pub(crate) fn room_for(mode: Mode, resync: bool) -> usize
     ensures is { result ≡ room_for resync (symbols_in mode) }
     ensures small { result ≤ 2 ^ 31 }
@@ -79,7 +79,7 @@ impl Synchronizer {
         max_header_errors: HeaderTolerance,
         resync: bool,
     ) -> Result<Synchronizer, AllocError>
-        ensures { IfOk result (λ f. (f.sought ≡ sought_of mode turns) × (f.max_header_errors ≡ max_header_errors) × (f.resync ≡ resync) × (f.window ≡ window_at 0 false)) }
+        ensures { IfOk result (λ f. (f.sought ≡ sought_of mode turns) × (f.max_header_errors ≡ max_header_errors) × (f.resync ≡ resync) × (f.window ≡ window_at 0 0 false)) }
     {
         let room = room_for(mode, resync);
         let buffer = vec![in alloc; Symbol { i: 0, q: 0 }; room]?;
@@ -89,7 +89,7 @@ impl Synchronizer {
             resync,
             size: mode.symbols(),
             buffer,
-            held: Held::nothing(0, false),
+            held: Held::nothing(0, 0, false),
         })
     }
 
@@ -108,31 +108,34 @@ impl Synchronizer {
         self.held.at
     }
 
-    /// The number of symbols wanted next: those that the search lacks, but no more than the limit leaves.
+    /// The number of symbols to be read next: those that the search lacks before it reports a frame, but no more than the limit
+    /// leaves.
     pub(crate) fn wanted(&self, limit: u64) -> usize
         requires { reached self.now.window ≤ limit }
-        ensures is { result ≡ wanted limit (room_for self.now.resync (symbols_in self.now.sought.mode)) self.now.window }
+        ensures is { result ≡ wanted limit (room_for self.now.window.again (symbols_in self.now.sought.mode)) self.now.window }
         ensures few { result ≤ room_for self.now.resync (symbols_in self.now.sought.mode) }
         ensures small { result ≤ 2 ^ 32 }
     {
         let left = limit - self.held.at - self.held.count as u64;
-        left.min((self.buffer.len() - self.held.count) as u64) as usize
+        let room = window::room_for(self.size, self.held.again);
+        left.min(room.saturating_sub(self.held.count) as u64) as usize
     }
 
     /// Takes the symbols of these bytes: all that are wanted, or the last ones of the stream. Returns the next
     /// frame or the end, or nothing if more symbols are needed. A frame stays in front until it is passed.
     pub(crate) fn take(&mut self, bytes: &[u8], limit: u64) -> Option<Next>
-        requires few { length self.old.window.symbols < room_for self.old.resync (symbols_in self.old.sought.mode) }
-        requires room { length bytes.now ≤ 4 * wanted limit (room_for self.old.resync (symbols_in self.old.sought.mode)) self.old.window }
+        requires few { length self.old.window.symbols < room_for self.old.window.again (symbols_in self.old.sought.mode) }
+        requires room { length bytes.now ≤ 4 * wanted limit (room_for self.old.window.again (symbols_in self.old.sought.mode)) self.old.window }
         requires limit { (reached self.old.window ≤ limit) × (limit ≤ max_symbols) }
         requires skipped { self.old.window.skipped.symbols ≤ self.old.window.at }
-        ensures takes { (lost : List SymbolValue → Bool) → Takes (found_as self.old.sought self.old.max_header_errors) lost (symbols_in self.old.sought.mode) (room_for self.old.resync (symbols_in self.old.sought.mode)) self.old.window
+        ensures takes { (lost : List SymbolValue → Bool) → Takes (found_as self.old.sought self.old.max_header_errors) lost (symbols_in self.old.sought.mode) (room_for self.old.window.again (symbols_in self.old.sought.mode)) self.old.window
             (window_after lost (symbols_in self.old.sought.mode) result self.new.window) (symbols_of bytes.now)
-            (nat_eq (length bytes.now) (4 * wanted limit (room_for self.old.resync (symbols_in self.old.sought.mode)) self.old.window)) self.new.frame result }
+            (nat_eq (length bytes.now) (4 * wanted limit (room_for self.old.window.again (symbols_in self.old.sought.mode)) self.old.window)) self.new.frame result }
         ensures holds { HoldsFor (symbols_in self.old.sought.mode) result (length self.new.window.symbols) (room_for self.old.resync (symbols_in self.old.sought.mode)) }
         ensures last { HoldsLast self.old.window.at (self.old.window.symbols ++ symbols_of bytes.now) self.new.window }
         ensures front { IsInFront (symbols_in self.old.sought.mode) result self.new.window self.new.frame }
         ensures reached { reached self.new.window ≡ reached self.old.window + length (symbols_of bytes.now) }
+        ensures until { self.new.window.until ≡ self.old.window.until }
         ensures same { (self.new.sought ≡ self.old.sought) × (self.new.max_header_errors ≡ self.old.max_header_errors) × (self.new.resync ≡ self.old.resync) }
     {
         let whole = bytes.len() == 4 * self.wanted(limit);
@@ -147,15 +150,15 @@ impl Synchronizer {
         )
     }
 
-    /// Passes the frame in front. If it is lost and lost frames are searched again, only its first symbol.
+    /// Passes the frame in front. If it is searched again, only its first symbol.
     pub(crate) fn pass(&mut self, lost: bool)
         requires frame { symbols_in self.old.sought.mode ≤ length self.old.window.symbols }
         requires limit { reached self.old.window ≤ max_symbols }
         ensures window { self.new.window ≡ passed_by (self.old.resync && lost) (symbols_in self.old.sought.mode) self.old.window }
         ensures same { (self.new.sought ≡ self.old.sought) × (self.new.max_header_errors ≡ self.old.max_header_errors) × (self.new.resync ≡ self.old.resync) }
     {
-        let again = self.resync && lost;
-        pass_frame(&mut self.buffer, self.size, &mut self.held, again);
+        let lost = self.resync && lost;
+        pass_frame(&mut self.buffer, self.size, &mut self.held, lost);
     }
 
     /// The symbols of the frame in front.

@@ -4,13 +4,14 @@ ghost use Rattle.s2_mode.specs.Limits.{header_symbols};
 ghost use Rattle.s2_receive.specs.Limits.{max_symbols};
 ghost use Rattle.s2_mode.specs.Symbols.{symbols_of};
 ghost use Rattle.s2_mode.specs.declared.symbols.Symbol.{Symbol as SymbolValue};
-ghost use Rattle.s2_receive.specs.Synchronization.{HoldsFor, HoldsLast, RestOfLost, Takes, MayFollow, met_within, passed_by, window_after, window_at, window_of};
+ghost use Rattle.s2_receive.specs.Synchronization.{HoldsFor, HoldsLast, RestOfLost, Takes, MayFollow, met_within, passed_by, room_for, window_after, window_at, window_of};
+ghost use Rattle.s2_receive.specs.Meeting.{is_again};
 ghost use Rattle.s2_receive.specs.Windows.{found_as};
 ghost use Rattle.s2_receive.specs.declared.window.Next.TheVariants as next;
 
 use crate::gap::Gap;
 use crate::header_search::{Scan, first_candidate, look_through};
-use s2_mode::{Symbol, symbols_into};
+use s2_mode::{HEADER_SYMBOLS, Symbol, symbols_into};
 use s2_plframe::{HeaderTolerance, Search};
 
 /// The next thing in the stream; positions count symbols from 0.
@@ -32,20 +33,23 @@ pub(crate) struct Held {
     /// The symbols skipped before it.
     pub(crate) skipped: Gap,
     pub(crate) count: usize,
-    /// The number of first symbols that still belong to a frame: to a dummy frame, or to a lost one.
+    /// The number of first symbols that still belong to a frame: to a dummy frame, or to one that is searched again.
     pub(crate) inside: usize,
-    /// Whether that frame is lost. Then it is searched again.
+    /// Whether that frame is searched again.
     pub(crate) again: bool,
     /// Whether a frame ended right before the first symbol that belongs to none.
     pub(crate) behind: bool,
+    /// The position at which the last frame ends that is searched again. A lost frame that begins before it is not.
+    pub(crate) until: u64,
 }
 
 impl Held {
     /// No symbols, from this position of the stream on, right after a frame or not.
-    pub(crate) fn nothing(at: u64, behind: bool) -> Held
-        ensures window { (buffer : List SymbolValue) → window_of result buffer ≡ window_at at behind }
+    pub(crate) fn nothing(until: u64, at: u64, behind: bool) -> Held
+        ensures window { (buffer : List SymbolValue) → window_of result buffer ≡ window_at until at behind }
         ensures count { result.count ≡ 0 }
         ensures again { result.again ≡ false }
+        ensures until { result.until ≡ until }
     {
         Held {
             at,
@@ -54,8 +58,19 @@ impl Held {
             inside: 0,
             again: false,
             behind,
+            until,
         }
     }
+}
+
+/// The number of symbols that a search for frames of this size needs before it reports one: those of the frame, and in a frame
+/// that is searched again those of the next header.
+pub(crate) fn room_for(size: usize, again: bool) -> usize
+    requires { size ≤ 2 ^ 31 }
+    ensures is { result ≡ room_for again size }
+    ensures small { result ≤ 2 ^ 32 }
+{
+    if again { size + HEADER_SYMBOLS } else { size }
 }
 
 /// Puts the symbols of these bytes after those that are held.
@@ -88,21 +103,32 @@ fn drop_front(buffer: &mut [Symbol], held: &mut Held, n: usize)
     held.count -= n;
 }
 
+/// Whether the frame that the symbols held begin with is searched again: it is lost, and it does not lie in another frame
+/// that is.
+fn is_again(held: Held, lost: bool) -> bool
+    ensures { result ≡ is_again lost held.until held.at }
+{
+    lost && held.until <= held.at
+}
+
 /// Drops the frame that the symbols held begin with, or only its first symbol if it is searched again.
-pub(crate) fn pass_frame(buffer: &mut [Symbol], size: usize, held: &mut Held, again: bool)
-    requires size { (header_symbols ≤ size) × (size ≤ held.old.count) }
+pub(crate) fn pass_frame(buffer: &mut [Symbol], size: usize, held: &mut Held, lost: bool)
+    requires size { (header_symbols < size) × (size ≤ held.old.count) }
     requires count { held.old.count ≤ length buffer.old }
     requires place { held.old.at + held.old.count ≤ max_symbols }
-    ensures window { window_of held.new buffer.new ≡ passed_by again size (window_of held.old buffer.old) }
+    ensures window { window_of held.new buffer.new ≡ passed_by lost size (window_of held.old buffer.old) }
     ensures few { held.new.count < held.old.count }
-    ensures rest { held.new.again ≡ true → (again ≡ true) × (held.new.inside ≡ size - 1) × (size ≤ held.new.count + 1) }
+    ensures rest { held.new.again ≡ true → (lost ≡ true) × (held.new.inside ≡ size - 1) × (size ≤ held.new.count + 1) }
     ensures long { length buffer.new ≡ length buffer.old }
 {
+    let again = is_again(*held, lost);
+    let end = held.at + size as u64;
     drop_front(buffer, held, if again { 1 } else { size });
     held.skipped = Gap::none();
     held.inside = if again { size - 1 } else { 0 };
     held.again = again;
     held.behind = true;
+    held.until = if again { end } else { held.until };
 }
 
 /// Goes on with the search of a lost frame, in a buffer that is full or at the stream's end. Returns whether more
@@ -116,7 +142,7 @@ fn resume(
     size: usize,
     held: &mut Held,
 ) -> bool
-    requires size { (header_symbols ≤ size) × (size ≤ 2 ^ 31) × (length buffer.old ≤ size + header_symbols) }
+    requires size { (header_symbols < size) × (size ≤ 2 ^ 31) × (length buffer.old ≤ size + header_symbols) }
     requires count { held.old.count ≤ length buffer.old }
     requires place { held.old.at + held.old.count ≤ max_symbols }
     requires rest { held.old.again ≡ true → RestOfLost size (length buffer.old) held.old }
@@ -124,10 +150,11 @@ fn resume(
         met_within (found_as search.old.sought max_header_errors) lost size (window_of held.old buffer.old) coming ≡ met_within (found_as search.old.sought max_header_errors) lost size (window_of held.new buffer.new) coming }
     ensures last { HoldsLast held.old.at (take held.old.count buffer.old) (window_of held.new buffer.new) }
     ensures stays { result ≡ false → (held.new.again ≡ false) × (held.new.at ≡ held.old.at) × (held.new.count ≡ held.old.count) }
-    ensures moved { result ≡ true → (held.old.at < held.new.at) × (held.new.at + held.new.count ≡ held.old.at + held.old.count) × (held.old.count ≡ length buffer.old) }
+    ensures moved { result ≡ true → (held.old.again ≡ true) × (held.new.again ≡ true) × (held.old.at < held.new.at) × (held.new.at + held.new.count ≡ held.old.at + held.old.count) × (held.old.count ≡ length buffer.old) }
     ensures ended { held.old.count < length buffer.old → result ≡ false }
     ensures rest { held.new.again ≡ true → RestOfLost size (length buffer.old) held.new }
     ensures skipped { held.new.skipped ≡ held.old.skipped }
+    ensures until { held.new.until ≡ held.old.until }
     ensures long { length buffer.new ≡ length buffer.old }
     ensures same { search.new.sought ≡ search.old.sought }
 {
@@ -152,8 +179,8 @@ fn stand_before(buffer: &mut [Symbol], held: &mut Held, scan: Scan, n: usize)
     requires some { (n ≤ held.old.count) × (n ≤ scan.place) }
     requires count { held.old.count ≤ length buffer.old }
     requires place { held.old.at + held.old.count ≤ max_symbols }
-    ensures window { window_of held.new buffer.new ≡ record { at = held.old.at + n; skipped = scan.skipped; inside = scan.place - n; again = false; behind = scan.behind; symbols = drop n (take held.old.count buffer.old) } }
-    ensures held { held.new ≡ record { at = held.old.at + n; skipped = scan.skipped; count = held.old.count - n; inside = scan.place - n; again = false; behind = scan.behind } }
+    ensures window { window_of held.new buffer.new ≡ record { at = held.old.at + n; skipped = scan.skipped; inside = scan.place - n; again = false; behind = scan.behind; until = held.old.until; symbols = drop n (take held.old.count buffer.old) } }
+    ensures held { held.new ≡ record { at = held.old.at + n; skipped = scan.skipped; count = held.old.count - n; inside = scan.place - n; again = false; behind = scan.behind; until = held.old.until } }
     ensures size { length buffer.new ≡ length buffer.old }
 {
     drop_front(buffer, held, n);
@@ -171,17 +198,18 @@ fn meet_last(
     size: usize,
     held: &mut Held,
 ) -> Next
-    requires size { (header_symbols ≤ size) × (size ≤ length buffer.old) × (length buffer.old ≤ 2 ^ 32) }
+    requires size { (header_symbols < size) × (size ≤ length buffer.old) × (length buffer.old ≤ size + header_symbols) × (size ≤ 2 ^ 31) }
     requires count { held.old.count < length buffer.old }
     requires again { held.old.again ≡ false }
     requires place { held.old.at + held.old.count ≤ max_symbols }
     requires skipped { held.old.skipped.symbols ≤ held.old.at }
-    ensures takes { (lost : List SymbolValue → Bool) → Takes (found_as search.old.sought max_header_errors) lost size (length buffer.old) (window_of held.old buffer.old)
+    ensures takes { (lost : List SymbolValue → Bool) (room : ℕ) → held.old.count ≤ room → Takes (found_as search.old.sought max_header_errors) lost size room (window_of held.old buffer.old)
         (window_after lost size (Some result) (window_of held.new buffer.new)) [] false (take size buffer.new) (Some result) }
     ensures holds { HoldsFor size (Some result) held.new.count (length buffer.old) }
     ensures last { HoldsLast held.old.at (take held.old.count buffer.old) (window_of held.new buffer.new) }
     ensures reached { held.new.at + held.new.count ≡ held.old.at + held.old.count }
     ensures again { held.new.again ≡ false }
+    ensures until { held.new.until ≡ held.old.until }
     ensures long { length buffer.new ≡ length buffer.old }
     ensures same { search.new.sought ≡ search.old.sought }
 {
@@ -200,7 +228,7 @@ fn meet_last(
         let skipped = scan.skipped;
         let count = held.count - scan.place;
         if count < size {
-            *held = Held::nothing(end, true);
+            *held = Held::nothing(held.until, end, true);
             return Next::Cut {
                 at,
                 skipped,
@@ -211,59 +239,74 @@ fn meet_last(
         return Next::Frame { at, skipped };
     }
     let last = scan.skipped.extended(held.at, scan.place, held.count);
-    *held = Held::nothing(end, true);
+    *held = Held::nothing(held.until, end, true);
     Next::End {
         at: end,
         skipped: last,
     }
 }
 
-/// Moves the symbols that may begin a frame to the front of a full buffer: those from the first coded frame's
-/// header on, or else those after the last dummy frame, at most 89. Returns whether symbols left the buffer.
-/// If none did, the buffer begins with a frame.
+/// Whether a coded frame begins at the place of a scan and has all its symbols among the first `count`.
+fn is_whole(scan: Scan, size: usize, count: usize) -> bool
+    requires size { size ≤ 2 ^ 31 }
+    requires header { scan.coded ≡ true → scan.place + header_symbols ≤ count }
+    ensures whole { result ≡ true → (scan.coded ≡ true) × (scan.place + size ≤ count) }
+    ensures other { result ≡ false → scan.coded ≡ true → count < scan.place + size }
+{
+    scan.coded && size <= count - scan.place
+}
+
+/// Moves the symbols that may begin a frame to the front: those from the first coded frame's header on, or else those
+/// after the last dummy frame, at most 89. Returns whether more symbols are needed. If not, the symbols held begin with a frame.
 fn skip_to_header(
     search: &mut Search,
     max_header_errors: HeaderTolerance,
     buffer: &mut [Symbol],
+    size: usize,
     held: &mut Held,
 ) -> bool
-    requires size { (header_symbols ≤ length buffer.old) × (length buffer.old ≤ 2 ^ 32) }
-    requires full { held.old.count ≡ length buffer.old }
+    requires size { (header_symbols < size) × (size ≤ length buffer.old) × (length buffer.old ≤ size + header_symbols) × (size ≤ 2 ^ 31) }
+    requires count { held.old.count ≤ length buffer.old }
     requires again { held.old.again ≡ false }
     requires place { held.old.at + held.old.count ≤ max_symbols }
     requires skipped { held.old.skipped.symbols ≤ held.old.at }
-    ensures stands { result ≡ false → (size : ℕ) → header_symbols ≤ size → size ≤ length buffer.old → (lost : List SymbolValue → Bool)
-        → Takes (found_as search.old.sought max_header_errors) lost size (length buffer.old) (window_of held.old buffer.old)
+    ensures stands { result ≡ false → (lost : List SymbolValue → Bool) (room : ℕ) → held.old.count ≤ room
+        → Takes (found_as search.old.sought max_header_errors) lost size room (window_of held.old buffer.old)
         (passed_by (lost (take size (take held.new.count buffer.new))) size (window_of held.new buffer.new)) [] true (take size buffer.new) (Some (next.Frame held.new.at held.new.skipped)) }
-    ensures moved { result ≡ true → (size : ℕ) → header_symbols ≤ size → size ≤ length buffer.old → (lost : List SymbolValue → Bool)
-        → Takes (found_as search.old.sought max_header_errors) lost size (length buffer.old) (window_of held.old buffer.old) (window_of held.new buffer.new) [] true (take size buffer.new) None }
+    ensures moved { result ≡ true → (lost : List SymbolValue → Bool) (room : ℕ)
+        → Takes (found_as search.old.sought max_header_errors) lost size room (window_of held.old buffer.old) (window_of held.new buffer.new) [] true (take size buffer.new) None }
     ensures last { HoldsLast held.old.at (take held.old.count buffer.old) (window_of held.new buffer.new) }
-    ensures count { held.new.count ≤ length buffer.old }
-    ensures full { result ≡ false → held.new.count ≡ length buffer.old }
-    ensures fewer { result ≡ true → held.new.count < length buffer.old }
+    ensures count { held.new.count ≤ held.old.count }
+    ensures whole { result ≡ false → size ≤ held.new.count }
+    ensures fewer { result ≡ true → held.new.count < size }
     ensures reached { held.new.at + held.new.count ≡ held.old.at + held.old.count }
     ensures again { held.new.again ≡ false }
+    ensures until { held.new.until ≡ held.old.until }
     ensures long { length buffer.new ≡ length buffer.old }
     ensures same { search.new.sought ≡ search.old.sought }
 {
     let scan = look_through(
         search,
         max_header_errors,
-        buffer,
+        &buffer[..held.count],
         held.at,
         held.inside,
         held.behind,
         held.skipped,
     );
+    if is_whole(scan, size, held.count) {
+        stand_before(buffer, held, scan, scan.place);
+        return false;
+    }
     stand_before(buffer, held, scan, scan.place.min(held.count));
-    scan.place > 0
+    true
 }
 
-/// Looks for a frame in the symbols that are held, when the buffer is full. Returns the next frame, or nothing if
-/// more symbols are needed. If it is a frame, the symbols held begin with it.
+/// Looks for a frame in the symbols that are held, if the search needs no more. Returns the next frame, or nothing if more
+/// symbols are needed. If it is a frame, the symbols held begin with it.
 ///
-/// No frame begins before the buffer's first symbol. Only a full buffer is searched. Then the symbols from the header
-/// on, or the last 89, move to the front. If a dummy frame reaches past them, none are kept.
+/// No frame begins before the buffer's first symbol. The symbols from the header on, or the last 89, move to the front. If a
+/// dummy frame reaches past them, none are kept.
 fn look_on(
     search: &mut Search,
     max_header_errors: HeaderTolerance,
@@ -271,27 +314,28 @@ fn look_on(
     size: usize,
     held: &mut Held,
 ) -> Option<Next>
-    requires size { (header_symbols ≤ size) × (size ≤ 2 ^ 31) × (size ≤ length buffer.old) × (length buffer.old ≤ size + header_symbols) }
-    requires count { held.old.count ≤ length buffer.old }
+    requires size { (header_symbols < size) × (size ≤ 2 ^ 31) × (size ≤ length buffer.old) × (length buffer.old ≤ size + header_symbols) }
+    requires count { held.old.count ≤ room_for held.old.again size }
     requires place { held.old.at + held.old.count ≤ max_symbols }
     requires skipped { held.old.skipped.symbols ≤ held.old.at }
     requires rest { held.old.again ≡ true → RestOfLost size (length buffer.old) held.old }
-    ensures takes { (lost : List SymbolValue → Bool) → Takes (found_as search.old.sought max_header_errors) lost size (length buffer.old) (window_of held.old buffer.old)
+    ensures takes { (lost : List SymbolValue → Bool) → Takes (found_as search.old.sought max_header_errors) lost size (room_for held.old.again size) (window_of held.old buffer.old)
         (window_after lost size result (window_of held.new buffer.new)) [] true (take size buffer.new) result }
     ensures holds { HoldsFor size result held.new.count (length buffer.old) }
     ensures last { HoldsLast held.old.at (take held.old.count buffer.old) (window_of held.new buffer.new) }
     ensures reached { held.new.at + held.new.count ≡ held.old.at + held.old.count }
     ensures rest { held.new.again ≡ true → RestOfLost size (length buffer.old) held.new }
+    ensures until { held.new.until ≡ held.old.until }
     ensures long { length buffer.new ≡ length buffer.old }
     ensures same { search.new.sought ≡ search.old.sought }
 {
-    if held.count < buffer.len() {
+    if held.count < room_for(size, held.again) {
         return None;
     }
     if resume(search, max_header_errors, buffer, size, held) {
         return None;
     }
-    if skip_to_header(search, max_header_errors, buffer, held) {
+    if skip_to_header(search, max_header_errors, buffer, size, held) {
         return None;
     }
     Some(Next::Frame {
@@ -309,17 +353,18 @@ fn look_last(
     size: usize,
     held: &mut Held,
 ) -> Next
-    requires size { (header_symbols ≤ size) × (size ≤ 2 ^ 31) × (size ≤ length buffer.old) × (length buffer.old ≤ size + header_symbols) }
-    requires count { held.old.count < length buffer.old }
+    requires size { (header_symbols < size) × (size ≤ 2 ^ 31) × (size ≤ length buffer.old) × (length buffer.old ≤ size + header_symbols) }
+    requires count { held.old.count < room_for held.old.again size }
     requires place { held.old.at + held.old.count ≤ max_symbols }
     requires skipped { held.old.skipped.symbols ≤ held.old.at }
     requires rest { held.old.again ≡ true → RestOfLost size (length buffer.old) held.old }
-    ensures takes { (lost : List SymbolValue → Bool) → Takes (found_as search.old.sought max_header_errors) lost size (length buffer.old) (window_of held.old buffer.old)
+    ensures takes { (lost : List SymbolValue → Bool) → Takes (found_as search.old.sought max_header_errors) lost size (room_for held.old.again size) (window_of held.old buffer.old)
         (window_after lost size (Some result) (window_of held.new buffer.new)) [] false (take size buffer.new) (Some result) }
     ensures holds { HoldsFor size (Some result) held.new.count (length buffer.old) }
     ensures last { HoldsLast held.old.at (take held.old.count buffer.old) (window_of held.new buffer.new) }
     ensures reached { held.new.at + held.new.count ≡ held.old.at + held.old.count }
     ensures rest { held.new.again ≡ true → RestOfLost size (length buffer.old) held.new }
+    ensures until { held.new.until ≡ held.old.until }
     ensures long { length buffer.new ≡ length buffer.old }
     ensures same { search.new.sought ≡ search.old.sought }
 {
@@ -338,18 +383,19 @@ pub(crate) fn take_symbols(
     held: &mut Held,
     whole: bool,
 ) -> Option<Next>
-    requires size { (header_symbols ≤ size) × (size ≤ 2 ^ 31) × (size ≤ length buffer.old) × (length buffer.old ≤ size + header_symbols) }
-    requires room { held.old.count + length bytes.now / 4 ≤ length buffer.old }
-    requires last { whole ≡ false → held.old.count + length bytes.now / 4 < length buffer.old }
+    requires size { (header_symbols < size) × (size ≤ 2 ^ 31) × (size ≤ length buffer.old) × (length buffer.old ≤ size + header_symbols) }
+    requires room { held.old.count + length bytes.now / 4 ≤ room_for held.old.again size }
+    requires last { whole ≡ false → held.old.count + length bytes.now / 4 < room_for held.old.again size }
     requires place { held.old.at + held.old.count + length bytes.now / 4 ≤ max_symbols }
     requires skipped { held.old.skipped.symbols ≤ held.old.at }
     requires rest { held.old.again ≡ true → RestOfLost size (length buffer.old) held.old }
-    ensures takes { (lost : List SymbolValue → Bool) → Takes (found_as search.old.sought max_header_errors) lost size (length buffer.old) (window_of held.old buffer.old)
+    ensures takes { (lost : List SymbolValue → Bool) → Takes (found_as search.old.sought max_header_errors) lost size (room_for held.old.again size) (window_of held.old buffer.old)
         (window_after lost size result (window_of held.new buffer.new)) (symbols_of bytes.now) whole (take size buffer.new) result }
     ensures holds { HoldsFor size result held.new.count (length buffer.old) }
     ensures last { HoldsLast held.old.at (take held.old.count buffer.old ++ symbols_of bytes.now) (window_of held.new buffer.new) }
     ensures reached { held.new.at + held.new.count ≡ held.old.at + held.old.count + length bytes.now / 4 }
     ensures rest { held.new.again ≡ true → RestOfLost size (length buffer.old) held.new }
+    ensures until { held.new.until ≡ held.old.until }
     ensures long { length buffer.new ≡ length buffer.old }
     ensures same { search.new.sought ≡ search.old.sought }
 {

@@ -10,7 +10,7 @@ use Rattle.s2_bbframe.specs.Joining.{Event, gap, joining}
 use Rattle.s2_bbframe.proofs.Events.{joining-append}
 use Rattle.s2_receive.specs.declared.gap.Gap.{Gap}
 use Rattle.s2_receive.specs.Laws.{events_of, joined}
-use Rattle.s2_receive.specs.Meeting.{Met, frame, cut, ended, no_gap, is_gap, extended, begins, by_found, met_from, rest_of}
+use Rattle.s2_receive.specs.Meeting.{Met, frame, cut, ended, no_gap, is_gap, extended, begins, by_found, met_from, rest_of, until_after}
 use Rattle.s2_receive.specs.Decider.{IsSaidBy}
 use Rattle.s2_receive.specs.Receiving.{Decision, Rules, searched_again, all_packets, at_start, delivery}
 use Rattle.s2_receive.specs.Sinks.{frames_of}
@@ -37,12 +37,12 @@ CutLast (frame at skipped symbols ∷ later) = CutLast later
 CutLast (cut at skipped count ∷ later) = later ≡ ended no_gap ∷ []
 CutLast (ended skipped ∷ later) = later ≡ []
 
-cut_last : (finds : Bool → List Symbol → Found) (lost : List Symbol → Bool) (size at inside : ℕ) (behind : Bool) (skipped : Gap) (symbols : List Symbol) → CutLast (met_from finds lost size at inside behind skipped symbols)
-cut_last finds lost size at inside behind skipped [] = refl
-cut_last finds lost size at (suc inside) behind skipped (x ∷ symbols) = cut_last finds lost size (at + 1) inside true skipped symbols
-cut_last finds lost size at zero behind skipped (x ∷ symbols) =
-    by (begins (finds behind) (x ∷ symbols)) (nat_le size (length (x ∷ symbols))) _ _ _ (cut_last finds lost size (at + 1) (rest_of finds lost size (x ∷ symbols)) true no_gap symbols)
-    (cut_last finds lost size (at + 1) 3329 true skipped symbols) (cut_last finds lost size (at + 1) 0 false (extended skipped at 1) symbols)
+cut_last : (finds : Bool → List Symbol → Found) (lost : List Symbol → Bool) (size until at inside : ℕ) (behind : Bool) (skipped : Gap) (symbols : List Symbol) → CutLast (met_from finds lost size until at inside behind skipped symbols)
+cut_last finds lost size until at inside behind skipped [] = refl
+cut_last finds lost size until at (suc inside) behind skipped (x ∷ symbols) = cut_last finds lost size until (at + 1) inside true skipped symbols
+cut_last finds lost size until at zero behind skipped (x ∷ symbols) =
+    by (begins (finds behind) (x ∷ symbols)) (nat_le size (length (x ∷ symbols))) _ _ _ (cut_last finds lost size (until_after (lost (take size (x ∷ symbols))) size until at) (at + 1) (rest_of finds lost size until at (x ∷ symbols)) true no_gap symbols)
+    (cut_last finds lost size until (at + 1) 3329 true skipped symbols) (cut_last finds lost size until (at + 1) 0 false (extended skipped at 1) symbols)
   where
     by : (f : Found) (whole : Bool) (later dummies none : List Met) → CutLast later → CutLast dummies → CutLast none
         → CutLast (by_found f (cond whole (frame at skipped (take size (x ∷ symbols)) ∷ later) (cut at skipped (length (x ∷ symbols)) ∷ (ended no_gap ∷ []))) dummies none)
@@ -126,5 +126,5 @@ module _ (m : Mode) (valid : IsMode m) where
 pub joined_back : JoinedLaw
 joined_back m rules new before behind symbols valid said spelt_so (over, (met, processed)) =
     let same = all_met rules symbols new before.taken behind.taken met spelt_so over processed.left in
-    let last = subst CutLast same (cut_last rules.finds (searched_again rules) rules.size 0 0 false no_gap symbols) in
+    let last = subst CutLast same (cut_last rules.finds (searched_again rules) rules.size 0 0 0 false no_gap symbols) in
     subst (Appends before.given behind.given) (sym (packets_are m valid rules said met last)) processed.packets

@@ -48,7 +48,7 @@ module _ (t : Terms) (recording left : List ℕ) (f : Follower) (by : IsBy t f) 
 -- what a run goes on with, and its lines in a report, are those of what was found
 module _ (t : Terms) (recording coming : List Symbol) (f : Follower) (known : Bool) where
   abbrev Runs : Next → List Decision → List (List ℕ) → List ℕ → Type 0
-  Runs found more own rest = RunsBy (IsBorneOut t) (rules_for t) recording f.state.standing (ahead (rules_for t) f (Some found) coming) more own rest
+  Runs found more own rest = RunsBy (IsBorneOut t) (rules_for t) recording f.state.window.until f.state.standing (ahead (rules_for t) f (Some found) coming) more own rest
 
   next_line : (found : Next) (more : List Decision) (own lines : List (List ℕ)) (rest : List ℕ) → Runs found more own rest → AreLines known more own lines → ExpectsNext t f found known more lines rest
   next_line (next.Frame at skipped) [] own lines rest runs are = absurd runs
@@ -82,7 +82,7 @@ module _ (t : Terms) (recording coming : List Symbol) (f : Follower) (known : Bo
 pub expects : ExpectsLaw
 expects t recording left f known decisions lines packets found by is before more later given (own, run, are) =
     let on = run_on t recording left f by decisions more before.own own packets given before.ran run in
-    let runs = subst (λ n. RunsBy (IsBorneOut t) (rules_for t) (symbols_of recording) f.state.standing (ahead (rules_for t) f n (symbols_of left)) more on.later on.rest) is on.runs in
+    let runs = subst (λ n. RunsBy (IsBorneOut t) (rules_for t) (symbols_of recording) f.state.window.until f.state.standing (ahead (rules_for t) f n (symbols_of left)) more on.later on.rest) is on.runs in
     let told = (before.told more on.later later).1 (subst (λ x. AreLines true (decisions ++ more) x (lines ++ later)) on.lines_are are) in
     (on.rest, on.packets_are, next_line t (symbols_of recording) (symbols_of left) f known found more on.later later on.rest runs told)
 
@@ -90,7 +90,7 @@ pub expects_last : ExpectsLastLaw
 expects_last t recording left f known decisions lines packets found by is before line later given (own, run, are) =
     let all = subst (λ x. IsRunBy (IsBorneOut t) (rules_for t) (symbols_of recording) x own given) (sym (append-nil decisions)) run in
     let on = run_on t recording left f by decisions [] before.own own packets given before.ran all in
-    let runs = subst (λ n. RunsBy (IsBorneOut t) (rules_for t) (symbols_of recording) f.state.standing (ahead (rules_for t) f n (symbols_of left)) [] on.later on.rest) is on.runs in
+    let runs = subst (λ n. RunsBy (IsBorneOut t) (rules_for t) (symbols_of recording) f.state.window.until f.state.standing (ahead (rules_for t) f n (symbols_of left)) [] on.later on.rest) is on.runs in
     let (x, xs, there) = has_line t (symbols_of recording) (symbols_of left) f known found [] on.later on.rest runs in
     let told = (before.told x xs line later).1 (subst (λ l. AreLines true decisions l (lines ++ line ∷ later)) (on.lines_are ∙ ap (λ l. before.own ++ l) there) are) in
     (on.rest, on.packets_are, next_line t (symbols_of recording) (symbols_of left) f known found [] on.later (line ∷ later) on.rest runs (subst (λ l. AreLines known [] l (line ∷ later)) (sym there) told))

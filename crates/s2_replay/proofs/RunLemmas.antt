@@ -36,7 +36,7 @@ pub wants_fours : (f : Follower) → (n : ℕ) × (asked_of f ≡ 4 * n)
 wants_fours f = by_phase f.state.phase refl
   where
     room : ℕ
-    room = room_for f.resync (symbols_in f.sought.mode)
+    room = room_for f.state.window.again (symbols_in f.sought.mode)
 
     by_phase : (phase : Phase) → f.state.phase ≡ phase → (n : ℕ) × (asked_of f ≡ 4 * n)
     by_phase phases.Searching is = (wanted f.limit room f.state.window, ap (λ p. wanted_by p f.limit room f.state.window) is)
@@ -114,11 +114,11 @@ last_may false left ended = ap symbols_of (ended refl)
 
 -- all of the recording was run
 module _ (t : Terms) (f : Follower) (by : IsBy t f) (none : f.found ≡ None) (over : f.state.phase ≡ phases.Ended) where
-  nothing : (recording coming : List Symbol) → RunsBy (IsBorneOut t) (rules_with (rules_for t).decide f) recording f.state.standing (ahead (rules_with (rules_for t).decide f) f f.found coming) [] [] []
+  nothing : (recording coming : List Symbol) → RunsBy (IsBorneOut t) (rules_with (rules_for t).decide f) recording f.state.window.until f.state.standing (ahead (rules_with (rules_for t).decide f) f f.found coming) [] [] []
   nothing recording coming =
       let rules = rules_with (rules_for t).decide f in
-      subst (λ n. RunsBy (IsBorneOut t) rules recording f.state.standing (ahead rules f n coming) [] [] []) (sym none)
-      (subst (λ p. RunsBy (IsBorneOut t) rules recording f.state.standing (left_by (record rules { resync = false }) p f.state.window coming) [] [] []) (sym over) (refl, refl))
+      subst (λ n. RunsBy (IsBorneOut t) rules recording f.state.window.until f.state.standing (ahead rules f n coming) [] [] []) (sym none)
+      (subst (λ p. RunsBy (IsBorneOut t) rules recording f.state.window.until f.state.standing (left_by (record rules { resync = false }) p f.state.window coming) [] [] []) (sym over) (refl, refl))
 
   pub ran_out : (whole left : Option (List ℕ)) (decisions : List Decision) (lines : List (List ℕ)) (packets : List ℕ) → RanIn t whole left f decisions lines packets → RanOut t whole decisions lines packets
   ran_out None left decisions lines packets before = tt
@@ -145,13 +145,13 @@ module _ (old new : Follower) (bytes : List ℕ) (some : 0 < asked_of old) where
   comes_nearer None seeks = by_phase old.state.phase refl seeks.seeks
     where
       room : ℕ
-      room = room_for old.resync (symbols_in old.sought.mode)
+      room = room_for old.state.window.again (symbols_in old.sought.mode)
 
       asked_so : (phase : Phase) → old.state.phase ≡ phase → asked_of old ≡ wanted_by phase old.limit room old.state.window
       asked_so phase is = ap (λ p. wanted_by p old.limit room old.state.window) is
 
       by_phase : (phase : Phase) → old.state.phase ≡ phase → SeeksBy phase old new bytes (nat_eq (length bytes) (asked_of old)) None → IsNearer old new None
-      by_phase phases.Searching is (takes, last) =
+      by_phase phases.Searching is (takes, last, until) =
           let t = takes (λ symbols. false) in
           limit_nearer (wanted old.limit room old.state.window) (asked_so phases.Searching is) (min-le_left (old.limit - reached old.state.window) (room - length old.state.window.symbols)) seeks.same.limit
           (eqb-true (length bytes) (asked_of old) t.0) t.2

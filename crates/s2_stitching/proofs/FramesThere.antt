@@ -6,7 +6,7 @@ use Rattle.s2_mode.specs.Limits.{dummy_symbols}
 use Rattle.s2_mode.specs.declared.symbols.Symbol.{Symbol}
 use Rattle.s2_plframe.specs.declared.receive.found.Found.{Found}
 use Rattle.s2_plframe.specs.declared.receive.found.Found.TheVariants as founds
-use Rattle.s2_receive.specs.Meeting.{Met, frame, cut, ended, begins, by_found, extended, met_from, no_gap, rest_of}
+use Rattle.s2_receive.specs.Meeting.{Met, frame, cut, ended, begins, by_found, extended, met_from, no_gap, rest_of, until_after}
 use Rattle.s2_receive.specs.declared.gap.Gap.{Gap}
 use Rattle.s2_stitching.specs.Laws.{FrameThereLaw}
 
@@ -41,36 +41,36 @@ not_cut {A} at gap lacks place skipped own has = by (contained (cut at gap lacks
     by (inr later) = not_end no_gap place skipped own later
 
 module _ (finds : Bool → List Symbol → Found) (lost : List Symbol → Bool) (size : ℕ) where
-  there : (at inside : ℕ) (behind : Bool) (gap : Gap) (symbols : List Symbol) (place : ℕ) (skipped : Gap) (own : List Symbol) → Contains (met_from finds lost size at inside behind gap symbols) (frame place skipped own) → IsThere size at symbols place own
-  there at inside behind gap [] place skipped own has = not_end gap place skipped own has
-  there at (suc inside) behind gap (symbol ∷ symbols) place skipped own has = one_on size at symbol symbols place own (there (at + 1) inside true gap symbols place skipped own has)
-  there at zero behind gap (symbol ∷ symbols) place skipped own has =
-      by (λ inside after_one more later. one_on size at symbol symbols place own (there (at + 1) inside after_one more symbols place skipped own later)) (begins (finds behind) (symbol ∷ symbols)) has
+  there : (until at inside : ℕ) (behind : Bool) (gap : Gap) (symbols : List Symbol) (place : ℕ) (skipped : Gap) (own : List Symbol) → Contains (met_from finds lost size until at inside behind gap symbols) (frame place skipped own) → IsThere size at symbols place own
+  there until at inside behind gap [] place skipped own has = not_end gap place skipped own has
+  there until at (suc inside) behind gap (symbol ∷ symbols) place skipped own has = one_on size at symbol symbols place own (there until (at + 1) inside true gap symbols place skipped own has)
+  there until at zero behind gap (symbol ∷ symbols) place skipped own has =
+      by (λ until inside after_one more later. one_on size at symbol symbols place own (there until (at + 1) inside after_one more symbols place skipped own later)) (begins (finds behind) (symbol ∷ symbols)) has
     where
       -- a frame that is met later is one of the symbols after the first
       Later : Type 0
-      Later = (inside : ℕ) (after_one : Bool) (more : Gap) → Contains (met_from finds lost size (at + 1) inside after_one more symbols) (frame place skipped own) → IsThere size at (symbol ∷ symbols) place own
+      Later = (until inside : ℕ) (after_one : Bool) (more : Gap) → Contains (met_from finds lost size until (at + 1) inside after_one more symbols) (frame place skipped own) → IsThere size at (symbol ∷ symbols) place own
 
-      first : Later → nat_le size (length (symbol ∷ symbols)) ≡ true → (frame at gap (take size (symbol ∷ symbols)) ≡ frame place skipped own) ⊎ Contains (met_from finds lost size (at + 1) (rest_of finds lost size (symbol ∷ symbols)) true no_gap symbols) (frame place skipped own) → IsThere size at (symbol ∷ symbols) place own
+      first : Later → nat_le size (length (symbol ∷ symbols)) ≡ true → (frame at gap (take size (symbol ∷ symbols)) ≡ frame place skipped own) ⊎ Contains (met_from finds lost size (until_after (lost (take size (symbol ∷ symbols))) size until at) (at + 1) (rest_of finds lost size until at (symbol ∷ symbols)) true no_gap symbols) (frame place skipped own) → IsThere size at (symbol ∷ symbols) place own
       first later_on long (inl is) =
           let enough : size ≤ length (symbol ∷ symbols) = leb-true size (length (symbol ∷ symbols)) long in
           let at_is : at ≡ place = cc in
           let own_is : take size (symbol ∷ symbols) ≡ own = cc in
           record { k = 0; place_is = omega (arith, at_is); within = omega (arith, enough); own_are = sym own_is }
-      first later_on long (inr later) = later_on (rest_of finds lost size (symbol ∷ symbols)) true no_gap later
+      first later_on long (inr later) = later_on (until_after (lost (take size (symbol ∷ symbols))) size until at) (rest_of finds lost size until at (symbol ∷ symbols)) true no_gap later
 
-      here : Later → (b : Bool) → nat_le size (length (symbol ∷ symbols)) ≡ b → Contains (if b then frame at gap (take size (symbol ∷ symbols)) ∷ met_from finds lost size (at + 1) (rest_of finds lost size (symbol ∷ symbols)) true no_gap symbols else cut at gap (length (symbol ∷ symbols)) ∷ (ended no_gap ∷ [])) (frame place skipped own) → IsThere size at (symbol ∷ symbols) place own
+      here : Later → (b : Bool) → nat_le size (length (symbol ∷ symbols)) ≡ b → Contains (if b then frame at gap (take size (symbol ∷ symbols)) ∷ met_from finds lost size (until_after (lost (take size (symbol ∷ symbols))) size until at) (at + 1) (rest_of finds lost size until at (symbol ∷ symbols)) true no_gap symbols else cut at gap (length (symbol ∷ symbols)) ∷ (ended no_gap ∷ [])) (frame place skipped own) → IsThere size at (symbol ∷ symbols) place own
       here later_on true long has = first later_on long (contained _ _ _ has)
       here later_on false long has = not_cut at gap (length (symbol ∷ symbols)) place skipped own has
 
-      by : Later → (f : Found) → Contains (by_found f (if nat_le size (length (symbol ∷ symbols)) then frame at gap (take size (symbol ∷ symbols)) ∷ met_from finds lost size (at + 1) (rest_of finds lost size (symbol ∷ symbols)) true no_gap symbols else cut at gap (length (symbol ∷ symbols)) ∷ (ended no_gap ∷ [])) (met_from finds lost size (at + 1) (dummy_symbols - 1) true gap symbols) (met_from finds lost size (at + 1) 0 false (extended gap at 1) symbols)) (frame place skipped own) → IsThere size at (symbol ∷ symbols) place own
+      by : Later → (f : Found) → Contains (by_found f (if nat_le size (length (symbol ∷ symbols)) then frame at gap (take size (symbol ∷ symbols)) ∷ met_from finds lost size (until_after (lost (take size (symbol ∷ symbols))) size until at) (at + 1) (rest_of finds lost size until at (symbol ∷ symbols)) true no_gap symbols else cut at gap (length (symbol ∷ symbols)) ∷ (ended no_gap ∷ [])) (met_from finds lost size until (at + 1) (dummy_symbols - 1) true gap symbols) (met_from finds lost size until (at + 1) 0 false (extended gap at 1) symbols)) (frame place skipped own) → IsThere size at (symbol ∷ symbols) place own
       by later_on founds.Coded has = here later_on (nat_le size (length (symbol ∷ symbols))) refl has
-      by later_on founds.Dummy has = later_on (dummy_symbols - 1) true gap has
-      by later_on founds.Nothing has = later_on 0 false (extended gap at 1) has
+      by later_on founds.Dummy has = later_on until (dummy_symbols - 1) true gap has
+      by later_on founds.Nothing has = later_on until 0 false (extended gap at 1) has
 
 pub frame_there : FrameThereLaw
 frame_there finds lost size from recording piece after at skipped symbols all has =
-    let is = there finds lost size 0 0 false no_gap piece at skipped symbols has in
+    let is = there finds lost size 0 0 0 false no_gap piece at skipped symbols has in
     let at_is : is.k ≡ at = omega (arith, is.place_is) in
     let short : at ≤ length piece = omega (arith, is.within, at_is) in
     let rest : size ≤ length (drop at piece) = omega (arith, is.within, at_is, length-drop at piece) in

@@ -24,4 +24,4 @@ TrueRecordLaw =
 abbrev pub FrameThereLaw : Type 0
 FrameThereLaw =
     (finds : Bool → List Symbol → Found) (lost : List Symbol → Bool) (size from : ℕ) (recording piece after : List Symbol) (at : ℕ) (skipped : Gap) (symbols : List Symbol)
-    → drop from recording ≡ piece ++ after → Contains (met_from finds lost size 0 0 false no_gap piece) (frame at skipped symbols) → symbols ≡ take size (drop (from + at) recording)
+    → drop from recording ≡ piece ++ after → Contains (met_from finds lost size 0 0 0 false no_gap piece) (frame at skipped symbols) → symbols ≡ take size (drop (from + at) recording)

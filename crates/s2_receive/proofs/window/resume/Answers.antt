@@ -27,9 +27,9 @@ returns-clause-met c = λ lost coming may.
     let place = c.first_candidate-place.result in
     let now = c.drop_front.new.held in
     let is = c.drop_front.ensures.held in
-    let u : Window = record { at = now.at; skipped = now.skipped; inside = now.inside - place; again = now.again; behind = true; symbols = take now.count c.drop_front.new.buffer } in
-    let u_is : u ≡ record { at = w.at + place; skipped = w.skipped; inside = w.inside - place; again = true; behind = true; symbols = drop place w.symbols } =
-    λ i. record { at = (is i).at; skipped = (is i).skipped; inside = (is i).inside - place; again = (ap (λ h. h.again) is ∙ c.if-not-held.false) i; behind = true; symbols = c.drop_front.ensures.symbols i } in
+    let u : Window = record { at = now.at; skipped = now.skipped; inside = now.inside - place; again = now.again; behind = true; until = now.until; symbols = take now.count c.drop_front.new.buffer } in
+    let u_is : u ≡ record { at = w.at + place; skipped = w.skipped; inside = w.inside - place; again = true; behind = true; until = w.until; symbols = drop place w.symbols } =
+    λ i. record { at = (is i).at; skipped = (is i).skipped; inside = (is i).inside - place; again = (ap (λ h. h.again) is ∙ c.if-not-held.false) i; behind = true; until = (is i).until; symbols = c.drop_front.ensures.symbols i } in
     keeps_on (found_as c.args.search.now.sought c.args.max_header_errors) lost c.args.size w place c.if-not-held.false c.first_candidate-place.ensures.candidate u u_is
     (omega (arith, c.if-place-eq0.false)) (omega (arith, long, c.first_candidate-place.ensures.candidate.within, (c.requires.rest c.if-not-held.false).3)) coming (may c.if-not-held.false)
 

@@ -7,4 +7,4 @@ pub returns-clause-counted : goal.returns-clause-counted
 returns-clause-counted c =
     let inside = c.self.inside in
     subst (λ (f : Follower). f.state.standing.totals.frames ≤ max_symbols) c.self.view_is
-    (frames_most inside.synchronizer.sought.mode inside.synchronizer.resync inside.limit inside.found inside.synchronizer.window inside.status.totals c.self.invariant)
+    (frames_most inside.synchronizer.sought.mode inside.limit inside.found inside.synchronizer.window inside.status.totals c.self.invariant)

@@ -8,10 +8,10 @@ pub returns-in-Searching-clause-held : goal.returns-in-Searching-clause-held
 returns-in-Searching-clause-held c =
     let inside = c.self.inside in
     let sound = known_so inside.synchronizer inside.limit inside.found None inside.status.totals (ap (λ (f : Follower). f.found) c.self.view_is ∙ c.requires.none) c.self.invariant in
-    subst (λ (f : Follower). (length f.state.window.symbols < room_for f.resync (symbols_in f.sought.mode)) × (reached f.state.window ≤ f.limit)) c.self.view_is (sound.few true, sound.place)
+    subst (λ (f : Follower). (length f.state.window.symbols < room_for f.state.window.again (symbols_in f.sought.mode)) × (reached f.state.window ≤ f.limit)) c.self.view_is (sound.few true, sound.place)
 
 pub returns-in-Closing-clause-held : goal.returns-in-Closing-clause-held
 returns-in-Closing-clause-held c =
     let inside = c.self.inside in
     let sound = known_so inside.synchronizer inside.limit inside.found None inside.status.totals (ap (λ (f : Follower). f.found) c.self.view_is ∙ c.requires.none) c.self.invariant in
-    subst (λ (f : Follower). (length f.state.window.symbols < room_for f.resync (symbols_in f.sought.mode)) × (reached f.state.window ≤ f.limit)) c.self.view_is (sound.few true, sound.place)
+    subst (λ (f : Follower). (length f.state.window.symbols < room_for f.state.window.again (symbols_in f.sought.mode)) × (reached f.state.window ≤ f.limit)) c.self.view_is (sound.few true, sound.place)

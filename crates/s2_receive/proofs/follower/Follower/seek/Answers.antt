@@ -26,7 +26,7 @@ invariant_of-self c =
     let before = follower_of inside.status.phase inside.synchronizer inside.limit inside.joiner.held inside.status.totals inside.found inside.joiner.packets in
     let few : length bytes ≤ asked_of before = subst (λ (f : Follower). length bytes ≤ asked_of f) (sym c.self.view_is) c.requires.room in
     follows_so inside.synchronizer c.seek_in-self-inside.new.synchronizer inside.limit bytes c.seek_in-self-inside.result inside.status.phase inside.status.totals
-    (record { searching = e.searching; last = e.last; holds = e.holds; closing = e.closing; ended = e.ended; rests = e.rests; front = e.front; same = e.same }) sound (wanted_so before bytes few)
+    (record { searching = e.searching; until = e.until; last = e.last; holds = e.holds; closing = e.closing; ended = e.ended; rests = e.rests; front = e.front; same = e.same }) sound (wanted_so before bytes few)
 
 pub returns-clause-seeks : goal.returns-clause-seeks
 returns-clause-seeks c =
@@ -36,7 +36,7 @@ returns-clause-seeks c =
     let found = c.seek_in-self-inside.result in
     let here =
     seeks_so inside.synchronizer c.seek_in-self-inside.new.synchronizer inside.limit bytes found inside.status.phase inside.joiner.held inside.status.totals inside.found inside.joiner.packets
-    (record { searching = e.searching; last = e.last; holds = e.holds; closing = e.closing; ended = e.ended; rests = e.rests; front = e.front; same = e.same }) in
+    (record { searching = e.searching; until = e.until; last = e.last; holds = e.holds; closing = e.closing; ended = e.ended; rests = e.rests; front = e.front; same = e.same }) in
     subst
     (λ (f : Follower). Seeks f (follower_of inside.status.phase c.seek_in-self-inside.new.synchronizer inside.limit inside.joiner.held inside.status.totals found inside.joiner.packets) bytes (nat_eq (length bytes) (asked_of f)) found) c.self.view_is here)
 

@@ -10,7 +10,7 @@ pass_found-requires-clause-limit c = let most = (c.self.invariant.fits true).mos
 pub step_for-step-requires : goal.step_for-step-requires
 step_for-step-requires c =
     let inside = c.self.inside in
-    frames_most inside.synchronizer.sought.mode inside.synchronizer.resync inside.limit inside.found inside.synchronizer.window inside.status.totals c.self.invariant
+    frames_most inside.synchronizer.sought.mode inside.limit inside.found inside.synchronizer.window inside.status.totals c.self.invariant
 
 pub status_for-self-inside-requires-clause-fits : goal.status_for-self-inside-requires-clause-fits
 status_for-self-inside-requires-clause-fits c =

@@ -11,7 +11,7 @@ returns-then-is_at_frame-clause-finds g c =
     let so = c.reading.invariant in
     let cur = c.reading.self in
     let left = g.R.CountedRead.remaining c.reading.reader in
-    let held = subst (λ (r : Receiver g.row.D.Denot). (length r.state.window.symbols < room_for r.resync (symbols_in r.sought.mode)) × (taken r.state ≤ r.limit)) c.self.view_is c.room-room.ensures.held in
+    let held = subst (λ (r : Receiver g.row.D.Denot). (length r.state.window.symbols < room_for r.state.window.again (symbols_in r.sought.mode)) × (taken r.state ≤ r.limit)) c.self.view_is c.room-room.ensures.held in
     let none = subst (λ (r : Receiver g.row.D.Denot). c.room-room.result ≡ asked (rules_of g.D.Decide.decide r) r.state) c.self.view_is c.room-room.ensures.is in
     full_now g.D.Decide.decide g.D.Decide.last c.args.self.now cur cur (g.R.CountedRead.remaining c.args.reader.now) left left so.same.rules so.waited so.last so.live _ _ held.0 held.1
     (at_frame cur.state.phase (sym c.is_at_frame.ensures ∙ c.if-is_at_frame.true)) (sym none ∙ c.if-room-eq0.true) so.count
@@ -23,7 +23,7 @@ returns-in_err-step-clause-finds g c =
     let new = c.read_step.new in
     let fault = c.in_err-step.field-0.0 in
     let is : c.from_residual.result ≡ Err fault = search common in
-    let held = subst (λ (r : Receiver g.row.D.Denot). (length r.state.window.symbols < room_for r.resync (symbols_in r.sought.mode)) × (taken r.state ≤ r.limit)) c.self.view_is c.room-room.ensures.held in
+    let held = subst (λ (r : Receiver g.row.D.Denot). (length r.state.window.symbols < room_for r.state.window.again (symbols_in r.sought.mode)) × (taken r.state ≤ r.limit)) c.self.view_is c.room-room.ensures.held in
     let reads = subst (λ (r : Receiver g.row.D.Denot). Reads (seen_by g.D.Decide.decide g.D.Decide.last r) (seen_by g.D.Decide.decide g.D.Decide.last new.inner)
     (g.R.CountedRead.remaining c.reading.reader) (g.R.CountedRead.remaining new.reader) (Err fault)) c.self.view_is c.in_err-step.ensures.reads in
     rw is (fails_now g.D.Decide.decide g.D.Decide.last c.args.self.now cur new.inner _ _ _ so.same.rules so.waited so.last so.live held.0 held.1 _ _ fault reads (c.in_err-step.ensures.cause ∙ ap (λ n. n + 1) so.count))

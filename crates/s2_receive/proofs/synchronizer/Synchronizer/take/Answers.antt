@@ -19,14 +19,14 @@ returns-clause-takes c = λ lost.
     let whole : take inside.buffer.len (after ++ drop (length after) items) ≡ after = refilled inside.buffer.len after items (sym c.deref_mut.ensures.len ∙ ap length value) (c.take_symbols.ensures.long ∙ ap length value) in
     let finds = found_as inside.search.sought inside.max_header_errors in
     let all = nat_eq count (4 * c.wanted.result) in
-    let one = subst (λ (l : List Symbol). Takes finds lost inside.size (length l) (window_of inside.held l) (window_after lost inside.size r (window_of now after)) symbols all (take inside.size after) r) value (c.take_symbols.ensures.takes lost) in
-    let two = subst (λ (n : ℕ). Takes finds lost inside.size n (window_of inside.held items) (window_after lost inside.size r (window_of now after)) symbols all (take inside.size after) r) c.self.invariant.room_is one in
-    let three = subst (λ (l : List Symbol). Takes finds lost inside.size (room_for inside.resync inside.size) (window_of inside.held items) (window_after lost inside.size r (window_of now l)) symbols all (take inside.size l) r) (sym whole) two in
+    let room = room_for inside.held.again inside.size in
+    let one = subst (λ (l : List Symbol). Takes finds lost inside.size room (window_of inside.held l) (window_after lost inside.size r (window_of now after)) symbols all (take inside.size after) r) value (c.take_symbols.ensures.takes lost) in
+    let three = subst (λ (l : List Symbol). Takes finds lost inside.size room (window_of inside.held items) (window_after lost inside.size r (window_of now l)) symbols all (take inside.size l) r) (sym whole) one in
     let same = take inside.buffer.len (after ++ drop (length after) items) in
-    let four = subst (λ (n : ℕ). Takes finds lost n (room_for inside.resync n) (window_of inside.held items) (window_after lost n r (window_of now same)) symbols all (take inside.size same) r) c.self.invariant.size_is three in
-    let five = subst (λ (f : Synchronizer). Takes (found_as f.sought f.max_header_errors) lost (symbols_in f.sought.mode) (room_for f.resync (symbols_in f.sought.mode)) f.window (window_after lost (symbols_in f.sought.mode) r (window_of now same)) symbols all (take inside.size same) r) c.self.view_is four in
+    let four = subst (λ (n : ℕ). Takes finds lost n (room_for inside.held.again n) (window_of inside.held items) (window_after lost n r (window_of now same)) symbols all (take inside.size same) r) c.self.invariant.size_is three in
+    let five = subst (λ (f : Synchronizer). Takes (found_as f.sought f.max_header_errors) lost (symbols_in f.sought.mode) (room_for f.window.again (symbols_in f.sought.mode)) f.window (window_after lost (symbols_in f.sought.mode) r (window_of now same)) symbols all (take inside.size same) r) c.self.view_is four in
     let f = c.args.self.now in
-    subst (λ (n : ℕ). Takes (found_as f.sought f.max_header_errors) lost (symbols_in f.sought.mode) (room_for f.resync (symbols_in f.sought.mode)) f.window (window_after lost (symbols_in f.sought.mode) r (window_of now same)) symbols (nat_eq count (4 * n)) (take inside.size same) r) c.wanted.ensures.is five
+    subst (λ (n : ℕ). Takes (found_as f.sought f.max_header_errors) lost (symbols_in f.sought.mode) (room_for f.window.again (symbols_in f.sought.mode)) f.window (window_after lost (symbols_in f.sought.mode) r (window_of now same)) symbols (nat_eq count (4 * n)) (take inside.size same) r) c.wanted.ensures.is five
 
 pub returns-clause-reached : goal.returns-clause-reached
 returns-clause-reached c =
@@ -68,7 +68,7 @@ returns-clause-front c =
     let long : length after ≡ length items = c.take_symbols.ensures.long ∙ ap length value in
     let whole : take inside.buffer.len (after ++ drop (length after) items) ≡ after = refilled inside.buffer.len after items (sym c.deref_mut.ensures.len ∙ ap length value) long in
     let most = holds_most inside.size r now.count (length c.deref_mut.result.now) c.take_symbols.ensures.holds in
-    let one = in_front (found_as inside.search.sought inside.max_header_errors) inside.size (length c.deref_mut.result.now) (window_of inside.held c.deref_mut.result.now) now after (symbols_of c.args.bytes.now) _ r c.take_symbols.ensures.takes c.take_symbols.ensures.holds
+    let one = in_front (found_as inside.search.sought inside.max_header_errors) inside.size (room_for inside.held.again inside.size) (length c.deref_mut.result.now) (window_of inside.held c.deref_mut.result.now) now after (symbols_of c.args.bytes.now) _ r c.take_symbols.ensures.takes c.take_symbols.ensures.holds
     (omega (arith, most, ap length value, long)) in
     let same = take inside.buffer.len (after ++ drop (length after) items) in
     let two = subst (λ (l : List Symbol). IsInFront inside.size r (window_of now l) (take inside.size l)) (sym whole) one in
