@@ -1,5 +1,5 @@
 -- How many symbols the frames have that are met.
-use Rattle.s2_receive.proofs.Names.{◌≡◌, ℕ, zero, suc, ◌+◌, ◌-◌, ◌*◌, ◌≤◌, Bool, true, false, nat_le, if◌then◌else◌, List, [], ◌∷◌, length, take, drop, refl, arith, length-take-le, leb-true, and_parts, cond_both, Symbol, Found, Gap, Met, frame, cut, ended, no_gap, extended, begins, by_found, is_again, until_after, resumed, rest_of, met_from, searched_again}
+use Rattle.s2_receive.proofs.Names.{◌≡◌, ℕ, zero, suc, ◌+◌, ◌-◌, ◌*◌, ◌≤◌, Bool, true, false, ◌&&◌, nat_le, if◌then◌else◌, List, [], ◌∷◌, length, take, drop, refl, arith, length-take-le, length-drop, leb-true, and_parts, cond_both, Symbol, Found, Gap, Met, frame, cut, ended, no_gap, extended, begins, by_found, is_again, until_after, resumed, rest_of, met_from, searched_again}
 use Rattle.s2_receive.proofs.Names.founds
 use Rattle.s2_receive.specs.Laws.{TwiceLaw, frame_symbols}
 use Rattle.s2_receive.proofs.LostFrames.{resume_law}

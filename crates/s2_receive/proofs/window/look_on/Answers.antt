@@ -1,4 +1,4 @@
-use Rattle.s2_receive.proofs.Names.{◌≡◌, ◌∙◌, [], Some, None, true, false, length, take, sym, arith, refl, length-take-le, passed_by, room_for, window_of, found_as}
+use Rattle.s2_receive.proofs.Names.{◌≡◌, ◌∙◌, ◌<◌, [], Some, None, true, false, length, take, sym, arith, refl, length-take-le, passed_by, room_for, window_of, found_as}
 use Rattle.s2_receive.proofs.Names.next
 use Rattle.s2_receive.proofs.FindSteps.{all_held_so, moved_on, none_yet, room_least, told_on}
 use Rattle.s2_receive.proofs.LastSymbols.{all_last, last-last}

@@ -1,4 +1,4 @@
-use Rattle.s2_receive.proofs.Names.{◌≡◌, ◌∙◌, ◌+◌, ◌-◌, ◌≤◌, true, false, take, ap, refl, sym, arith, length-take-le, take-take, drop_all, extended, Window, window_at, window_of, found_as}
+use Rattle.s2_receive.proofs.Names.{◌≡◌, ◌∙◌, ◌+◌, ◌-◌, ◌≤◌, true, false, length, take, ap, refl, sym, arith, length-take-le, take-take, drop_all, extended, Window, window_at, window_of, found_as}
 use Rattle.s2_receive.proofs.FindSteps.{end_takes, cut_takes, frame_takes}
 use Rattle.s2_receive.proofs.LastSymbols.{dropped_last}
 use Rattle.s2_receive.proofs.window.meet_last.Goals as goal

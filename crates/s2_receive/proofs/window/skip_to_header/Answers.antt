@@ -1,4 +1,4 @@
-use Rattle.s2_receive.proofs.Names.{◌≡◌, ◌∙◌, ◌-◌, ◌≤◌, min, true, length, take, ap, refl, sym, arith, take-take, length-take-le, Window, window_of, found_as}
+use Rattle.s2_receive.proofs.Names.{◌≡◌, ◌∙◌, ◌-◌, ◌<◌, ◌≤◌, min, true, length, take, ap, refl, sym, arith, take-take, length-take-le, Window, window_of, found_as}
 use Rattle.s2_receive.proofs.FindSteps.{few_behind, frame_takes, moves_on}
 use Rattle.s2_receive.proofs.LastSymbols.{dropped_last}
 use Rattle.s2_receive.proofs.window.skip_to_header.Goals as goal
