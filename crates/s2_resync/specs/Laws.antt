@@ -16,6 +16,6 @@ PassesLaw = (bytes : List ℕ) → ArePackets bytes → resync true 0 bytes ≡ 
 abbrev pub WholeLaw : Type 0
 WholeLaw = (bytes : List ℕ) → ArePackets (resync true 0 bytes).given
 
--- and what is given and what is left out are together as many bytes as came
+-- and the number of bytes that are given or left out is that of all bytes
 abbrev pub AllLaw : Type 0
 AllLaw = (bytes : List ℕ) → length (resync true 0 bytes).given + (resync true 0 bytes).left_out ≡ length bytes

@@ -35,7 +35,7 @@ resync in_step zero (byte ∷ bytes) =
 
 -- A reader of packets: the rest of its packet; the bytes after that, if they are known, and whether a packet is expected
 -- there; the bytes left out so far, and their places. Then the failed calls of the reader that it holds, and the calls that it refused
--- since what is left out could not be counted
+-- since these bytes could not be counted
 pub record Packets : Type 0 where
   pub packet : List ℕ
   pub coming : Option (List ℕ)
@@ -73,7 +73,7 @@ failed_of p = counted_with p.inside p.refused
 abbrev pub AreFull : (left_out places : ℕ) → Type 0
 AreFull left_out places = (2 ^ 64 ≤ left_out + 753) ⊎ (2 ^ 64 ≤ places + 1)
 
--- a call of the reader that is held failed; or none did, and what is left out cannot be counted
+-- a call of the reader that is held failed; or none did, and the bytes left out cannot be counted
 abbrev pub IsForwarded : (inside inside_new : ℕ) → (left_out places : ℕ) → Type 0
 IsForwarded inside inside_new left_out places = (inside_new ≡ inside + 1) ⊎ ((inside_new ≡ inside) × AreFull left_out places)
 
