@@ -11,7 +11,7 @@ places-preserved c =
     let more = total-upto_more f c.places.i in
     let value : c.in_favour.result ≡ f c.places.i = search rules in
     record {
-      sum = omega (arith, ints, more, value, c.plus.ensures, c.places.invariant.sum);
-      low = omega (arith, ints, c.plus.ensures, c.in_favour.ensures.low, c.places.invariant.low);
-      high = omega (arith, ints, c.plus.ensures, c.in_favour.ensures.high, c.places.invariant.high);
+      sum = omega (arith, ints, more, value, c.plus-sum.ensures, c.places.invariant.sum);
+      low = omega (arith, ints, c.plus-sum.ensures, c.in_favour.ensures.low, c.places.invariant.low);
+      high = omega (arith, ints, c.plus-sum.ensures, c.in_favour.ensures.high, c.places.invariant.high);
     }
