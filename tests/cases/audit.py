@@ -416,6 +416,16 @@ def uncertified_cases(made):
         yield audit(said, 0, said.told() + last(made.report, known=True), options)
 
 
+def forged_cases(made, other):
+    """The report of frames that are all sole, as `parity` and without certificates, beside the words and the packets of other frames."""
+    count = len(made.frames())
+    words = other.words()[:count]
+    assert len(words) == count and words[0] != made.words()[0]
+    report = made.report.replace(" sole ", " parity ")
+    forged = replace(made, report=report, certificates=b"", codewords=b"".join(words), packets=other.packets[: len(made.packets)])
+    yield audit(forged, NO, failed(forged.frames()[0], "far from the symbols"), f"{CODEWORDS} {PACKETS}")
+
+
 def far_cases(made, at):
     """A word of a frame without a certificate that does not fit the symbols. Its correlation with the soft values is compared with a quarter of the
     sum of their magnitudes."""
@@ -442,7 +452,7 @@ def far_cases(made, at):
     words = line.split()
     broken = " ".join([*words[:4], "broken", *words[5:]])
     near = made.with_words(at, before).with_line(at, broken)
-    yield replace(audit(near, NO, ANY, options), out=Rule("not far", lambda got: "far from" not in got))
+    yield replace(audit(near, NO, ANY, options), out=Rule("not far", lambda got: "far from" not in str(got)))
 
 
 def likely_cases(made):
