@@ -61,7 +61,7 @@ class Made:
     def changed(self, at):
         """The number of bits in which the record of a frame differs from the hard decision of its soft values."""
         bits = (int(byte) >> place & 1 for byte in self.words()[at] for place in range(7, -1, -1))
-        return sum(int(value) < 0 ^ bit for value, bit in zip(self.values.splitlines()[at].split(), bits))
+        return sum((int(value) < 0) ^ bit for value, bit in zip(self.values.splitlines()[at].split(), bits))
 
     def told(self, count=None):
         """The lines of the first frames with the bits of each: of those that are certified, and of those whose bits are stated."""
