@@ -1,7 +1,9 @@
 """`audit`, on what `demod` made of symbols: `tests/exits` receives each stream, and the cases here audit what it wrote.
 
-The expected lines are computed from the report and from the bytes of the certificates: the cost of a certificate's bits is the sum of its
-soft values at the bits that are 1. Of an altered line or packet the one before the alteration is expected."""
+The expected lines are computed from the report, from the bytes of the certificates, and from the soft values and bits that `demod` wrote. The cost of
+a certificate's bits is the sum of its soft values at the bits that are 1. A word changes the bits that differ from the hard decision. Of an altered
+line or packet the one before the alteration is expected."""
+import random
 from dataclasses import dataclass, replace
 
 from cases.common import ANY, FAULT, LINK, NO, Case, Rule, fault, noted
@@ -32,6 +34,7 @@ class Made:
     certificates: bytes
     codewords: bytes
     packets: bytes
+    values: bytes = b""
 
     def lines(self):
         return self.report.splitlines()
@@ -54,6 +57,18 @@ class Made:
         """The lines of the first frames that are certified, by default of all."""
         frames = self.frames() if count is None else self.frames()[:count]
         return "".join(shown("\n".join(frames), self.each()))
+
+    def changed(self, at):
+        """The number of bits in which the record of a frame differs from the hard decision of its soft values."""
+        bits = (int(byte) >> place & 1 for byte in self.words()[at] for place in range(7, -1, -1))
+        return sum((int(value) < 0) ^ bit for value, bit in zip(self.values.splitlines()[at].split(), bits))
+
+    def told(self, count=None):
+        """The lines of the first frames with the bits of each: of those that are certified, and of those whose bits are stated."""
+        frames = self.frames() if count is None else self.frames()[:count]
+        by_certificate = iter(shown("\n".join(frames), self.each()))
+        stated = (f"{' '.join(line.split()[:5])} changed {self.changed(at)}\n" for at, line in enumerate(frames))
+        return "".join(next(by_certificate) if certified(line) else other for line, other in zip(frames, stated))
 
     def with_line(self, at, *lines):
         """With other lines in place of the line at a place."""
@@ -111,10 +126,11 @@ def shown(report, certificates):
 
 
 def last(report, known=False):
-    """The last line. Frames without a certificate are unchecked if their bits are not known."""
+    """The last line. The bits of frames without a certificate are stated, or the frames are unchecked if no bits are known."""
     frames = [line.split()[4] for line in report.splitlines() if line.startswith("frame ")]
     sole, likely = frames.count("sole"), frames.count("most-likely")
-    return f"audit frames {len(frames)} sole {sole} most-likely {likely} unchecked {0 if known else len(frames) - sole - likely}\n"
+    stated, unchecked = (len(frames) - sole - likely, 0) if known else (0, len(frames) - sole - likely)
+    return f"audit frames {len(frames)} sole {sole} most-likely {likely} stated {stated} unchecked {unchecked}\n"
 
 
 def failed(line, reason):
@@ -162,10 +178,10 @@ def stopped(made, out, text, options=""):
     return audit(made, FAULT, out, options, f"s2: {text}\n")
 
 
-def both(made, code, out, options=""):
-    """By certificates alone, and with the bits of each frame and the packets."""
+def both(made, code, out, options="", told=None):
+    """By certificates alone, and with the bits of each frame and the packets: then the output may be another one."""
     yield audit(made, code, out, options)
-    yield audit(made, code, out, f"{options} {CODEWORDS} {PACKETS}".strip())
+    yield audit(made, code, out if told is None else told, f"{options} {CODEWORDS} {PACKETS}".strip())
 
 
 def evidence_cases(made):
@@ -361,9 +377,9 @@ def parity_cases(made):
         # without its bits the report is believed; with them the parity checks show the verdict
         yield audit(bare, 0, ahead + last(less.report))
         yield audit(less, NO, ahead + "certificates left over\n")
-        fine, other = ahead + last(less.report, known=True), ahead + expected(at + 1, line.replace("sole", "parity"))
+        fine, other = less.told() + last(less.report, known=True), ahead + expected(at + 1, line.replace("sole", "parity"))
         yield audit(bare, 0 if word == "parity" else NO, fine if word == "parity" else other, f"{CODEWORDS} {PACKETS}")
-        yield audit(less, NO, ahead + "certificates left over\n" if word == "parity" else other, f"{CODEWORDS} {PACKETS}")
+        yield audit(less, NO, less.told() + "certificates left over\n" if word == "parity" else other, f"{CODEWORDS} {PACKETS}")
     # a frame before it that is reported as less, and not taken from the certificates
     first = made.frames()[0]
     yield audit(made.with_line(0, first.replace("sole", "parity")), NO, failed(made.frames()[1], "other values") if made.each()[0] != made.each()[1] else ANY)
@@ -381,11 +397,12 @@ def uncertified_cases(made):
     line, record = made.frames()[at], made.words()[at]
     words, ahead = line.split(), made.shown(at)
     options, fixed = f"{CODEWORDS} {PACKETS}", int(words[6])
-    yield audit(made, 0, made.shown() + last(made.report, known=True), options)
+    yield audit(made, 0, made.told() + last(made.report, known=True), options)
     yield audit(made, 0, made.shown() + last(made.report))
+    yield from far_cases(made, at)
     # another count of corrected bits, or lost
     for other in (" ".join([*words[:6], str(fixed + 1)]), " ".join([*words[:5], "lost"])):
-        yield audit(made.with_line(at, other), NO, ahead + expected(at + 1, line), options)
+        yield audit(made.with_line(at, other), NO, made.told(at) + expected(at + 1, line), options)
         yield audit(made.with_line(at, other), 0, made.shown() + last(made.report))
     # a word that is none of a frame's line, and another number or position
     for other in (" ".join([*words[:5], "well"]), " ".join([words[0], str(at + 2), *words[2:]]), " ".join([*words[:3], str(int(words[3]) + 1), *words[4:]])):
@@ -394,8 +411,48 @@ def uncertified_cases(made):
     for bit, count in ((0, fixed + 1), (BCH_BITS - 1, fixed + 1), (BCH_BITS, fixed), (BITS - 1, fixed)):
         broken = " ".join([*words[:4], "broken", "fixed", str(count)])
         other = made.with_words(at, flipped(record, bit))
-        yield audit(other, NO, ahead + expected(at + 1, broken), options)
-        yield audit(other.with_line(at, broken), 0, made.shown() + last(made.report, known=True), options)
+        yield audit(other, NO, made.told(at) + expected(at + 1, broken), options)
+        said = other.with_line(at, broken)
+        yield audit(said, 0, said.told() + last(made.report, known=True), options)
+
+
+def forged_cases(made, other):
+    """The report of frames that are all sole, as `parity` and without certificates, beside the words and the packets of other frames."""
+    count = len(made.frames())
+    words = other.words()[:count]
+    assert len(words) == count and words[0] != made.words()[0]
+    report = made.report.replace(" sole ", " parity ")
+    forged = replace(made, report=report, certificates=b"", codewords=b"".join(words), packets=other.packets[: len(made.packets)])
+    yield audit(forged, NO, failed(forged.frames()[0], "far from the symbols"), f"{CODEWORDS} {PACKETS}")
+
+
+def far_cases(made, at):
+    """A word of a frame without a certificate that does not fit the symbols. Its correlation with the soft values is compared with a quarter of the
+    sum of their magnitudes."""
+    values = [int(value) for value in made.values.splitlines()[at].split()]
+    record, line, options = made.words()[at], made.frames()[at], f"{CODEWORDS} {PACKETS}"
+    refused = made.told(at) + failed(line, "far from the symbols")
+    # all bits are other ones; and the word of another message: random bits
+    for word in (bytes(byte ^ 0xFF for byte in record), random.Random(at).randbytes(len(record))):
+        yield audit(made.with_words(at, word), NO, refused, options)
+    # the largest values are denied one by one, up to the border and beyond
+    whole, kept = sum(map(abs, values)), sum(-value if record[i // 8] >> (7 - i % 8) & 1 else value for i, value in enumerate(values))
+    word, is_far = bytearray(record), False
+    for i in sorted(range(len(values)), key=lambda i: -abs(values[i])):
+        before = bytes(word)
+        agrees = (values[i] < 0) == bool(word[i // 8] >> (7 - i % 8) & 1)
+        word[i // 8] ^= 0x80 >> i % 8
+        kept -= 2 * abs(values[i]) if agrees else -2 * abs(values[i])
+        is_far = 4 * kept < whole
+        if is_far:
+            break
+    assert is_far and before != record
+    yield audit(made.with_words(at, bytes(word)), NO, refused, options)
+    # at the border the word is near enough: only its line differs
+    words = line.split()
+    broken = " ".join([*words[:4], "broken", *words[5:]])
+    near = made.with_words(at, before).with_line(at, broken)
+    yield replace(audit(near, NO, ANY, options), out=Rule("not far", lambda got: "far from" not in str(got)))
 
 
 def likely_cases(made):
@@ -405,16 +462,14 @@ def likely_cases(made):
     place = len(certified("\n".join(frames[:at])))
     line = frames[at]
     claimed = made.with_line(at, line.replace("most-likely", "sole"))
-    known = made.shown() + last(made.report, known=True)
-    yield audit(made, 0, made.shown() + last(made.report))
-    yield audit(made, 0, known, f"{CODEWORDS} {PACKETS}")
-    yield from both(claimed, NO, made.shown(at) + expected(at + 1, line))
+    yield from both(made, 0, made.shown() + last(made.report), told=made.told() + last(made.report, known=True))
+    yield from both(claimed, NO, made.shown(at) + expected(at + 1, line), told=made.told(at) + expected(at + 1, line))
     # it is not sole, but has other values, or another word, too
     *_, n = code(each[place])
     wrong = flipped(each[place], 8 * (HEAD + 2 * n))
     for text, reason in ((with_other_value(each[place]), "other values"), (wrong, "not accepted")):
         others = b"".join([*each[:place], text, *each[place + 1 :]])
-        yield from both(replace(claimed, certificates=others), NO, made.shown(at) + failed(line, reason))
+        yield from both(replace(claimed, certificates=others), NO, made.shown(at) + failed(line, reason), told=made.told(at) + failed(line, reason))
 
 
 def tuned_cases(made):
@@ -469,9 +524,8 @@ def slipped_cases(made):
     assert len(frames) == 4 and frames[1].endswith(" broken lost")
     fourth = " ".join(["frame 3", *frames[3].split()[2:4]])
     other = made.shown(2) + failed(fourth, "other values")
-    yield audit(made, 0, made.shown() + last(made.report), "--resync")
-    yield audit(made, 0, made.shown() + last(made.report, known=True), f"--resync {CODEWORDS} {PACKETS}")
-    yield from both(made, NO, other)
+    yield from both(made, 0, made.shown() + last(made.report), "--resync", told=made.told() + last(made.report, known=True))
+    yield from both(made, NO, other, told=made.told(2) + failed(fourth, "other values"))
     # a frame that is reported as delivered is not searched again
     claimed = made.with_line(1, frames[1].replace("broken lost", "broken fixed 3"))
     yield audit(claimed, NO, other, "--resync")

@@ -1,4 +1,4 @@
-"""Streams with a complex gain, a carrier error and noise, received with `--equalize`. The equalizer is computed here again, by docs/definitions.md, and
+"""Streams with a complex gain, a carrier error and noise, received with `--equalize`. The equalizer is computed here again, by docs/own_definitions.md, and
 the soft values must be those of its symbols, bit for bit."""
 import cmath
 import math

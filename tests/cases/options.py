@@ -173,7 +173,7 @@ def audit_effects(two, made):
     """Two frames and their certificates."""
     costs = [sum(value for value in soft if value < 0) for soft, _ in records.decided(two)]
     lines = "".join(f"frame {at + 1} at {8190 * at} sole cost {cost}\n" for at, cost in enumerate(costs))
-    fine, other = ended(f"{lines}audit frames 2 sole 2 most-likely 0 unchecked 0\n"), ended("frame 1 at 0 other values\n", NO, noted(audit.HINT))
+    fine, other = ended(f"{lines}audit frames 2 sole 2 most-likely 0 stated 0 unchecked 0\n"), ended("frame 1 at 0 other values\n", NO, noted(audit.HINT))
     none, first = "report line 1: expected end frames 0 delivered 0 packets 0 bad 0\n", lines[: lines.index("\n") + 1]
     unfound, alone = (ended(text, NO, noted(audit.HINT)) for text in (none, f"{first}report line 2: expected end frames 1 delivered 1 packets 1 bad 0\n"))
     few, large = ({"code": 1, "out": "", "errors": ending(f"s2: {text}\n"), "writes": {}} for text in (TOO_FEW, OTHER_SHORT[0]))
@@ -203,7 +203,7 @@ def audit_effects(two, made):
     places = slips.FRAME - 1, 2 * slips.FRAME - 1
     report = "frame 1 at 0 broken lost\n" + "".join(f"frame {at + 2} at {place} sole fixed 0\n" for at, place in enumerate(places))
     shown = "".join(f"frame {at + 2} at {place} sole cost {cost}\n" for at, (place, cost) in enumerate(zip(places, costs)))
-    near = ended(f"{shown}audit frames 3 sole 2 most-likely 0 unchecked 1\n")
+    near = ended(f"{shown}audit frames 3 sole 2 most-likely 0 stated 0 unchecked 1\n")
     far = ended(f"frame 2 at {places[1]} other values\n", NO, noted(audit.HINT))
     lost = {"reads": reads["reads"] | {"in": slipped, "report": f"{report}end frames 3 delivered 2 packets 2 bad 0\n".encode()}}
     yield Effect("--resync", f"audit {LINK} {{}} {files}", {"": far, "--resync": near, "--tuned --divisor 4096": near}, lost)
@@ -214,7 +214,8 @@ def audit_effects(two, made):
     # a frame without a certificate: its bits are given or not, and one of them is another one
     given = records.records(two)
     bare = reads["reads"] | {"certificates": given["--certificates"][: len(given["--certificates"]) // 2], "report": TWO.replace("8190 sole", "8190 parity").encode()}
-    believed, known = (ended(f"{first}audit frames 2 sole 1 most-likely 0 unchecked {count}\n") for count in (1, 0))
+    believed = ended(f"{first}audit frames 2 sole 1 most-likely 0 stated 0 unchecked 1\n")
+    known = ended(f"{first}frame 2 at 8190 parity changed 0\naudit frames 2 sole 1 most-likely 0 stated 1 unchecked 0\n")
     broken = ended(f"{first}report line 2: expected frame 2 at 8190 broken fixed 1\n", NO, noted(audit.HINT))
     words = {"right": given["--codewords"], "wrong": audit.flipped(given["--codewords"], audit.BITS)}
     ends = {"": believed, "--codewords right": known, "--codewords wrong": broken}

@@ -1,5 +1,5 @@
 """The results of a receiver for QPSK 1/4 in short frames with noise, computed independently from symbols, checks and members alone:
-soft values with a divisor, and min-sum, as docs/formats.md and docs/definitions.md describe them."""
+soft values with a divisor, and min-sum, as docs/formats.md and docs/own_definitions.md describe them."""
 import struct
 
 from dummy import quarter_turns

@@ -12,7 +12,6 @@ use Rattle.s2_bbframe.specs.Limits.{packet_bytes}
 use Rattle.s2_mode.specs.Mode.{n_of}
 use Rattle.s2_mode.specs.Symbols.{symbols_of}
 use Rattle.s2_mode.specs.Pieces.{AppendsPart}
-use Rattle.s2_check.specs.Views.{View}
 use Rattle.s2_io.specs.declared.exit.Exit.{Exit}
 use Rattle.s2_io.specs.declared.exit.Exit.TheVariants as exits
 use Rattle.s2_io.specs.declared.fault.Fault.{Fault}
@@ -22,16 +21,16 @@ use Rattle.s2_report.specs.declared.entry.Entry.TheVariants as entries
 use Rattle.s2_receive.specs.Halves.{Follower}
 use Rattle.s2_receive.specs.Receiving.{Decision, begun}
 use Rattle.s2_replay.specs.Auditing.{AuditedFrames, AuditedSoFar}
-use Rattle.s2_replay.specs.Frames.{cost_of}
 use Rattle.s2_replay.specs.Replay.{IsReplay, Terms, is_known}
 use Rattle.s2_replay.proofs.AuditLemmas.{audited_none, frames_over}
 use Rattle.s2_audit.specs.Audits.{AuditsAll, EndsWith, FailsAfter, ReachesLimit, place_after}
 use Rattle.s2_audit.specs.Differences.{Differs, DiffersIf, Fails, LeavesOver, rests_of}
 use Rattle.s2_audit.specs.Evidences.{Evidence, IsGiven, ReadsIf, bytes_of}
 use Rattle.s2_audit.specs.Limits.{max_lines}
-use Rattle.s2_audit.specs.Lines.{cost_text, difference_line, end_line}
-use Rattle.s2_audit.specs.Steps.{AllOver, EndIs, IsPlaced, OutcomeIs, PrintsOf, PrintsTurn, RestTurn, StandsAfter, StepIs, TurnIs, place_behind, place_for, standing_after, turn_text}
-use Rattle.s2_audit.specs.Turns.{AreFirst, Audited, BeginWith, HasLeft, IsLastLine, IsRight, MayGoOn, OfAllLeft, Remains, Ends, IsShown, IsTold, OnlyLine, RanSoFar, Reads, Replayed, Shown, TellsCut, TellsEnd, TellsLine, all_known, counted, counts_of, decisions_of, is_most_likely, is_sole, lines_of, told_by, told_line, told_lines}
+use Rattle.s2_audit.specs.Bases.{basis_of, is_given}
+use Rattle.s2_audit.specs.Lines.{basis_line, difference_line, end_line}
+use Rattle.s2_audit.specs.Steps.{AllOver, EndIs, IsPlaced, OutcomeIs, PrintsOf, PrintsTurn, RestTurn, StandsAfter, StepIs, TurnIs, place_behind, place_for, standing_after, told_text, turn_text}
+use Rattle.s2_audit.specs.Turns.{AreFirst, Audited, BeginWith, HasLeft, IsLastLine, IsRight, MayGoOn, OfAllLeft, Remains, Ends, IsShown, IsTold, OnlyLine, RanSoFar, Reads, Replayed, Shown, TellsCut, TellsEnd, TellsLine, all_known, counted, counts_of, decisions_of, is_most_likely, is_sole, is_stated, lines_of, told_by, told_line, told_lines}
 use Rattle.s2_audit.specs.declared.counts.Counts.{Counts}
 use Rattle.s2_audit.proofs.OnlyLemmas.{given_same, left_frame, left_line, never, no_more}
 use Rattle.s2_audit.specs.declared.difference.Difference.{Difference}
@@ -56,6 +55,7 @@ counts_push frames s = λ i. record {
   frames = count_push (λ (x : Shown). true) frames s i;
   sole = count_push (λ (x : Shown). is_sole x.decision.verdict) frames s i;
   most_likely = count_push (λ (x : Shown). is_most_likely x.decision.verdict) frames s i;
+  stated = count_push (λ (x : Shown). is_stated x.decision.verdict (is_known x.decision)) frames s i;
   unchecked = count_push (λ (x : Shown). not (is_known x.decision)) frames s i;
 }
 
@@ -88,12 +88,8 @@ told_push : (frames : List Shown) (s : Shown) → told_lines (frames ++ s ∷ []
 told_push frames s = flat_push told_line frames s
 
 -- what is printed of a told frame
-told_is : (s : Shown) (told : Told) → IsTold s told → cost_text told.frame told.cost ≡ told_line s
-told_is s told h = ap (cost_text told.frame) h.paid ∙ by_view s.decision.certificate ∙ sym (ap (told_by s.decision.certificate) h.entry)
-  where
-    by_view : (view : Option View) → cost_text told.frame (cost_of view) ≡ told_by view (Some (entries.Frame told.frame))
-    by_view None = refl
-    by_view (Some view) = refl
+told_is : (s : Shown) (told : Told) → IsTold s told → told_text told ≡ told_line s
+told_is s told h = ap (basis_line told.frame) h.basis ∙ sym (ap (told_by (basis_of s.decision)) h.entry)
 
 -- ---- what was read, with one thing more
 
@@ -129,6 +125,7 @@ module _ (t : Terms) (old mid new : Ends) (frames : List Shown) (lines : List (L
       codeword = subst (λ b. IsGiven (n_of t.mode) b s.packed) (given_same old.evidence.codewords mid.evidence.codewords (flat_map (λ (x : Shown). bytes_of x.packed) frames) reads.codewords) tells.takes.codeword.1;
       word = tells.word;
       unknown = tells.unknown;
+      near = tells.near;
       rounds = tells.rounds;
     });
     certificates = subst (Consumes old.evidence.certificates new.evidence.certificates) (sym (flat_push (λ (x : Shown). bytes_of x.block) frames s))
@@ -305,7 +302,7 @@ pub record Progress (t : Terms) (n : ℕ) (old new : Ends) (f : Follower) (s : S
   pub bytes : s.bytes ≡ min (length packets) (2 ^ 64 - 1)
   pub printed : Appends o o' (told_lines frames)
 
-pub begins : (t : Terms) (e : Ends) (f : Follower) (s : Standing) (o : Option (List ℕ)) → f.state ≡ begun → f.found ≡ None → s ≡ record { counts = record { frames = 0; sole = 0; most_likely = 0; unchecked = 0 }; bytes = 0 } → Progress t 0 e e f s o o
+pub begins : (t : Terms) (e : Ends) (f : Follower) (s : Standing) (o : Option (List ℕ)) → f.state ≡ begun → f.found ≡ None → s ≡ record { counts = record { frames = 0; sole = 0; most_likely = 0; stated = 0; unchecked = 0 }; bytes = 0 } → Progress t 0 e e f s o o
 begins t e f s o state none is = record {
   frames = [];
   lines = [];
@@ -332,10 +329,10 @@ module _ (t : Terms) (n : ℕ) (old mid new : Ends) (f f' : Follower) (s : Stand
   known_is = ap all_known p.counts
 
   -- a frame
-  frame_goes : (told : Told) (s' : Standing) → TurnIs t mid new f f' (place_for n s) (Ok (turns.Frame told)) → s' ≡ standing_after s f'.packets (turns.Frame told) → Appends m o' (cost_text told.frame told.cost) → Progress t (n + 1) old new f' s' o o'
+  frame_goes : (told : Told) (s' : Standing) → TurnIs t mid new f f' (place_for n s) (Ok (turns.Frame told)) → s' ≡ standing_after s f'.packets (turns.Frame told) → Appends m o' (told_text told) → Progress t (n + 1) old new f' s' o o'
   frame_goes told s' (x, tells, is_told, reads) stands app =
       let long : length (p.packets ++ f'.packets) ≡ length p.packets + length f'.packets = length-append p.packets f'.packets in
-      let verdict : counted s.counts told.verdict told.known ≡ counted (counts_of p.frames) x.decision.verdict (is_known x.decision) =
+      let verdict : counted s.counts told.verdict (is_given told.basis) ≡ counted (counts_of p.frames) x.decision.verdict (is_known x.decision) =
       λ i. counted (p.counts i) (sym is_told.verdict i) (sym is_told.known i) in
       let bytes_are : (standing_after s f'.packets (turns.Frame told)).bytes ≡ min (length (p.packets ++ f'.packets)) (2 ^ 64 - 1) = more_bytes s.bytes (length p.packets) (length f'.packets) (length (p.packets ++ f'.packets)) p.bytes long in
       record {
@@ -543,7 +540,7 @@ reaches t n old new f s o o' p most = inl (p.lines, p.number ∙ most, p.audited
 
 -- the counts are at most the lines
 pub few_counts : (t : Terms) (n : ℕ) (old new : Ends) (f : Follower) (s : Standing) (o o' : Option (List ℕ)) → Progress t n old new f s o o' → n < max_lines
-    → (s.counts.frames < 4611686018427387904) × (s.counts.sole < 4611686018427387904) × (s.counts.most_likely < 4611686018427387904) × (s.counts.unchecked < 4611686018427387904)
+    → (s.counts.frames < 4611686018427387904) × (s.counts.sole < 4611686018427387904) × (s.counts.most_likely < 4611686018427387904) × (s.counts.stated < 4611686018427387904) × (s.counts.unchecked < 4611686018427387904)
 few_counts t n old new f s o o' p few =
     let (rest, begin) = p.audited.begin in
     let all : length p.lines ≡ length (lines_of p.frames) + length rest = ap length begin ∙ length-append (lines_of p.frames) rest in
@@ -551,14 +548,16 @@ few_counts t n old new f s o o' p few =
     let a : s.counts.frames ≡ (counts_of p.frames).frames = ap (λ (c : Counts). c.frames) p.counts in
     let b : s.counts.sole ≡ (counts_of p.frames).sole = ap (λ (c : Counts). c.sole) p.counts in
     let c : s.counts.most_likely ≡ (counts_of p.frames).most_likely = ap (λ (c : Counts). c.most_likely) p.counts in
+    let e : s.counts.stated ≡ (counts_of p.frames).stated = ap (λ (c : Counts). c.stated) p.counts in
     let d : s.counts.unchecked ≡ (counts_of p.frames).unchecked = ap (λ (c : Counts). c.unchecked) p.counts in
     let an : (counts_of p.frames).frames ≤ length p.frames = count_by-le-length (λ (x : Shown). true) p.frames in
     let bn : (counts_of p.frames).sole ≤ length p.frames = count_by-le-length (λ (x : Shown). is_sole x.decision.verdict) p.frames in
     let cn : (counts_of p.frames).most_likely ≤ length p.frames = count_by-le-length (λ (x : Shown). is_most_likely x.decision.verdict) p.frames in
+    let en : (counts_of p.frames).stated ≤ length p.frames = count_by-le-length (λ (x : Shown). is_stated x.decision.verdict (is_known x.decision)) p.frames in
     let dn : (counts_of p.frames).unchecked ≤ length p.frames = count_by-le-length (λ (x : Shown). not (is_known x.decision)) p.frames in
     let long : length p.lines ≡ n = p.number in
     let less : n < 1099511627776 = few in
-    (omega (arith, a, an, all, same, long, less), omega (arith, b, bn, all, same, long, less), omega (arith, c, cn, all, same, long, less), omega (arith, d, dn, all, same, long, less))
+    (omega (arith, a, an, all, same, long, less), omega (arith, b, bn, all, same, long, less), omega (arith, c, cn, all, same, long, less), omega (arith, e, en, all, same, long, less), omega (arith, d, dn, all, same, long, less))
 
 -- ---- a whole turn
 

@@ -1,18 +1,21 @@
 -- The audit of a frame by its certificate, beside its record of the codeword.
-use Rattle.std.proofs.Common.{◌≡◌, ◌≢◌, ℕ, Bool, true, false, List, length, Option, Some, None, Ok, refl, sym, ap, subst, ◌∙◌}
+use Rattle.std.proofs.Common.{◌≡◌, ◌≢◌, ℕ, Bool, true, false, List, [], length, Option, Some, None, Ok, refl, sym, ap, subst, ◌∙◌}
+use Rattle.std.specs.Io.KnownBytes.{Consumes}
+use Rattle.std.proofs.KnownBytes.{Consumes-nil}
 use Rattle.s2_bits.specs.Bits.{bits_of_bytes}
 use Rattle.s2_mode.specs.Mode.{n_of}
 use Rattle.s2_rows.specs.Rows.{Rows}
 use Rattle.s2_check.specs.Verdicts.{is_certified}
 use Rattle.s2_check.specs.declared.verdict.Verdict.{Verdict}
 use Rattle.s2_receive.specs.declared.window.Next.{Next}
-use Rattle.s2_replay.specs.Frames.{AuditsFrame, terms_of}
+use Rattle.s2_replay.specs.Frames.{AuditsFrame, HoldsSoft, terms_of}
 use Rattle.s2_replay.specs.Replayers.{Replayer}
 use Rattle.s2_replay.specs.declared.frames.Audited.{Audited}
 use Rattle.s2_audit.specs.Limits.{certificate_bytes}
 use Rattle.s2_replay.specs.declared.frames.Audited.TheVariants as audits
 use Rattle.s2_audit.specs.Evidences.{Evidence, IsWordOf, Takes, TakesCodeword, TakesRecord}
-use Rattle.s2_audit.specs.FrameAnswers.{Answers, AnswersWith, ByBlock, FrameAuditor, HasOtherWord, IsSettled, terms_by}
+use Rattle.s2_audit.specs.FrameAnswers.{Answers, AnswersWith, ByBlock, FrameAuditor, HasOtherWord, IsSettled, States, terms_by}
+use Rattle.s2_audit.specs.Nearness.{IsNear, changed_bits}
 use Rattle.s2_audit.specs.declared.evidence.ByCertificate.TheVariants.{Judged}
 use Rattle.s2_audit.specs.declared.frame.FrameAnswer.{FrameAnswer}
 use Rattle.s2_audit.specs.declared.frame.FrameAnswer.TheVariants as answers
@@ -26,13 +29,13 @@ module _ (a new : FrameAuditor) (found : Next) (verdict : Verdict) (line : List 
   -- with the record of a codeword, or without one
   module _ (packed : Option (List ℕ)) (takes : Takes a.replayer.follower.sought.mode before after (Some block) packed) where
     judged_as : (audited : Audited) → AuditsBy audited → (IsSettled audited → IsWordOf packed new.word) → Answers a new found verdict line before after (Ok (answers.Judged audited))
-    judged_as (audits.Told v c) h is = (Some block, packed, new.word, takes, is tt, certified, tt, h)
-    judged_as (audits.Differs step) h is = (Some block, packed, new.word, takes, is tt, certified, tt, h)
+    judged_as (audits.Told v c) h is = (certified, block, packed, new.word, takes, is tt, h)
+    judged_as (audits.Differs step) h is = (certified, block, packed, new.word, takes, is tt, h)
     judged_as (audits.Refused refusal) h is = by_packed packed takes
       where
         by_packed : (x : Option (List ℕ)) → Takes a.replayer.follower.sought.mode before after (Some block) x → Answers a new found verdict line before after (Ok (answers.Judged (audits.Refused refusal)))
-        by_packed None takes' = (Some block, None, new.word, takes', tt, certified, tt, h)
-        by_packed (Some bytes) takes' = (Some block, Some bytes, bits_of_bytes bytes, takes', refl, certified, tt, h)
+        by_packed None takes' = (certified, block, None, new.word, takes', tt, h)
+        by_packed (Some bytes) takes' = (certified, block, Some bytes, bits_of_bytes bytes, takes', refl, h)
 
   other_word : (audited : Audited) (bytes : List ℕ) → Takes a.replayer.follower.sought.mode before after (Some block) (Some bytes) → AuditsBy audited → IsSettled audited → new.word ≢ bits_of_bytes bytes
       → HasOtherWord (terms_by a) before after a.replayer.follower.frame
@@ -71,6 +74,8 @@ answers_certified old mid new found verdict line before after size recorded audi
         by_answer (answers.Judged y) (is, same) = subst (λ z. Answers old new found verdict line before after (Ok (answers.Judged z))) (sym is) (judged_as old new found verdict line before after certified block None (taken None takes') audited h (λ settled. tt))
         by_answer answers.NoCertificate w' = absurd w'
         by_answer answers.NoCodeword w' = absurd w'
+        by_answer answers.Far w' = absurd w'
+        by_answer (answers.Stated y changed) w' = absurd w'
         by_answer (answers.Claimed claim) w' = absurd w'
     by_recorded records.Taken (bytes, takes', word_is) there' w = by_answer answer w
       where
@@ -84,7 +89,43 @@ answers_certified old mid new found verdict line before after size recorded audi
             (judged_as old new found verdict line before after certified block (Some bytes) (taken (Some bytes) takes') audited h (λ settled. same settled refl ∙ recorded_is))
         by_answer answers.NoCertificate w' = absurd w'
         by_answer answers.NoCodeword w' = absurd w'
+        by_answer answers.Far w' = absurd w'
+        by_answer (answers.Stated y changed) w' = absurd w'
         by_answer (answers.Claimed claim) w' = absurd w'
+
+-- the answer by a record of the codeword
+pub answers_stated : (old mid new : FrameAuditor) (found : Next) (verdict : Verdict) (line : List ℕ) (before after : Evidence) (size : ℕ) (answer : FrameAnswer)
+    → is_certified verdict ≡ false → mid.rows ≡ old.rows → mid.replayer ≡ old.replayer → HoldsSoft old.replayer → before.certificates ≡ after.certificates
+    → TakesRecord (n_of old.replayer.follower.sought.mode) size before.codewords after.codewords mid.recorded (Ok records.Taken) → States mid new found line answer
+    → Answers old new found verdict line before after (Ok answer)
+answers_stated old mid new found verdict line before after size answer uncertified rows replayer soft unread (bytes, takes, word_is) h = by_answer answer h
+  where
+    taken : Takes old.replayer.follower.sought.mode before after None (Some bytes)
+    taken = record { certificate = subst (λ x. Consumes before.certificates x []) unread (Consumes-nil before.certificates); sized = tt; codeword = takes }
+
+    values : mid.replayer.soft ≡ old.replayer.soft
+    values = ap (λ (r : Replayer). r.soft) replayer
+
+    by_answer : (x : FrameAnswer) → States mid new found line x → Answers old new found verdict line before after (Ok x)
+    by_answer answers.Far (far, same) =
+        let one = subst (λ w. ¬ IsNear mid.replayer.soft w) word_is far in
+        (uncertified, record { packed = bytes; takes = taken; far = subst (λ s. ¬ IsNear s (bits_of_bytes bytes)) (values ∙ soft) one })
+    by_answer (answers.Stated audited changed) (near, changes, audits') =
+        let one = subst (λ w. AuditsFrame (terms_by mid) mid.replayer.follower new.replayer.follower found None mid.replayer.soft w line audited) word_is audits' in
+        let two = subst (λ (r : Replayer). AuditsFrame (terms_of mid.rows r) r.follower new.replayer.follower found None r.soft (bits_of_bytes bytes) line audited) replayer one in
+        let near' = subst (λ w. IsNear mid.replayer.soft w) word_is near in (
+          uncertified,
+          bytes,
+          taken,
+          subst (λ s. IsNear s (bits_of_bytes bytes)) values near',
+          changes ∙ (λ i. changed_bits (values i) (word_is i)),
+          subst (λ (m : Rows). AuditsFrame (terms_of m old.replayer) old.replayer.follower new.replayer.follower found None old.replayer.soft (bits_of_bytes bytes) line audited) rows two,
+        )
+    by_answer answers.NoCertificate h' = absurd h'
+    by_answer answers.NoCodeword h' = absurd h'
+    by_answer answers.OtherWord h' = absurd h'
+    by_answer (answers.Judged audited) h' = absurd h'
+    by_answer (answers.Claimed claim) h' = absurd h'
 
 -- a test of two bits decides whether they are the same
 pub decides_bits : (E : Bool → Bool → Bool) → E true true ≡ true → E true false ≡ false → E false true ≡ false → E false false ≡ true → (x y : Bool) → (E x y ≡ true → x ≡ y) × (x ≡ y → E x y ≡ true)

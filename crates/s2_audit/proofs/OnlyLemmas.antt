@@ -1,5 +1,5 @@
 -- Files as they should be have nothing left but what an audit accepts next.
-use Rattle.std.proofs.Common.{◌≡◌, ◌≢◌, ◌⊎◌, ℕ, ◌+◌, ◌*◌, ◌<◌, ◌≤◌, Bool, true, false, List, [], ◌∷◌, ◌++◌, Option, Some, None, is_some, length, take, drop, refl, sym, ap, ap₂, subst, ◌∙◌, append-nil, append_assoc, length-append, take-append-drop, arith, inl, inr, IfSome, IsSome}
+use Rattle.std.proofs.Common.{◌≡◌, ◌≢◌, ◌⊎◌, ℕ, ℤ, ◌+◌, ◌*◌, ◌<◌, ◌≤◌, Bool, true, false, List, [], ◌∷◌, ◌++◌, Option, Some, None, is_some, length, take, drop, refl, sym, ap, ap₂, subst, ◌∙◌, append-nil, append_assoc, length-append, take-append-drop, arith, inl, inr, IfSome, IsSome}
 use Rattle.std.specs.List.{All, AllByRecursion, flat_map}
 use Rattle.std.specs.Io.KnownBytes.{Consumes, IsAtEnd}
 use Rattle.std.proofs.lemmas.Bool.{cases_eq}
@@ -8,8 +8,11 @@ use Rattle.s2_bbframe.specs.Limits.{packet_bytes}
 use Rattle.s2_bits.specs.Bits.{bits_of_bytes}
 use Rattle.s2_mode.specs.Mode.{Mode, n_of}
 use Rattle.s2_mode.specs.Symbols.{symbols_of}
+use Rattle.s2_mode.specs.declared.symbols.Symbol.{Symbol}
 use Rattle.s2_rows.specs.Text.{is_line_feed}
 use Rattle.s2_check.specs.Verdicts.{is_certified}
+use Rattle.s2_check.specs.Views.{View}
+use Rattle.s2_check.specs.declared.verdict.Verdict.{Verdict}
 use Rattle.s2_check.specs.declared.verdict.Verdict.TheVariants.{Broken}
 use Rattle.s2_report.specs.Entries.{IsLine, entry_in, text_of}
 use Rattle.s2_report.specs.declared.entry.Entry.{Entry}
@@ -28,17 +31,19 @@ use Rattle.s2_replay.specs.Auditing.{AuditedFrames, AuditedSoFar, ReplaysIn}
 use Rattle.s2_replay.specs.Expected.{ExpectsNext, line_by, packets_by}
 use Rattle.s2_replay.specs.Frames.{HasRounds, IsLastOf, IsOwnLine, IsShownBy, SettlesBy}
 use Rattle.s2_replay.specs.Packets as files
-use Rattle.s2_replay.specs.Replay.{IsBorneOut, IsFrameLine, IsReplay, Terms, are_known, claimed_decision, is_known, rules_for}
+use Rattle.s2_replay.specs.Replay.{IsBorneOut, IsBorneOutBy, IsDecisionOn, IsFrameLine, IsReplay, Terms, are_known, claimed_decision, is_known, rules_for}
 use Rattle.s2_replay.specs.Replayers.{IsFrame, IsFrameAt}
 use Rattle.s2_replay.specs.Certificates.{Shows}
 use Rattle.s2_replay.specs.declared.certificates.Refusal.{Refusal}
 use Rattle.s2_replay.specs.declared.certificates.Shown.TheVariants as shown
-use Rattle.s2_message.specs.Decisions.{soft_frame}
+use Rattle.s2_bch.specs.Decoding.{nearest}
+use Rattle.s2_message.specs.Decisions.{received_word, soft_frame, word_decision}
 use Rattle.s2_replay.proofs.AuditLemmas.{audited_on, frames_on}
 use Rattle.s2_replay.proofs.ExpectedLemmas.{certified, expects, expects_last, refused, same_decision, same_word, settled}
 use Rattle.s2_audit.specs.Differences.{ClaimsOther, Differs, DiffersAt, DiffersIf, HasMoreIf, HasOtherLast, HasOtherLine, IsOtherLine, LacksEvidence, LeavesOver, Meets, rests_of}
 use Rattle.s2_audit.specs.Evidences.{Evidence, IsGiven, IsMissing, IsOverIf, IsSized, IsUnknownIf, IsWordOf, ReadsIf, Takes, TakesCodeword, bytes_of}
 use Rattle.s2_audit.specs.Limits.{certificate_bytes}
+use Rattle.s2_audit.specs.Nearness.{IsNear, IsNearIf}
 use Rattle.s2_audit.specs.Turns.{BeginWith, BeginsBy, Ends, FineLaw, HasLeft, IsCutLine, IsLastLine, IsLeftIf, IsShown, MayGoOn, OnlyLine, Remains, Shown, TellsLine, decisions_of, lines_of}
 use Rattle.s2_audit.specs.declared.difference.Difference.{Difference}
 use Rattle.s2_audit.specs.declared.difference.Difference.TheVariants as differences
@@ -273,6 +278,24 @@ same_bits None None xs ys none wx wy ux uy = ux ∙ sym uy
 same_bits None (Some bytes) xs ys none wx wy ux uy = wx ∙ sym wy
 same_bits (Some b) packed xs ys none wx wy ux uy = absurd (cc)
 
+-- ---- the soft values of a decision
+
+word_soft : (m : Mode) (soft : List ℤ) (verdict : Verdict) (bits : List Bool) (certificate : Option View) (word : Option (List Bool)) → (word_decision m soft verdict bits certificate word).soft ≡ soft
+word_soft m soft verdict bits certificate None = refl
+word_soft m soft verdict bits certificate (Some word) = refl
+
+-- those of a decision with known bits are of its frame
+pub soft_borne : (t : Terms) (symbols : List Symbol) (d : Decision) → IsBorneOut t symbols d → is_known d ≡ true → d.soft ≡ soft_frame t.mode t.number t.options symbols
+soft_borne t symbols d borne known = by d.certificate borne
+  where
+    on : IsDecisionOn t symbols d → d.soft ≡ soft_frame t.mode t.number t.options symbols
+    on (rounds, is) = ap (λ (x : Decision). x.soft) is ∙ word_soft t.mode (soft_frame t.mode t.number t.options symbols) d.verdict d.bits d.certificate (nearest t.mode (received_word t.mode d.bits))
+
+    by : (certificate : Option View) → IsBorneOutBy t symbols d certificate → d.soft ≡ soft_frame t.mode t.number t.options symbols
+    by (Some view) (is, certifies) = on is
+    by None (inl (is, parity)) = on is
+    by None (inr (uncertified, claimed)) = let never : false ≡ true = sym (ap is_known claimed) ∙ known in absurd (cc)
+
 -- ---- no difference
 
 -- no certificate of this size is at the end of a file
@@ -440,6 +463,14 @@ module _ (t : Terms) (recording : List ℕ) (now new : Ends) (f mid f' : Followe
           let b = block_is (Some x.block) (Some x.packed) x.takes claims in
           let same = same_word t mid.frame x.d h.s.decision x.block x.borne h.borne x.shown (subst (IsShownBy t.rows h.s.decision) (sym b) h.shown.certificate) in
           x.other (same ∙ subst (λ y. IsWordOf y h.s.decision.bits) (sym p) h.shown.word)
+      no_lack reasons.Far (claims, x) =
+          let p = packed_is None (Some x.packed) x.takes claims in
+          let b = block_is None (Some x.packed) x.takes claims in
+          let none : h.s.decision.certificate ≡ None = subst (IsShownBy t.rows h.s.decision) (sym b) h.shown.certificate in
+          let bits : h.s.decision.bits ≡ bits_of_bytes x.packed = subst (λ y. IsWordOf y h.s.decision.bits) (sym p) h.shown.word in
+          let near : IsNear h.s.decision.soft h.s.decision.bits = subst (λ c. IsNearIf c h.s.decision.soft h.s.decision.bits) none h.shown.near in
+          let of_frame = subst (λ s. IsNear s h.s.decision.bits) (soft_borne t mid.frame h.s.decision h.borne h.known) near in
+          x.far (subst (IsNear (soft_frame t.mode t.number t.options mid.frame)) bits of_frame)
       no_lack reasons.OtherValues (claims, refusal, block, packed, is, takes, shows) = no_refusal refusal block packed claims takes shows
       no_lack reasons.NotAccepted (claims, refusal, block, packed, is, takes, shows) = no_refusal refusal block packed claims takes shows
 

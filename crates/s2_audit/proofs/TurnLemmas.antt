@@ -1,9 +1,14 @@
 -- What is found of the next thing of the receiver's loop.
-use Rattle.std.proofs.Common.{◌≡◌, ◌⊎◌, ℕ, ◌&&◌, ℤ, Bool, true, false, if◌then◌else◌, List, [], ◌∷◌, ◌++◌, Option, Some, None, is_some, Result, Ok, Err, refl, sym, subst, ◌∙◌, inl, inr}
+use Rattle.std.proofs.Common.{◌≡◌, ◌⊎◌, ℕ, ◌&&◌, ℤ, Bool, true, false, if◌then◌else◌, List, [], ◌∷◌, ◌++◌, Option, Some, None, is_some, Result, Ok, Err, refl, sym, ap, subst, ◌∙◌, arith, inl, inr}
+use Rattle.std.specs.Prelude.{⊤, pos, ◌≤ℤ◌}
+use Rattle.std.proofs.lemmas.Int.{ints}
+use Rattle.s2_matrix.proofs.Totals.{scale-zero}
 use Rattle.std.specs.Io.KnownBytes.{Consumes}
 use Rattle.std.proofs.KnownBytes.{Consumes-nil}
+use Rattle.s2_bits.specs.Bits.{bits_of_bytes}
 use Rattle.s2_mode.specs.Mode.{Mode, n_of}
 use Rattle.s2_check.specs.Verdicts.{is_certified}
+use Rattle.s2_check.specs.Views.{View}
 use Rattle.s2_check.specs.declared.verdict.Verdict.{Verdict}
 use Rattle.s2_check.specs.declared.verdict.Verdict.TheVariants.{Broken}
 use Rattle.s2_io.specs.declared.fault.Fault.{Fault}
@@ -22,22 +27,26 @@ use Rattle.s2_receive.specs.declared.window.Next.TheVariants as next
 use Rattle.s2_message.specs.Decisions.{soft_frame}
 use Rattle.s2_replay.specs.Auditing.{AuditedSoFar}
 use Rattle.s2_replay.specs.Certificates.{Shows}
-use Rattle.s2_replay.specs.Frames.{AuditsClaim, AuditsFrame, AuditsLast, HoldsSoft, IsLastOf, terms_of}
-use Rattle.s2_replay.specs.Replay.{Terms, claimed_decision, is_known, rules_for}
+use Rattle.s2_replay.specs.Frames.{AuditsClaim, AuditsFrame, AuditsLast, HoldsSoft, IsLastOf, IsShownBy, cost_of, terms_of}
+use Rattle.s2_replay.specs.Replay.{Terms, are_known, claimed_decision, is_known, rules_for}
 use Rattle.s2_rows.specs.Rows.{Rows}
 use Rattle.s2_replay.specs.Replayers.{IfFrame, IsFrame, IsSameReplayer, Replayer}
 use Rattle.s2_replay.specs.Running.{EndsAfterCut, GoesOn, IsBy}
 use Rattle.s2_replay.specs.declared.certificates.Refusal.{Refusal}
 use Rattle.s2_replay.specs.declared.certificates.Refusal.TheVariants as refusals
 use Rattle.s2_replay.specs.declared.certificates.Shown.TheVariants as shown
+use Rattle.s2_replay.specs.declared.frames.Audited.{Audited}
 use Rattle.s2_replay.specs.declared.frames.Audited.TheVariants as audits
 use Rattle.s2_replay.specs.declared.frames.AuditedClaim.{AuditedClaim}
 use Rattle.s2_replay.specs.declared.frames.AuditedLast.{AuditedLast}
 use Rattle.s2_replay.proofs.Told.{tells_claim, tells_cut, tells_end, tells_frame}
+use Rattle.s2_audit.specs.Bases.{basis_by, is_given}
+use Rattle.s2_audit.specs.Nearness.{IsNear, IsNearIf, changed_bits}
+use Rattle.s2_audit.specs.declared.basis.Basis.TheVariants as bases
 use Rattle.s2_audit.specs.Differences.{ClaimsOther, Differs, DiffersIf, Fails, GivesLine, HasOtherLine, IsOtherLine, LacksAt, Meets, ReadsLine}
 use Rattle.s2_audit.specs.Evidences.{Evidence, IsUnknownIf, IsWordOf, ReadsIf, Takes, TakesCodeword, reason_for}
 use Rattle.s2_audit.specs.FrameAnswers.{Answers, FrameAuditor, terms_by}
-use Rattle.s2_audit.specs.Steps.{ComparesIf, ComparesTurn, Judges, JudgesFrame, JudgesLast, TurnBy, TurnIs, no_frame_at, other_last, told_last, turn_by}
+use Rattle.s2_audit.specs.Steps.{ComparesIf, ComparesTurn, Judges, JudgesFrame, JudgesLast, TurnBy, TurnIs, basis_with, judged_turn, no_frame_at, other_last, told_last, turn_by}
 use Rattle.s2_audit.specs.Turns.{Ends, IsTold, OnlyLine, Shown, TellsLine}
 use Rattle.s2_audit.specs.declared.difference.Difference.TheVariants as differences
 use Rattle.s2_audit.specs.declared.difference.Reason.{Reason}
@@ -48,7 +57,7 @@ use Rattle.s2_audit.specs.declared.place.Place.{Place}
 use Rattle.s2_audit.specs.declared.turn.Told.{Told}
 use Rattle.s2_audit.specs.declared.turn.Turn.{Turn}
 use Rattle.s2_audit.specs.declared.turn.Turn.TheVariants as turns
-use Rattle.s2_audit.proofs.OnlyLemmas.{begins_by, cut_line, last_line, no_claim_of}
+use Rattle.s2_audit.proofs.OnlyLemmas.{begins_by, cut_line, last_line, no_claim_of, soft_borne}
 
 -- a turn, but for the packets of a frame
 abbrev pub JudgedIs : Terms → (old new : Ends) → (f f' : Follower) → Place → Result Turn Fault → Type 0
@@ -66,6 +75,34 @@ and_unknown false = refl
 
 goes_nowhere : (f : Follower) (left : Option (List ℕ)) → GoesOn f f left left
 goes_nowhere f left t whole decisions lines packets ran = ran
+
+-- ---- a stated word
+
+-- without a certificate a word is near the symbols, and changes so many bits
+abbrev pub States : (block : Option (List ℕ)) → (soft : List ℤ) → (word : List Bool) → (changed : ℕ) → Type 0
+States (Some block) soft word changed = ⊤
+States None soft word changed = IsNear soft word × (changed ≡ changed_bits soft word)
+
+stated_as : (rows : Rows) (d : Decision) (block : Option (List ℕ)) (changed : ℕ) → IsShownBy rows d block → States block d.soft d.bits changed → d.certificate ≡ None → IsNear d.soft d.bits × (changed ≡ changed_bits d.soft d.bits)
+stated_as rows d None changed shown states none = states
+stated_as rows d (Some block) changed (file, read, suits, is) states none = absurd (cc)
+
+near_none : IsNear [] []
+near_none = subst (λ x. pos 0 ≤ℤ x) (sym (scale-zero 4)) (omega (arith, ints))
+
+near_if : (certificate : Option View) (soft : List ℤ) (bits : List Bool) → (certificate ≡ None → IsNear soft bits) → IsNearIf certificate soft bits
+near_if None soft bits near = near refl
+near_if (Some view) soft bits near = tt
+
+given_with : (paid : Option ℤ) (changed : ℕ) → is_given (basis_with paid changed) ≡ true
+given_with None changed = refl
+given_with (Some cost) changed = refl
+
+basis_is : (certificate : Option View) (paid : Option ℤ) (changed : ℕ) (soft : List ℤ) (bits : List Bool) → paid ≡ cost_of certificate → are_known bits ≡ true → (certificate ≡ None → changed ≡ changed_bits soft bits)
+    → basis_with paid changed ≡ basis_by certificate soft bits
+basis_is (Some view) paid changed soft bits is known same = ap (λ p. basis_with p changed) is
+basis_is None paid changed soft [] is known same = let never : false ≡ true = known in absurd (cc)
+basis_is None paid changed soft (bit ∷ bits) is known same = ap (λ p. basis_with p changed) is ∙ ap bases.Record (same refl)
 
 word_is : (packed : Option (List ℕ)) (word bits : List Bool) → bits ≡ word → IsWordOf packed word → IsWordOf packed bits
 word_is None word bits is h = tt
@@ -93,13 +130,16 @@ module _ (old new : Ends) (f : Follower) (am an : FrameAuditor) (line : List ℕ
     frame_open is = never_after f.state.phase at skipped closing is
 
     -- a frame is told by its evidence
-    told_evidence : (frame : Frame) (block packed : Option (List ℕ)) (word : List Bool) (verdict : Verdict) (paid : Option ℤ) → entry ≡ Some (entries.Frame frame)
-        → Takes t.mode old.evidence new.evidence block packed → IsWordOf packed word → is_certified frame.verdict ≡ is_some block → IsUnknownIf block packed word
+    told_evidence : (frame : Frame) (block packed : Option (List ℕ)) (word : List Bool) (verdict : Verdict) (paid : Option ℤ) (changed : ℕ) → entry ≡ Some (entries.Frame frame)
+        → Takes t.mode old.evidence new.evidence block packed → IsWordOf packed word → is_certified frame.verdict ≡ is_some block → IsUnknownIf block packed word → States block am.replayer.soft word changed
         → AuditsFrame t mid f' found block am.replayer.soft word line (audits.Told verdict paid)
-        → JudgedIs t old new f f' p (Ok (turns.Frame (record { frame = frame; verdict = verdict; cost = paid; known = true })))
-    told_evidence frame block packed word verdict paid says takes is_word certified unknown (d, step, settles, (v_is, bits, cost_is), own) =
+        → JudgedIs t old new f f' p (Ok (turns.Frame (record { frame = frame; verdict = verdict; basis = basis_with paid changed })))
+    told_evidence frame block packed word verdict paid changed says takes is_word certified unknown states (d, step, settles, (v_is, bits, cost_is), own) =
         let meets_frame = subst (λ e. Meets t old new f mid found line e) says meets in
-        let gives = meets_frame.gives in (
+        let gives = meets_frame.gives in
+        let values = soft ∙ sym (soft_borne t mid.frame d settles.borne settles.known) in
+        let of_frame = subst (λ s. States block s word changed) values states in
+        let stated = stated_as t.rows d block changed settles.shown (subst (λ w. States block d.soft w changed) (sym bits) of_frame) in (
           record { decision = d; line = line; block = block; packed = packed },
           record {
             goes = λ whole known decisions lines packets so_far.
@@ -112,17 +152,18 @@ module _ (old new : Ends) (f : Follower) (am an : FrameAuditor) (line : List ℕ
             certificate = settles.shown;
             word = word_is packed word d.bits bits is_word;
             unknown = subst (IsUnknownIf block packed) (sym bits) unknown;
+            near = near_if d.certificate d.soft d.bits (λ none. (stated none).0);
             rounds = settles.rounds;
             whole = gives.0;
             only = λ recording known decisions lines packets more later rest r.
                 begins_by t recording old new f mid f' line known decisions lines packets more later rest r at skipped frame meets_frame block packed takes certified d step (word_is packed word d.bits bits is_word) (subst (IsUnknownIf block packed) (sym bits) unknown) settles;
           },
-          record { verdict = v_is; known = settles.known; paid = cost_is; entry = gives.2 },
+          record { verdict = v_is; known = settles.known ∙ sym (given_with paid changed); basis = basis_is d.certificate paid changed d.soft d.bits cost_is settles.known (λ none. (stated none).1); entry = gives.2 },
         )
 
     -- or on the report's word
     told_claim : (frame : Frame) (claim : AuditedClaim) → entry ≡ Some (entries.Frame frame) → is_certified frame.verdict ≡ false → old.evidence.codewords ≡ None → new.evidence ≡ old.evidence
-        → AuditsClaim mid f' found frame.verdict line claim → claim.told ≡ true → JudgedIs t old new f f' p (Ok (turns.Frame (record { frame = frame; verdict = frame.verdict; cost = None; known = false })))
+        → AuditsClaim mid f' found frame.verdict line claim → claim.told ≡ true → JudgedIs t old new f f' p (Ok (turns.Frame (record { frame = frame; verdict = frame.verdict; basis = bases.Report })))
     told_claim frame claim says uncertified none same audits' told =
         let d = claimed_decision frame.verdict claim.lost in
         let meets_frame = subst (λ e. Meets t old new f mid found line e) says meets in
@@ -140,11 +181,12 @@ module _ (old new : Ends) (f : Follower) (am an : FrameAuditor) (line : List ℕ
             certificate = refl;
             word = tt;
             unknown = refl;
+            near = near_none;
             rounds = tt;
             whole = gives.0;
             only = λ recording known decisions lines packets more later rest r. absurd (no_claim_of t recording old new f mid f' line known decisions lines packets more later rest r at skipped frame meets_frame uncertified none);
           },
-          record { verdict = refl; known = refl; paid = refl; entry = gives.2 },
+          record { verdict = refl; known = refl; basis = refl; entry = gives.2 },
         )
       where
         takes_none : (m : Mode) (e : Evidence) → e.codewords ≡ None → Takes m e e None None
@@ -173,19 +215,18 @@ module _ (old new : Ends) (f : Follower) (am an : FrameAuditor) (line : List ℕ
 
     claimed : (frame : Frame) (claim : AuditedClaim) → entry ≡ Some (entries.Frame frame) → is_certified frame.verdict ≡ false → old.evidence.codewords ≡ None → new.evidence ≡ old.evidence
         → AuditsClaim mid f' found frame.verdict line claim → (b : Bool) → claim.told ≡ b
-        → JudgedIs t old new f f' p (Ok (if b then turns.Frame (record { frame = frame; verdict = frame.verdict; cost = None; known = false }) else no_frame_at p at))
+        → JudgedIs t old new f f' p (Ok (if b then turns.Frame (record { frame = frame; verdict = frame.verdict; basis = bases.Report }) else no_frame_at p at))
     claimed frame claim says uncertified none same audits' true told = told_claim frame claim says uncertified none same audits' told
     claimed frame claim says uncertified none same audits' false told =
         no_frame (subst (λ e. ClaimsOther mid f' found old.evidence.codewords line e) (sym says) (uncertified, none, (claim, audits', λ yes. (let never : true ≡ false = sym yes ∙ told in absurd (cc)))))
 
-    -- by its answer
-    answered : (frame : Frame) (answer : FrameAnswer) → entry ≡ Some (entries.Frame frame) → Answers am an found frame.verdict line old.evidence new.evidence (Ok answer)
-        → JudgedIs t old new f f' p (Ok (turn_by frame at p f'.state.standing.totals answer))
-    answered frame answers.NoCodeword says h = lacks frame reasons.NoCodeword says h.0
-    answered frame answers.NoCertificate says (certified, ends, takes) = lacks frame reasons.NoCertificate says (certified, ends.0, ends.1)
-    answered frame answers.OtherWord says h = lacks frame reasons.OtherWord says h
-    answered frame (answers.Judged (audits.Refused refusal)) says (block, packed, word, takes, is_word, certified, unknown, h) = refuses frame refusal block packed word says takes certified h
-    answered frame (answers.Judged (audits.Differs step)) says (block, packed, word, takes, is_word, certified, unknown, (d, settles, bits, other)) =
+    -- by a certificate, or by a record of the codeword
+    audited_by : (frame : Frame) (block packed : Option (List ℕ)) (word : List Bool) (audited : Audited) (changed : ℕ) → entry ≡ Some (entries.Frame frame)
+        → Takes t.mode old.evidence new.evidence block packed → IsWordOf packed word → is_certified frame.verdict ≡ is_some block → IsUnknownIf block packed word → States block am.replayer.soft word changed
+        → AuditsFrame t mid f' found block am.replayer.soft word line audited → JudgedIs t old new f f' p (Ok (judged_turn frame at p f'.state.standing.totals audited changed))
+    audited_by frame block packed word (audits.Refused refusal) changed says takes is_word certified unknown states h = refuses frame refusal block packed word says takes certified h
+    audited_by frame block packed word (audits.Told verdict paid) changed says takes is_word certified unknown states h = told_evidence frame block packed word verdict paid changed says takes is_word certified unknown states h
+    audited_by frame block packed word (audits.Differs step) changed says takes is_word certified unknown states (d, settles, bits, other) =
         let differs : HasOtherLine t mid f' found frame.verdict line old.evidence new.evidence step = record {
           is = tt;
           d = d;
@@ -199,7 +240,17 @@ module _ (old new : Ends) (f : Follower) (am an : FrameAuditor) (line : List ℕ
           other = other;
         } in
         (mid, found, line, entry, meets, (refl, refl, inl (subst (λ e. IsOtherLine t mid f' found line e old.evidence new.evidence step) (sym says) differs)))
-    answered frame (answers.Judged (audits.Told verdict paid)) says (block, packed, word, takes, is_word, certified, unknown, h) = told_evidence frame block packed word verdict paid says takes is_word certified unknown h
+
+    -- by its answer
+    answered : (frame : Frame) (answer : FrameAnswer) → entry ≡ Some (entries.Frame frame) → Answers am an found frame.verdict line old.evidence new.evidence (Ok answer)
+        → JudgedIs t old new f f' p (Ok (turn_by frame at p f'.state.standing.totals answer))
+    answered frame answers.NoCodeword says h = lacks frame reasons.NoCodeword says h.0
+    answered frame answers.NoCertificate says (certified, ends, takes) = lacks frame reasons.NoCertificate says (certified, ends.0, ends.1)
+    answered frame answers.OtherWord says h = lacks frame reasons.OtherWord says h
+    answered frame answers.Far says h = lacks frame reasons.Far says h
+    answered frame (answers.Judged audited) says (certified, block, packed, word, takes, is_word, h) = audited_by frame (Some block) packed word audited 0 says takes is_word certified tt tt h
+    answered frame (answers.Stated audited changed) says (uncertified, packed, takes, near, changes, h) =
+        audited_by frame None (Some packed) (bits_of_bytes packed) audited changed says takes refl uncertified tt (near, changes) h
     answered frame (answers.Claimed claim) says (uncertified, none, same, h) = claimed frame claim says uncertified none same h claim.told refl
 
     answer_fails : (frame : Frame) (fault : Fault) → Answers am an found frame.verdict line old.evidence new.evidence (Err fault) → Fails t p.line old new fault
@@ -355,6 +406,7 @@ compared t old mid new f f' p told result kept symbols report evidence (s, tells
       certificate = tells.certificate;
       word = tells.word;
       unknown = tells.unknown;
+      near = tells.near;
       rounds = tells.rounds;
       whole = tells.whole;
       only = tells.only;

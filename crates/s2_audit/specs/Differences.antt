@@ -28,7 +28,7 @@ use Rattle.s2_replay.specs.declared.certificates.Shown.TheVariants as shown
 use Rattle.s2_replay.specs.declared.certificates.Refusal.{Refusal}
 use Rattle.s2_replay.specs.declared.frames.AuditedClaim.{AuditedClaim}
 use Rattle.s2_audit.specs.Evidences.{Evidence, IsMissing, IsUnknownIf, IsWordOf, Takes, evidence_by, reason_for}
-use Rattle.s2_audit.specs.FrameAnswers.{HasOtherWord, IsCutFault}
+use Rattle.s2_audit.specs.FrameAnswers.{HasOtherWord, IsCutFault, StatesFarWord}
 use Rattle.s2_audit.specs.Turns.{Ends, Shown, TellsLine}
 use Rattle.s2_audit.specs.declared.difference.Difference.{Difference}
 use Rattle.s2_audit.specs.declared.difference.Difference.TheVariants as differences
@@ -66,11 +66,12 @@ pub record Meets (t : Terms) (old new : Ends) (f mid : Follower) (found : Next) 
 
 -- ---- the evidence of a frame
 
--- it is refused: none is there, or the record of the codeword has other bits, or the certificate shows nothing
+-- it is refused: none is there, or the record of the codeword has other bits or is far from the symbols, or the certificate shows nothing
 abbrev pub LacksEvidence : Terms → (mid : Follower) → Verdict → (before after : Evidence) → Reason → Type 0
 LacksEvidence t mid verdict before after reasons.NoCodeword = IsMissing before.codewords after.codewords
 LacksEvidence t mid verdict before after reasons.NoCertificate = (is_certified verdict ≡ true) × Consumes before.certificates after.certificates [] × IsAtEnd after.certificates
 LacksEvidence t mid verdict before after reasons.OtherWord = (is_certified verdict ≡ true) × HasOtherWord t before after mid.frame
+LacksEvidence t mid verdict before after reasons.Far = (is_certified verdict ≡ false) × StatesFarWord t before after mid.frame
 LacksEvidence t mid verdict before after reason =
     (is_certified verdict ≡ true) × (refusal : Refusal) × (block : List ℕ) × (packed : Option (List ℕ)) × (reason ≡ reason_for refusal)
     × Takes t.mode before after (Some block) packed × Shows t.rows (soft_frame t.mode t.number t.options mid.frame) [] block (shown.Refused refusal)

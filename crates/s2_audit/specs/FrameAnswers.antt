@@ -1,7 +1,8 @@
 -- What audits the frames of a recording, and the audit of one frame by its evidence (own).
-use Rattle.std.specs.Prelude.{◌≡◌, ◌≢◌, ◌⊎◌, ℕ, ◌*◌, ◌/◌, ◌<◌, Bool, true, false, List, [], length, codes, Option, Some, None, is_some, Result, Ok, Err, ⊤}
+use Rattle.std.specs.Prelude.{◌≡◌, ◌≢◌, ◌⊎◌, ℕ, ◌*◌, ◌/◌, ◌<◌, ◌≤◌, Bool, true, false, List, [], length, codes, Option, Some, None, Result, Ok, Err, ⊤}
 use Rattle.std.specs.Io.KnownBytes.{Consumes, IsAtEnd}
 use Rattle.s2_bits.specs.Bits.{bits_of_bytes}
+use Rattle.s2_mode.specs.Limits.{max_bits}
 use Rattle.s2_mode.specs.Mode.{n_of}
 use Rattle.s2_mode.specs.declared.symbols.Symbol.{Symbol}
 use Rattle.s2_mode.specs.Shape.{code_bits}
@@ -12,13 +13,15 @@ use Rattle.s2_check.specs.declared.verdict.Verdict.{Verdict}
 use Rattle.s2_io.specs.declared.fault.Fault.{Fault}
 use Rattle.s2_io.specs.declared.fault.Fault.TheVariants as faults
 use Rattle.s2_link.specs.Link.{Link}
+use Rattle.s2_message.specs.Decisions.{soft_frame}
 use Rattle.s2_receive.specs.Receiving.{Decision}
 use Rattle.s2_receive.specs.declared.window.Next.{Next}
 use Rattle.s2_replay.specs.Frames.{AuditsClaim, AuditsFrame, IsShownBy, terms_of}
 use Rattle.s2_replay.specs.Replay.{IsBorneOut, Terms}
 use Rattle.s2_replay.specs.Replayers.{Replayer}
-use Rattle.s2_audit.specs.Evidences.{Evidence, EndsWithin, EndsWithinIf, IsMissing, IsUnknownIf, IsWordOf, Takes, TakesCodeword, cut_fault}
+use Rattle.s2_audit.specs.Evidences.{Evidence, EndsWithin, EndsWithinIf, IsMissing, IsWordOf, Takes, TakesCodeword, cut_fault}
 use Rattle.s2_audit.specs.Limits.{certificate_bytes}
+use Rattle.s2_audit.specs.Nearness.{IsNear, changed_bits}
 use Rattle.s2_audit.specs.declared.how.How.{How}
 use Rattle.s2_audit.specs.declared.evidence.ByCertificate.{ByCertificate}
 use Rattle.s2_audit.specs.declared.evidence.ByCertificate.TheVariants.{Missing, Judged}
@@ -51,10 +54,11 @@ pub record FrameAuditor : Type 0 where
 abbrev pub terms_by : FrameAuditor → Terms
 terms_by a = terms_of a.rows a.replayer
 
--- the rows are of the frames' code, and each buffer has its size
+-- the rows are of the frames' code, whose words have at most 64800 bits, and each buffer has its size
 pub record IsFrameAuditor (rows : Rows) (replayer : Replayer) (word recorded : List Bool) (block packed : List ℕ) : Type 0 where
   pub shape : code_bits rows.shape ≡ n_of replayer.follower.sought.mode
   pub code : (code_of rows).bits ≡ n_of replayer.follower.sought.mode
+  pub few : n_of replayer.follower.sought.mode ≤ max_bits
   pub word_long : length word ≡ n_of replayer.follower.sought.mode
   pub recorded_long : length recorded ≡ n_of replayer.follower.sought.mode
   pub packed_is : n_of replayer.follower.sought.mode ≡ 8 * length packed
@@ -92,6 +96,21 @@ pub record HasOtherWord (t : Terms) (old new : Evidence) (symbols : List Symbol)
   pub takes : Takes t.mode old new (Some block) (Some packed)
   pub other : d.bits ≢ bits_of_bytes packed
 
+-- a word is stated that no certificate shows, and it is not near the symbols
+pub record StatesFarWord (t : Terms) (old new : Evidence) (symbols : List Symbol) : Type 0 where
+  pub packed : List ℕ
+  pub takes : Takes t.mode old new None (Some packed)
+  pub far : ¬ IsNear (soft_frame t.mode t.number t.options symbols) (bits_of_bytes packed)
+
+-- The audit by the last record of a codeword. It is not near the symbols, and nothing is settled; or it is, changes this number of bits,
+-- and the frame was audited by it
+abbrev pub States : (old new : FrameAuditor) → Next → (line : List ℕ) → FrameAnswer → Type 0
+States old new found line answers.Far = (¬ IsNear old.replayer.soft old.recorded) × (new.replayer ≡ old.replayer)
+States old new found line (answers.Stated audited changed) =
+    IsNear old.replayer.soft old.recorded × (changed ≡ changed_bits old.replayer.soft old.recorded)
+    × AuditsFrame (terms_by old) old.replayer.follower new.replayer.follower found None old.replayer.soft old.recorded line audited
+States old new found line answer = ⊥
+
 -- it was settled
 abbrev pub IsSettled : Audited → Type 0
 IsSettled (audits.Told verdict paid) = ⊤
@@ -105,17 +124,22 @@ AnswersWith word bits recorded audited (answers.Judged a) = (a ≡ audited) × (
 AnswersWith word bits recorded audited answer = ⊥
 
 -- The audit of a frame whose line says this verdict. The certificate of one that is sole or most likely is missing, or its record of
--- the codeword is; or both are there, with different bits. Or the frame is audited by these, or on the report's word
+-- the codeword is; or both are there, with different bits. Or a word without a certificate is not near the symbols. Or the frame is
+-- audited by its certificate, by such a word, or on the report's word
 abbrev pub Answers : (old new : FrameAuditor) → Next → Verdict → (line : List ℕ) → (before after : Evidence) → Result FrameAnswer Fault → Type 0
 Answers old new found verdict line before after (Ok answers.NoCodeword) = IsMissing before.codewords after.codewords × (after.certificates ≡ before.certificates)
 Answers old new found verdict line before after (Ok answers.NoCertificate) =
     (is_certified verdict ≡ true) × (Consumes before.certificates after.certificates [] × IsAtEnd after.certificates) × ((packed : Option (List ℕ)) × TakesCodeword (n_of old.replayer.follower.sought.mode) before.codewords after.codewords packed)
 Answers old new found verdict line before after (Ok answers.OtherWord) =
     (is_certified verdict ≡ true) × HasOtherWord (terms_by old) before after old.replayer.follower.frame
+Answers old new found verdict line before after (Ok answers.Far) = (is_certified verdict ≡ false) × StatesFarWord (terms_by old) before after old.replayer.follower.frame
 Answers old new found verdict line before after (Ok (answers.Judged audited)) =
-    (block : Option (List ℕ)) × (packed : Option (List ℕ)) × (word : List Bool) × Takes old.replayer.follower.sought.mode before after block packed × IsWordOf packed word
-    × (is_certified verdict ≡ is_some block) × IsUnknownIf block packed word
-    × AuditsFrame (terms_by old) old.replayer.follower new.replayer.follower found block old.replayer.soft word line audited
+    (is_certified verdict ≡ true) × (block : List ℕ) × (packed : Option (List ℕ)) × (word : List Bool) × Takes old.replayer.follower.sought.mode before after (Some block) packed × IsWordOf packed word
+    × AuditsFrame (terms_by old) old.replayer.follower new.replayer.follower found (Some block) old.replayer.soft word line audited
+Answers old new found verdict line before after (Ok (answers.Stated audited changed)) =
+    (is_certified verdict ≡ false) × (packed : List ℕ) × Takes old.replayer.follower.sought.mode before after None (Some packed)
+    × IsNear old.replayer.soft (bits_of_bytes packed) × (changed ≡ changed_bits old.replayer.soft (bits_of_bytes packed))
+    × AuditsFrame (terms_by old) old.replayer.follower new.replayer.follower found None old.replayer.soft (bits_of_bytes packed) line audited
 Answers old new found verdict line before after (Ok (answers.Claimed claim)) =
     (is_certified verdict ≡ false) × (before.codewords ≡ None) × (after ≡ before) × AuditsClaim old.replayer.follower new.replayer.follower found verdict line claim
 Answers old new found verdict line before after (Err faults.Read) = ⊤

@@ -1,5 +1,7 @@
 pub mod Limits
 pub mod Lines
+pub mod Nearness
+pub mod Bases
 pub mod Evidences
 pub mod FrameAnswers
 pub mod Turns

@@ -1,11 +1,13 @@
 -- The lines that an audit prints (own).
-use Rattle.std.specs.Prelude.{ℕ, ℤ, List, [], ◌++◌, codes, decimal, Option, Some, None}
+use Rattle.std.specs.Prelude.{ℕ, ℤ, List, [], ◌++◌, codes, decimal}
 use Rattle.std.specs.Fmt.{signed_decimal}
 use Rattle.hex.specs.Hex.{encode_lower}
 use Rattle.s2_check.specs.Verdicts.{verdict_word}
 use Rattle.s2_report.specs.ReportLines.{step_line}
 use Rattle.s2_report.specs.declared.entry.Frame.{Frame}
 use Rattle.s2_replay.specs.Packets.{packet_at}
+use Rattle.s2_audit.specs.declared.basis.Basis.{Basis}
+use Rattle.s2_audit.specs.declared.basis.Basis.TheVariants as bases
 use Rattle.s2_audit.specs.declared.counts.Counts.{Counts}
 use Rattle.s2_audit.specs.declared.difference.Difference.{Difference}
 use Rattle.s2_audit.specs.declared.difference.Difference.TheVariants as differences
@@ -20,10 +22,15 @@ frame_words number at = codes "frame " ++ decimal number ++ codes " at " ++ deci
 unfoldable pub shown_line : Frame → ℤ → List ℕ
 shown_line frame cost = frame_words frame.number frame.at ++ codes " " ++ verdict_word frame.verdict ++ codes " cost " ++ signed_decimal cost ++ codes "\n"
 
--- the same if the bits have a certificate
-abbrev pub cost_text : Frame → Option ℤ → List ℕ
-cost_text frame None = []
-cost_text frame (Some cost) = shown_line frame cost
+-- frame I at SYMBOL VERDICT changed B
+unfoldable pub stated_line : Frame → (changed : ℕ) → List ℕ
+stated_line frame changed = frame_words frame.number frame.at ++ codes " " ++ verdict_word frame.verdict ++ codes " changed " ++ decimal changed ++ codes "\n"
+
+-- the line of a frame by what its bits rest on; a frame on the report's word has none
+abbrev pub basis_line : Frame → Basis → List ℕ
+basis_line frame (bases.Certificate cost) = shown_line frame cost
+basis_line frame (bases.Record changed) = stated_line frame changed
+basis_line frame bases.Report = []
 
 -- ---- what ends an audit with exit 2
 
@@ -34,6 +41,7 @@ reason_text reasons.NoCodeword = codes "no codeword"
 reason_text reasons.OtherWord = codes "other word"
 reason_text reasons.OtherValues = codes "other values"
 reason_text reasons.NotAccepted = codes "not accepted"
+reason_text reasons.Far = codes "far from the symbols"
 
 -- report line L: expected
 unfoldable pub line_words : (line : ℕ) → List ℕ
@@ -98,10 +106,14 @@ sole_words counts = codes " sole " ++ decimal counts.sole
 unfoldable pub likely_words : Counts → List ℕ
 likely_words counts = codes " most-likely " ++ decimal counts.most_likely
 
+-- stated S
+unfoldable pub stated_words : Counts → List ℕ
+stated_words counts = codes " stated " ++ decimal counts.stated
+
 -- unchecked U
 unfoldable pub unchecked_words : Counts → List ℕ
 unchecked_words counts = codes " unchecked " ++ decimal counts.unchecked
 
--- audit frames F sole A most-likely B unchecked U
+-- audit frames F sole A most-likely B stated S unchecked U
 unfoldable pub end_line : Counts → List ℕ
-end_line counts = frames_words counts ++ sole_words counts ++ likely_words counts ++ unchecked_words counts ++ codes "\n"
+end_line counts = frames_words counts ++ sole_words counts ++ likely_words counts ++ stated_words counts ++ unchecked_words counts ++ codes "\n"

@@ -1,5 +1,5 @@
 -- The audit of one frame, cut frame or end, and of the rest of each file (own).
-use Rattle.std.specs.Prelude.{◌≡◌, ◌⊎◌, ℕ, ◌+◌, ◌-◌, ◌*◌, ◌<◌, ◌^◌, min, Bool, true, false, ◌&&◌, if◌then◌else◌, List, [], length, Option, Some, None, is_some, Result, Ok, Err, ⊤}
+use Rattle.std.specs.Prelude.{◌≡◌, ◌⊎◌, ℕ, ℤ, ◌+◌, ◌-◌, ◌*◌, ◌<◌, ◌^◌, min, Bool, true, false, ◌&&◌, if◌then◌else◌, List, [], length, Option, Some, None, is_some, Result, Ok, Err, ⊤}
 use Rattle.std.specs.Io.KnownBytes.{Appends, Consumes, IsAtEnd}
 use Rattle.s2_mode.specs.Pieces.{AppendsPart}
 use Rattle.s2_bbframe.specs.Limits.{packet_bytes}
@@ -17,13 +17,17 @@ use Rattle.s2_receive.specs.declared.window.Next.{Next}
 use Rattle.s2_receive.specs.declared.window.Next.TheVariants as next
 use Rattle.s2_replay.specs.Frames.{AuditsLast}
 use Rattle.s2_replay.specs.Replay.{Terms}
+use Rattle.s2_replay.specs.declared.frames.Audited.{Audited}
 use Rattle.s2_replay.specs.declared.frames.Audited.TheVariants as audits
 use Rattle.s2_replay.specs.declared.frames.AuditedLast.{AuditedLast}
 use Rattle.s2_audit.specs.Differences.{Differs, DiffersIf, Fails, HasMore, HasMoreIf, LeavesOver, Rests, packet_number, rests_of}
 use Rattle.s2_audit.specs.Evidences.{Evidence, IsOverIf, ReadsIf, reason_for}
 use Rattle.s2_audit.specs.FrameAnswers.{Answers, FrameAuditor}
-use Rattle.s2_audit.specs.Lines.{cost_text, difference_line, end_line}
+use Rattle.s2_audit.specs.Bases.{is_given}
+use Rattle.s2_audit.specs.Lines.{basis_line, difference_line, end_line}
 use Rattle.s2_audit.specs.Turns.{Ends, IsTold, Shown, TellsCut, TellsEnd, TellsLine, all_known, counted}
+use Rattle.s2_audit.specs.declared.basis.Basis.{Basis}
+use Rattle.s2_audit.specs.declared.basis.Basis.TheVariants as bases
 use Rattle.s2_audit.specs.declared.counts.Counts.{Counts}
 use Rattle.s2_audit.specs.declared.difference.Difference.{Difference}
 use Rattle.s2_audit.specs.declared.difference.Difference.TheVariants as differences
@@ -47,16 +51,26 @@ refused_at p at reason = turns.Differs (differences.Frame p.frame at reason)
 abbrev pub no_frame_at : Place → (at : ℕ) → Turn
 no_frame_at p at = turns.Differs (differences.NoFrame p.line p.frame at)
 
--- the finding of a frame with this answer, whose line has this content
+-- a word with a certificate costs this, another one changes this number of bits
+abbrev pub basis_with : (paid : Option ℤ) → (changed : ℕ) → Basis
+basis_with (Some cost) changed = bases.Certificate cost
+basis_with None changed = bases.Record changed
+
+-- the finding of a frame that was audited, whose line has this content
+abbrev pub judged_turn : Frame → (at : ℕ) → Place → Totals → Audited → (changed : ℕ) → Turn
+judged_turn frame at p totals (audits.Refused refusal) changed = refused_at p at (reason_for refusal)
+judged_turn frame at p totals (audits.Differs step) changed = turns.Differs (differences.Line p.line step totals)
+judged_turn frame at p totals (audits.Told verdict paid) changed = turns.Frame (record { frame = frame; verdict = verdict; basis = basis_with paid changed })
+
+-- the finding of a frame with this answer
 abbrev pub turn_by : Frame → (at : ℕ) → Place → Totals → FrameAnswer → Turn
 turn_by frame at p totals answers.NoCertificate = refused_at p at reasons.NoCertificate
 turn_by frame at p totals answers.NoCodeword = refused_at p at reasons.NoCodeword
 turn_by frame at p totals answers.OtherWord = refused_at p at reasons.OtherWord
-turn_by frame at p totals (answers.Judged (audits.Refused refusal)) = refused_at p at (reason_for refusal)
-turn_by frame at p totals (answers.Judged (audits.Differs step)) = turns.Differs (differences.Line p.line step totals)
-turn_by frame at p totals (answers.Judged (audits.Told verdict paid)) = turns.Frame (record { frame = frame; verdict = verdict; cost = paid; known = true })
-turn_by frame at p totals (answers.Claimed claim) =
-    if claim.told then turns.Frame (record { frame = frame; verdict = frame.verdict; cost = None; known = false }) else no_frame_at p at
+turn_by frame at p totals answers.Far = refused_at p at reasons.Far
+turn_by frame at p totals (answers.Judged audited) = judged_turn frame at p totals audited 0
+turn_by frame at p totals (answers.Stated audited changed) = judged_turn frame at p totals audited changed
+turn_by frame at p totals (answers.Claimed claim) = if claim.told then turns.Frame (record { frame = frame; verdict = frame.verdict; basis = bases.Report }) else no_frame_at p at
 
 -- by its answer, or with its fault
 abbrev pub TurnBy : Frame → (at : ℕ) → Place → Totals → Result FrameAnswer Fault → Result Turn Fault → Type 0
@@ -175,7 +189,7 @@ OutcomeIs t old new f f' p result = TurnIs t old new f f' p result
 -- ---- printed text
 
 abbrev pub told_text : Told → List ℕ
-told_text told = cost_text told.frame told.cost
+told_text told = basis_line told.frame told.basis
 
 -- the text of a finding
 abbrev pub turn_text : Counts → (packets : List ℕ) → Turn → List ℕ
@@ -216,7 +230,7 @@ place_for lines s = record { line = lines + 1; frame = s.counts.frames + 1; byte
 
 -- the counts with one more finding, whose step has these packets
 abbrev pub standing_after : Standing → (packets : List ℕ) → Turn → Standing
-standing_after s packets (turns.Frame told) = record { counts = counted s.counts told.verdict told.known; bytes = min (s.bytes + length packets) (2 ^ 64 - 1) }
+standing_after s packets (turns.Frame told) = record { counts = counted s.counts told.verdict (is_given told.basis); bytes = min (s.bytes + length packets) (2 ^ 64 - 1) }
 standing_after s packets turn = s
 
 -- a whole step: the finding and its text, or its fault

@@ -4,8 +4,7 @@ use Rattle.std.specs.List.{flat_map}
 use Rattle.std.specs.Io.KnownBytes.{Consumes, IsAtEnd}
 use Rattle.s2_mode.specs.Mode.{n_of}
 use Rattle.s2_mode.specs.Symbols.{symbols_of}
-use Rattle.s2_check.specs.Cost.{cost}
-use Rattle.s2_check.specs.Views.{View}
+use Rattle.s2_check.specs.Verdicts.{is_certified}
 use Rattle.s2_check.specs.declared.verdict.Verdict.{Verdict}
 use Rattle.s2_check.specs.declared.verdict.Verdict.TheVariants as verdicts
 use Rattle.s2_report.specs.Entries.{IsLine, entry_in, text_of}
@@ -15,11 +14,14 @@ use Rattle.s2_receive.specs.Halves.{Follower}
 use Rattle.s2_receive.specs.Receiving.{Decision}
 use Rattle.s2_receive.specs.declared.report.Phase.TheVariants as phases
 use Rattle.s2_replay.specs.Auditing.{AuditedFrames, AuditedSoFar, ReplaysIn}
-use Rattle.s2_replay.specs.Frames.{HasRounds, IsShownBy, cost_of}
+use Rattle.s2_replay.specs.Frames.{HasRounds, IsShownBy}
 use Rattle.s2_replay.specs.Replay.{IsReplay, Terms, is_known}
 use Rattle.s2_audit.specs.Evidences.{Evidence, IsGiven, IsOverIf, IsSized, IsUnknownIf, IsWordOf, ReadsIf, Takes, bytes_of, evidence_by}
 use Rattle.s2_receive.specs.Sinks.{wanted_count}
-use Rattle.s2_audit.specs.Lines.{shown_line}
+use Rattle.s2_audit.specs.Bases.{basis_of, is_given}
+use Rattle.s2_audit.specs.Lines.{basis_line}
+use Rattle.s2_audit.specs.Nearness.{IsNearIf}
+use Rattle.s2_audit.specs.declared.basis.Basis.{Basis}
 use Rattle.s2_audit.specs.declared.counts.Counts.{Counts}
 use Rattle.s2_audit.specs.declared.turn.Told.{Told}
 
@@ -74,22 +76,23 @@ pub record Shown : Type 0 where
   pub packed : Option (List ℕ)
 
 -- The decision has the certificate in these bytes, or none; and if codewords are given, the bits of the record. Without either no bit
--- is known. The rounds of min-sum are those that the line says
+-- is known. Bits without a certificate are near the symbols. The rounds of min-sum are those that the line says
 pub record IsShown (t : Terms) (given : Bool) (s : Shown) : Type 0 where
   pub certificate : IsShownBy t.rows s.decision s.block
   pub sized : IsSized t.mode s.block
   pub codeword : IsGiven (n_of t.mode) given s.packed
   pub word : IsWordOf s.packed s.decision.bits
   pub unknown : IsUnknownIf s.block s.packed s.decision.bits
+  pub near : IsNearIf s.decision.certificate s.decision.soft s.decision.bits
   pub rounds : HasRounds s.decision s.line
 
--- the printed line of a frame, with the cost of its bits, if it has a certificate
-abbrev pub told_by : Option View → Option Entry → List ℕ
-told_by (Some view) (Some (entries.Frame frame)) = shown_line frame (cost view.soft view.bits)
-told_by certificate entry = []
+-- the printed line of a frame
+abbrev pub told_by : Basis → Option Entry → List ℕ
+told_by basis (Some (entries.Frame frame)) = basis_line frame basis
+told_by basis entry = []
 
 abbrev pub told_line : Shown → List ℕ
-told_line s = told_by s.decision.certificate (entry_in s.line)
+told_line s = told_by (basis_of s.decision) (entry_in s.line)
 
 -- of all of them
 abbrev pub told_lines : List Shown → List ℕ
@@ -114,12 +117,17 @@ abbrev pub is_most_likely : Verdict → Bool
 is_most_likely verdicts.MostLikely = true
 is_most_likely verdict = false
 
--- the frames, those of them that are sole or most likely, and those that are unchecked
+-- the bits of a frame are stated: they are given, and no certificate shows them
+abbrev pub is_stated : Verdict → (known : Bool) → Bool
+is_stated verdict known = known && not (is_certified verdict)
+
+-- the frames, those of them that are sole or most likely, those that are stated, and those that are unchecked
 abbrev pub counts_of : List Shown → Counts
 counts_of frames = record {
   frames = count_by (λ s. true) frames;
   sole = count_by (λ s. is_sole s.decision.verdict) frames;
   most_likely = count_by (λ s. is_most_likely s.decision.verdict) frames;
+  stated = count_by (λ s. is_stated s.decision.verdict (is_known s.decision)) frames;
   unchecked = count_by (λ s. not (is_known s.decision)) frames;
 }
 
@@ -129,6 +137,7 @@ counted counts verdict known = record {
   frames = counts.frames + 1;
   sole = counts.sole + (if is_sole verdict then 1 else 0);
   most_likely = counts.most_likely + (if is_most_likely verdict then 1 else 0);
+  stated = counts.stated + (if is_stated verdict known then 1 else 0);
   unchecked = counts.unchecked + (if not known then 1 else 0);
 }
 
@@ -274,6 +283,7 @@ pub record TellsLine (t : Terms) (old new : Ends) (f f' : Follower) (s : Shown) 
   pub certificate : IsShownBy t.rows s.decision s.block
   pub word : IsWordOf s.packed s.decision.bits
   pub unknown : IsUnknownIf s.block s.packed s.decision.bits
+  pub near : IsNearIf s.decision.certificate s.decision.soft s.decision.bits
   pub rounds : HasRounds s.decision s.line
   pub whole : IsLine s.line
   pub only : OfAllLeft t old f (BeginsBy s f'.packets)
@@ -281,8 +291,8 @@ pub record TellsLine (t : Terms) (old new : Ends) (f f' : Follower) (s : Shown) 
 -- the finding of a frame is of this one
 pub record IsTold (s : Shown) (told : Told) : Type 0 where
   pub verdict : s.decision.verdict ≡ told.verdict
-  pub known : is_known s.decision ≡ told.known
-  pub paid : told.cost ≡ cost_of s.decision.certificate
+  pub known : is_known s.decision ≡ is_given told.basis
+  pub basis : told.basis ≡ basis_of s.decision
   pub entry : entry_in s.line ≡ Some (entries.Frame told.frame)
 
 -- of the files only these two were read

@@ -84,7 +84,7 @@ fn audit_step<R: CountedRead, O: CountedWrite>(
     requires none { auditor.old.replayer.follower.found ≡ None }
     requires by { IsBy (terms_by auditor.old) auditor.old.replayer.follower }
     requires lines { lines < 2 ^ 62 }
-    requires few { (standing.old.counts.frames < 2 ^ 62) × (standing.old.counts.sole < 2 ^ 62) × (standing.old.counts.most_likely < 2 ^ 62) × (standing.old.counts.unchecked < 2 ^ 62) }
+    requires few { (standing.old.counts.frames < 2 ^ 62) × (standing.old.counts.sole < 2 ^ 62) × (standing.old.counts.most_likely < 2 ^ 62) × (standing.old.counts.stated < 2 ^ 62) × (standing.old.counts.unchecked < 2 ^ 62) }
     ensures step { let ends = ends_by R.remaining in StepIs (terms_by auditor.old) (ends symbols.old report.old certificates.old codewords.old packets.old)
         (ends symbols.new report.new certificates.new codewords.new packets.new) auditor.old.replayer.follower auditor.new.replayer.follower lines standing.old standing.new (O.contents out.old) (O.contents out.new) result }
     ensures rows { auditor.new.rows ≡ auditor.old.rows }

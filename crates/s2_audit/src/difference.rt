@@ -14,6 +14,7 @@ pub(crate) enum Reason {
     OtherWord,
     OtherValues,
     NotAccepted,
+    Far,
 }
 
 impl Reason {
@@ -30,7 +31,7 @@ impl Reason {
     /// The text of the reason.
     pub(crate) fn text(self) -> &'static str
         ensures is { result.now ≡ reason_text self }
-        ensures short { length result.now ≤ 14 }
+        ensures short { length result.now ≤ 20 }
     {
         match self {
             Reason::NoCertificate => "no certificate",
@@ -38,6 +39,7 @@ impl Reason {
             Reason::OtherWord => "other word",
             Reason::OtherValues => "other values",
             Reason::NotAccepted => "not accepted",
+            Reason::Far => "far from the symbols",
         }
     }
 }

@@ -8,11 +8,12 @@ ghost use Rattle.s2_replay.specs.Running.{EndsAfterCut, GoesOn, IsBy, IsStuck};
 ghost use Rattle.s2_replay.specs.Replayers.{IfFrame, IsFrame, IsFrameAt, IsSameReplayer};
 ghost use Rattle.s2_audit.specs.Evidences.{TakesRecord, evidence_by};
 ghost use Rattle.s2_receive.specs.Sinks.{wanted_count};
-ghost use Rattle.s2_audit.specs.FrameAnswers.{Answers, AnswersWith, ByBlock, terms_by, terms_for};
+ghost use Rattle.s2_audit.specs.FrameAnswers.{Answers, AnswersWith, ByBlock, States, terms_by, terms_for};
 ghost use Rattle.s2_audit.specs.Limits.{certificate_bytes};
 
 use crate::evidence::{ByCertificate, audit_by_certificate, read_record};
 use crate::how::How;
+use crate::nearness::{changed_bits, is_near};
 use s2_bits::{Bits, bits_into};
 use s2_check::Verdict;
 use s2_io::Fault;
@@ -33,12 +34,15 @@ pub(crate) enum Recorded {
     Taken,
 }
 
-/// The audit of a frame: what the replayer finds, or what its evidence lacks.
+/// The audit of a frame: what the replayer finds by a certificate, by a record of the codeword, which changes this number of bits, or on
+/// the report's word. Or what its evidence lacks.
 pub(crate) enum FrameAnswer {
     NoCertificate,
     NoCodeword,
     OtherWord,
+    Far,
     Judged(Audited),
+    Stated { audited: Audited, changed: u64 },
     Claimed(AuditedClaim),
 }
 
@@ -245,17 +249,23 @@ impl<'a> FrameAuditor<'a> {
         }
     }
 
-    /// Audits the frame that was found by the last record of a codeword.
-    fn by_record(&mut self, found: Next, line: &[u8]) -> Audited
+    /// Audits the frame that was found by the last record of a codeword, which must be near the symbols.
+    fn by_record(&mut self, found: Next, line: &[u8]) -> FrameAnswer
         requires found { self.old.replayer.follower.found ≡ Some found }
         requires frame { IsFrame found }
         requires soft { HoldsSoft self.old.replayer }
-        ensures audits { AuditsFrame (terms_by self.old) self.old.replayer.follower self.new.replayer.follower found None self.old.replayer.soft self.old.recorded line.now result }
+        ensures states { States self.old self.new found line.now result }
         ensures rows { self.new.rows ≡ self.old.rows }
         ensures same { IsSameReplayer self.old.replayer self.new.replayer }
     {
-        self.replayer
-            .audit_recorded(self.matrix, found, &self.recorded, line)
+        if !is_near(self.replayer.soft(), &self.recorded) {
+            return FrameAnswer::Far;
+        }
+        let changed = changed_bits(self.replayer.soft(), &self.recorded);
+        let audited = self
+            .replayer
+            .audit_recorded(self.matrix, found, &self.recorded, line);
+        FrameAnswer::Stated { audited, changed }
     }
 
     /// Audits the frame that was found, whose line says this verdict.
@@ -291,7 +301,7 @@ impl<'a> FrameAuditor<'a> {
             };
         }
         match recorded {
-            Recorded::Taken => Ok(FrameAnswer::Judged(self.by_record(found, line))),
+            Recorded::Taken => Ok(self.by_record(found, line)),
             _ => Ok(FrameAnswer::Claimed(self.replayer.audit_claimed(found, at, verdict, line))),
         }
     }

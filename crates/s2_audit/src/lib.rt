@@ -18,6 +18,7 @@
 #![tactic(auto)]
 
 mod auditing;
+mod basis;
 mod command;
 mod counts;
 mod difference;
@@ -27,6 +28,7 @@ mod how;
 pub mod laws;
 mod limits;
 mod lines;
+mod nearness;
 mod place;
 mod printing;
 mod rest;

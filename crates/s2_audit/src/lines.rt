@@ -1,6 +1,6 @@
 //! The lines that an audit prints.
 ghost use Rattle.std.specs.Prelude.{◌≡◌, ◌≤◌, ◌++◌, codes, decimal, length};
-ghost use Rattle.s2_audit.specs.Lines.{end_line, frame_words, line_words, packet_words, reason_text, shown_line};
+ghost use Rattle.s2_audit.specs.Lines.{end_line, frame_words, line_words, packet_words, reason_text, shown_line, stated_line};
 
 use crate::counts::Counts;
 use crate::difference::Reason;
@@ -28,6 +28,19 @@ pub(crate) fn shown_line(frame: Frame, cost: i64) -> Line
     line.push(" ");
     line.push(frame.verdict.word());
     line.push_number(" cost ", cost);
+    line.push("\n");
+    line
+}
+
+/// The line of a frame whose word is stated, with the number of bits that it changes.
+#[tactic(auto, unfolding(crate::specs::Lines::stated_line))]
+pub(crate) fn stated_line(frame: Frame, changed: u64) -> Line
+    ensures { result ≡ stated_line frame changed }
+{
+    let mut line = frame_words(frame.number, frame.at);
+    line.push(" ");
+    line.push(frame.verdict.word());
+    line.push_number(" changed ", changed);
     line.push("\n");
     line
 }
@@ -95,7 +108,7 @@ pub(crate) fn text_line(text: &str) -> Line
 }
 
 /// The line at the end.
-#[tactic(auto, unfolding(crate::specs::Lines::end_line, crate::specs::Lines::frames_words, crate::specs::Lines::sole_words, crate::specs::Lines::likely_words, crate::specs::Lines::unchecked_words))]
+#[tactic(auto, unfolding(crate::specs::Lines::end_line, crate::specs::Lines::frames_words, crate::specs::Lines::sole_words, crate::specs::Lines::likely_words, crate::specs::Lines::stated_words, crate::specs::Lines::unchecked_words))]
 pub(crate) fn end_line(counts: Counts) -> Line
     ensures { result ≡ end_line counts }
 {
@@ -103,6 +116,7 @@ pub(crate) fn end_line(counts: Counts) -> Line
     line.push_number("audit frames ", counts.frames);
     line.push_number(" sole ", counts.sole);
     line.push_number(" most-likely ", counts.most_likely);
+    line.push_number(" stated ", counts.stated);
     line.push_number(" unchecked ", counts.unchecked);
     line.push("\n");
     line

@@ -38,12 +38,12 @@ impl Standing {
 
     /// The counts with one more finding, and with the packets of its step.
     pub(crate) fn after(self, packets: &[u8], turn: Turn) -> Standing
-        requires { (self.counts.frames < 2 ^ 62) × (self.counts.sole < 2 ^ 62) × (self.counts.most_likely < 2 ^ 62) × (self.counts.unchecked < 2 ^ 62) }
+        requires { (self.counts.frames < 2 ^ 62) × (self.counts.sole < 2 ^ 62) × (self.counts.most_likely < 2 ^ 62) × (self.counts.stated < 2 ^ 62) × (self.counts.unchecked < 2 ^ 62) }
         ensures { result ≡ standing_after self packets.now turn }
     {
         match turn {
             Turn::Frame(told) => Standing {
-                counts: self.counts.with(told.verdict, told.known),
+                counts: self.counts.with(told.verdict, told.basis.is_given()),
                 bytes: self.bytes.saturating_add(packets.len() as u64),
             },
             Turn::Cut | Turn::End | Turn::Differs(_) => self,

@@ -7,11 +7,12 @@ ghost use Rattle.s2_audit.specs.Lines.{back_words, difference_line, front_words,
 ghost use Rattle.s2_audit.specs.Steps.{IsPlaced, PrintsText, PrintsTurn, told_text};
 ghost use Rattle.s2_audit.specs.declared.turn.Turn.TheVariants as turns;
 
+use crate::basis::Basis;
 use crate::counts::Counts;
 use crate::difference::Difference;
 use crate::lines::{
     count_end, end_line, frame_end, frame_words, line_words, packet_words, reason_end, shown_line,
-    text_line,
+    stated_line, text_line,
 };
 use crate::turn::{Told, Turn};
 use s2_bbframe::PACKET_BYTES;
@@ -146,16 +147,17 @@ fn print_difference<O: CountedWrite>(
     print_rest(out, difference, packets)
 }
 
-/// Prints the line of a frame, if its bits have a certificate.
+/// Prints the line of a frame, if its bits are given.
 fn print_told<O: CountedWrite>(out: &mut O, told: Told) -> Result<(), Fault<'static>>
     requires { CanCount (O.count out.old) }
     ensures prints { PrintsText (told_text told) (O.contents out.old) (O.contents out.new) result }
     ensures write { result ≡ Err Fault.Write → O.count out.new ≡ O.count out.old + 1 }
     ensures no_write { result ≢ Err Fault.Write → O.count out.new ≡ O.count out.old }
 {
-    match told.cost {
-        Some(cost) => print_text(out, shown_line(told.frame, cost).as_bytes()),
-        None => Ok(()),
+    match told.basis {
+        Basis::Certificate(cost) => print_text(out, shown_line(told.frame, cost).as_bytes()),
+        Basis::Record(changed) => print_text(out, stated_line(told.frame, changed).as_bytes()),
+        Basis::Report => Ok(()),
     }
 }
 

@@ -10,8 +10,9 @@ ghost use Rattle.s2_audit.specs.Evidences.{evidence_by};
 ghost use Rattle.s2_receive.specs.Sinks.{wanted_count};
 ghost use Rattle.s2_audit.specs.FrameAnswers.{terms_by};
 ghost use Rattle.s2_audit.specs.Turns.{FailedOnce, SameFailures, ends_by, failures_by};
-ghost use Rattle.s2_audit.specs.Steps.{ComparesIf, ComparesTurn, Judges, JudgesFrame, JudgesLast, TurnIs, no_frame_at, other_last, refused_at, told_last, turn_by};
+ghost use Rattle.s2_audit.specs.Steps.{ComparesIf, ComparesTurn, Judges, JudgesFrame, JudgesLast, TurnIs, judged_turn, no_frame_at, other_last, refused_at, told_last, turn_by};
 
+use crate::basis::Basis;
 use crate::difference::{Difference, Reason};
 use crate::frame::{FrameAnswer, FrameAuditor};
 use crate::place::Place;
@@ -24,14 +25,12 @@ use s2_replay::{Audited, compare_packets};
 use s2_report::{Entry, Frame, LineBytes, Step, Totals, next_line, read_entry};
 use std::alloc::Global;
 
-/// A frame whose line is the receiver's own: the content of the line, the verdict, the cost of the bits if they have a certificate, and
-/// whether the bits are known.
+/// A frame whose line is the receiver's own: the content of the line, the verdict, and what the bits rest on.
 #[derive(Clone, Copy)]
 pub(crate) struct Told {
     pub(crate) frame: Frame,
     pub(crate) verdict: Verdict,
-    pub(crate) cost: Option<i64>,
-    pub(crate) known: bool,
+    pub(crate) basis: Basis,
 }
 
 /// A finding of an audit: a frame, a cut frame, that all is fine at the end, or the first difference.
@@ -86,6 +85,35 @@ fn no_frame(place: Place, at: u64) -> Turn
     })
 }
 
+/// The finding of a frame that was audited. A word that no certificate shows changes this number of bits.
+fn judged(
+    frame: Frame,
+    at: u64,
+    place: Place,
+    totals: Totals,
+    audited: Audited,
+    changed: u64,
+) -> Turn
+    ensures { result ≡ judged_turn frame at place totals audited changed }
+{
+    match audited {
+        Audited::Refused(refusal) => refused(place, at, Reason::of(refusal)),
+        Audited::Differs(step) => Turn::Differs(Difference::Line {
+            line: place.line,
+            step,
+            totals,
+        }),
+        Audited::Told { verdict, cost } => Turn::Frame(Told {
+            frame,
+            verdict,
+            basis: match cost {
+                Some(cost) => Basis::Certificate(cost),
+                None => Basis::Record(changed),
+            },
+        }),
+    }
+}
+
 /// The finding of a frame with this answer. `frame` is the content of its line.
 fn turn_by(frame: Frame, at: u64, place: Place, totals: Totals, answer: FrameAnswer) -> Turn
     ensures { result ≡ turn_by frame at place totals answer }
@@ -94,25 +122,17 @@ fn turn_by(frame: Frame, at: u64, place: Place, totals: Totals, answer: FrameAns
         FrameAnswer::NoCertificate => refused(place, at, Reason::NoCertificate),
         FrameAnswer::NoCodeword => refused(place, at, Reason::NoCodeword),
         FrameAnswer::OtherWord => refused(place, at, Reason::OtherWord),
-        FrameAnswer::Judged(Audited::Refused(refusal)) => refused(place, at, Reason::of(refusal)),
-        FrameAnswer::Judged(Audited::Differs(step)) => Turn::Differs(Difference::Line {
-            line: place.line,
-            step,
-            totals,
-        }),
-        FrameAnswer::Judged(Audited::Told { verdict, cost }) => Turn::Frame(Told {
-            frame,
-            verdict,
-            cost,
-            known: true,
-        }),
+        FrameAnswer::Far => refused(place, at, Reason::Far),
+        FrameAnswer::Judged(audited) => judged(frame, at, place, totals, audited, 0),
+        FrameAnswer::Stated { audited, changed } => {
+            judged(frame, at, place, totals, audited, changed)
+        }
         FrameAnswer::Claimed(claim) => {
             if claim.told {
                 Turn::Frame(Told {
                     frame,
                     verdict: frame.verdict,
-                    cost: None,
-                    known: false,
+                    basis: Basis::Report,
                 })
             } else {
                 no_frame(place, at)

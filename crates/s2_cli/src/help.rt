@@ -307,17 +307,19 @@ Example:
 const AUDIT_MORE: &str = "\
 An accepted audit:
   Each line of REPORT, and with --packets each packet, is what `demod` makes of SYMBOLS with the decided bits of CERTIFICATES or --codewords.
+  Stated: of frames that are not proved, the bits of --codewords need only fit the symbols roughly.
   Taken on the report's word: frames with neither, which are counted as `unchecked`, and the rounds of --figures.
 
-The output, a line for each frame that REPORT calls sole or most-likely, and a line at the end:
+The output, a line for each frame whose bits are given, and a line at the end:
   frame I at SYMBOL sole cost C           proved: the decided bits cost C, and every other codeword costs more
   frame I at SYMBOL most-likely cost C    proved: the decided bits cost C, and no codeword costs less
+  frame I at SYMBOL parity changed B      stated: the bits of --codewords fit the symbols, and B of them are not the hard decision; so for broken
   frame I at SYMBOL REASON                not proved; the audit ends here
   report line L: expected TEXT            line L of REPORT is another one; the audit ends here
   packet P: expected HEX                  with --packets: the packet P of its file is another one; the audit ends here
   certificates left over                  CERTIFICATES has more after that of the last frame
   codewords left over                     the file of --codewords has more after the bits of the last frame
-  audit frames F sole A most-likely B unchecked U    REPORT has F frames, A of them proved sole, B proved most-likely, U taken on its word
+  audit frames F sole A most-likely B stated S unchecked U    REPORT has F frames, A proved sole, B proved most-likely, S stated, U taken on its word
   about line N differs: KEY               with --about: line N of its file has another value than these options and files
   about has no KEY                        with --about: its file has no line with this key
 
@@ -327,6 +329,7 @@ Reasons:
   other word        the certificate has other bits than the file of --codewords
   other values      the certificate is for other soft values: of another recording, or with another --divisor or --tuned
   not accepted      the certificate proves nothing with these rows
+  far from the symbols    the bits of --codewords do not fit the symbols of a frame that no certificate proves
 
 Exit status:
   0  each line, and with --packets each packet, is the one made again; all frames called sole or most-likely are proved
