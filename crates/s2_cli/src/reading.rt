@@ -218,16 +218,6 @@ fn table_of<'a>(given: &ArgMatches<'a>) -> Result<TableArguments<'a>, Refused<'a
     })
 }
 
-fn rate_of<'a>(given: &ArgMatches<'a>) -> Result<Option<SymbolRate>, Refused<'a>> {
-    let Some(value) = text(given, "rate") else {
-        return Ok(None);
-    };
-    match SymbolRate::read(value) {
-        Some(rate) => Ok(Some(rate)),
-        None => Err(Refused::of("rate", value)),
-    }
-}
-
 fn mode_of<'a>(given: &ArgMatches<'a>) -> Result<Option<(u8, bool)>, Refused<'a>> {
     if !is_typed(given, "modcod") {
         return Ok(None);
@@ -235,11 +225,18 @@ fn mode_of<'a>(given: &ArgMatches<'a>) -> Result<Option<(u8, bool)>, Refused<'a>
     Ok(Some((modcod_of(given)?, flag(given, "short"))))
 }
 
-fn modes_of<'a>(given: &ArgMatches<'a>) -> Result<ModesArguments, Refused<'a>> {
-    Ok(ModesArguments {
-        rate: rate_of(given)?,
-        mode: mode_of(given)?,
-    })
+fn modes_of<'a>(given: &ArgMatches<'a>) -> Result<Request<'a>, Refused<'a>> {
+    let mode = mode_of(given)?;
+    let Some(value) = text(given, "rate") else {
+        return Ok(Request::Modes(ModesArguments { rate: None, mode }));
+    };
+    match SymbolRate::read(value) {
+        Some(rate) => Ok(Request::Modes(ModesArguments {
+            rate: Some(rate),
+            mode,
+        })),
+        None => Err(Refused::of("rate", value)),
+    }
 }
 
 fn judge_of<'a>(given: &ArgMatches<'a>) -> Result<JudgeArguments<'a>, Refused<'a>> {
@@ -419,7 +416,7 @@ fn audit_of<'a>(given: &ArgMatches<'a>) -> Result<AuditArguments<'a>, Refused<'a
 /// The request of a command with this name.
 fn request_of<'a>(name: &'a str, given: &ArgMatches<'a>) -> Result<Request<'a>, Refused<'a>> {
     Ok(match name {
-        "modes" => Request::Modes(modes_of(given)?),
+        "modes" => return modes_of(given),
         "rows" => Request::Rows(rows_of(given)),
         "table" => Request::Table(table_of(given)?),
         "judge" => Request::Judge(judge_of(given)?),

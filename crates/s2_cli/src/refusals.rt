@@ -68,14 +68,6 @@ fn begins_with(name: &str, small: &str, capital: &str) -> bool {
     name.starts_with(small) || name.starts_with(capital)
 }
 
-/// Appends texts in turn.
-fn push_all(text: &mut String, parts: &[&str]) -> Result<(), AllocError> {
-    for part in parts {
-        text.push_str(part)?;
-    }
-    Ok(())
-}
-
 /// Appends an argument. If it is empty or has spaces or control characters, it is quoted and escaped.
 fn push_word(text: &mut String, word: &str) -> Result<(), AllocError> {
     if word.is_empty() || word.bytes().any(|byte| byte <= b' ' || byte == 127) {
@@ -87,14 +79,19 @@ fn push_word(text: &mut String, word: &str) -> Result<(), AllocError> {
 
 /// Appends a refused value, the accepted ones, and the command that prints more.
 fn push_refused(text: &mut String, command: &str, refused: Refused<'_>) -> Result<(), AllocError> {
-    push_all(text, &["--", refused.option, ": "])?;
+    text.push_str("--")?;
+    text.push_str(refused.option)?;
+    text.push_str(": ")?;
     push_word(text, refused.value)?;
     text.push_str(" is not ")?;
     if refused.option == "modcod" {
         push_accepted_modes(text, refused.value)?;
         return text.push_str("; see s2 modes");
     }
-    push_all(text, &[refused.accepted(), "; see s2 ", command, " --help"])
+    text.push_str(refused.accepted())?;
+    text.push_str("; see s2 ")?;
+    text.push_str(command)?;
+    text.push_str(" --help")
 }
 
 /// The usage error of a line without its end.
