@@ -1,4 +1,4 @@
--- The data stream of a list of packets, and its fields with their headers (EN 302 307-1, 5.1.4 to 5.1.6).
+-- The data stream of a list of packets (EN 302 307-1, 5.1.4 and 5.1.5), and its fields with their headers (5.1.6).
 use Rattle.std.specs.Prelude.{◌≡◌, ℕ, zero, suc, ◌+◌, ◌-◌, ◌*◌, ◌/◌, ◌%◌, ◌<◌, ◌≤◌, Bool, true, false, List, [], ◌∷◌, ◌++◌, length, take, drop, slice_index, MatchBool}
 use Rattle.std.specs.List.{flat_map}
 use Rattle.s2_mode.specs.Mode.{Mode, kbch_of}

@@ -1,4 +1,4 @@
--- The numbers of a physical layer frame (EN 302 307-1, 5.5 and 5.5.3), and those of this profile's header test.
+-- The numbers of a physical layer frame (EN 302 307-1, 5.5), and those of this profile's header test.
 use Rattle.std.specs.Prelude.{ℕ}
 
 -- own: the largest number of wrong bits with which a header passes

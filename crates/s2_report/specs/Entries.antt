@@ -24,6 +24,11 @@ is_blank b = b == 32
 abbrev pub words_of : List ℕ → List (List ℕ)
 words_of line = pieces_of is_blank line
 
+-- the first word of a line, and the line after it
+abbrev pub IsFirstWord : List ℕ → Option (List ℕ × List ℕ) → Type 0
+IsFirstWord line None = words_of line ≡ []
+IsFirstWord line (Some cut) = words_of line ≡ cut.0 ∷ words_of cut.1
+
 -- a word is this text
 abbrev pub is_text : List ℕ → List ℕ → Bool
 is_text word text = pointwise nat_eq word text

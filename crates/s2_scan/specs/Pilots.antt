@@ -1,5 +1,5 @@
--- The scrambling number of a recording, by its pilots (own): a pilot is sent as (A, A), and then rotated by the quarter turns of the
--- scrambling number (EN 302 307-1, 5.5.3 and 5.5.4).
+-- The scrambling number of a recording, by its pilots (EN 302 307-1, 5.5.3 and 5.5.4): a pilot is sent as (A, A), and then
+-- rotated by the quarter turns of the scrambling number.
 use Rattle.std.specs.Prelude.{◌≡◌, ℕ, ◌+◌, ◌*◌, ◌/◌, ◌%◌, ◌<◌, ◌≤◌, ◌&&◌, Bool, nat_lt, nat_le, List, [], ◌∷◌, map, take, length, get_or, Option, None, Some, if◌then◌else◌}
 use Rattle.std.specs.List.{filter, range_with_len}
 use Rattle.s2_scramble.specs.Gold.{quarter_turns}
