@@ -1,7 +1,7 @@
 -- The style of a report changes nothing that a receiver meets.
 use Rattle.s2_receive.proofs.Names.{◌≡◌, ℕ, [], ◌∷◌, List, Option, Some, None, Ok, refl, sym, subst, Met, frame, cut, ended, Rules, State, Phase, Window, Handles, Meets, Seen, Finds, FindsNone, Step, Style, left_known, left_in, printing, styled}
 use Rattle.s2_receive.proofs.Names.phases
-use Rattle.s2_receive.specs.Receiving.{EndsBehind, room_in}
+use Rattle.s2_receive.specs.Receiving.{EndsBehind}
 
 module _ (style : Style) where
   left_styled : (rules : Rules) (phase : Phase) (window : Window) (bytes : Option (List ℕ)) → left_known (styled style rules) phase window bytes ≡ left_known rules phase window bytes
@@ -29,16 +29,16 @@ module _ (style : Style) where
   -- or that nothing is
   pub none_styled : (old mid : Seen) (r r' : Option (List ℕ)) (n n' : ℕ) → FindsNone old mid r r' n n' → FindsNone (printing style old) (printing style mid) r r' n n'
   none_styled old mid r r' n n' (searching, standing, last, short, within) =
-      let ends : (place : ℕ) → EndsBehind (room_in old.rules) place (left_in old.rules old.state r) → EndsBehind (room_in old.rules) place (left_in (styled style old.rules) old.state r) =
-      λ place. subst (EndsBehind (room_in old.rules) place) (sym (left_styled old.rules old.state.phase old.state.window r)) in (
+      let ends : (room place : ℕ) → EndsBehind room place (left_in old.rules old.state r) → EndsBehind room place (left_in (styled style old.rules) old.state r) =
+      λ room place. subst (EndsBehind room place) (sym (left_styled old.rules old.state.phase old.state.window r)) in (
         searching,
         standing,
         last,
         record {
           bytes = short.bytes;
           read = short.read;
-          short = ends _ short.short;
-          cause = λ other. (let (same, reached, few, behind) = short.cause other in (same, reached, few, ends _ behind));
+          short = ends _ _ short.short;
+          cause = λ other. (let (same, reached, few, behind) = short.cause other in (same, reached, few, ends _ _ behind));
         },
         within,
       )
