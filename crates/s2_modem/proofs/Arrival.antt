@@ -1,5 +1,6 @@
 -- What is sent arrives.
 use Rattle.s2_modem.proofs.Names.{searched_again, ⊤, nat_eq, if◌then◌else◌, ◌≡◌, ℕ, ◌+◌, ◌*◌, IsTrue, Bool, true, false, List, [], ◌∷◌, ◌++◌, All, Option, Some, None, length, length-map, map, refl, sym, ap, ap₂, ◌∙◌, subst, append_assoc, append-nil, length-append, arith, All-nil, All-cons, Appends, Consumes, IsAtEnd, Mode, IsMode, HasCodeSizes, symbols_of, symbol_bytes, bytes_of_symbols, Symbol, field_bytes, stream_of, fields_of, dummy_frame, Link, sent_behind, Transmitter, is_due, AreUnits, AreCodewords, frame, ended, no_gap, met_from, Rules, Standing, at_start, with_gap, after, after_all, all_packets, all_lines, frame_line, end_line, Piece, coded, dummy, joined, stream_symbols, AreReceived, frames_at, SkippedNone, Report, Totals, is_certified, Delivered, Outcome, gives, all_met, after-append, packets-append, lines-append, symbols-append, AreBytes, ReceivesAll, certified_lines, run_places, totals_of, sent_symbols, places_in, sent_places, max_symbols, ArrivalLaw, link_rules, FramePlace, Figures, IsCodeword, code_of, suc, saturated, refused_in, energy_over, sums_over, clean_energy, clean_figures_by}
+use Rattle.std.proofs.lemmas.Bool.{false≢true}
 use Rattle.s2_check.specs.declared.verdict.Verdict.{Verdict}
 use Rattle.s2_check.specs.declared.verdict.Verdict.TheVariants as verdicts
 use Rattle.s2_receive.specs.Receiving.{styled}
@@ -141,8 +142,8 @@ certified_once outcome verdict is sure = ap (λ o. certified_in o verdict) is �
     by : (v : Verdict) → IsTrue (is_certified v) → certified_in (Delivered 0) v ≡ 1
     by verdicts.Sole sure = refl
     by verdicts.MostLikely sure = refl
-    by verdicts.Parity sure = absurd sure
-    by verdicts.Broken sure = absurd sure
+    by verdicts.Parity sure = absurd (false≢true sure)
+    by verdicts.Broken sure = absurd (false≢true sure)
 
 measured_all : (rules : Rules) (energy at : ℕ) (pieces : List Piece) (s : Standing) → AllCoded (IsMeasured rules energy) pieces
     → AreMeasured energy (places_in rules at pieces) s.totals (after_all rules s (frames_at rules.size at pieces)).totals

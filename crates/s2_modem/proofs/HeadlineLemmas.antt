@@ -234,8 +234,8 @@ runs_with style takes fails v w followed new sink_old sink_new before behind res
     (subst (λ (x : Rules). RunAnswersWith takes fails (styled style x) v.state new sink_old sink_new before behind result) same run)
 
 -- the plain style is that of its rules
-pub styled_same : (style : Style) (v : Receiver) (followed : Rules) → style ≡ plain → followed ≡ rules_for v → styled style followed ≡ rules_for v
-styled_same style v followed is same = ap (λ s. styled s followed) is ∙ ap (styled plain) same
+pub styled_same : (style : Style) (link : Link) (tuning : Tuning) (limit : ℕ) (followed : Rules) → style ≡ plain → followed ≡ link_rules link tuning limit → styled style followed ≡ link_rules link tuning limit
+styled_same style link tuning limit followed is same = ap (λ s. styled s followed) is ∙ ap (styled plain) same
 
 -- its headline
 pub run_with_headline : {S : Type 0} (takes fails : Taking S) (v w : Receiver) (followed : Rules) (new : State) (sink_old sink_new : S) (before behind : Streams) (result : Result Received StreamFault) → v ≡ w → followed ≡ rules_for v

@@ -6,6 +6,7 @@ use Rattle.std.specs.Io.KnownBytes.{Consumes, IsAtEnd}
 use Rattle.s2_mode.specs.Symbols.{symbols_of}
 use Rattle.s2_mode.specs.declared.symbols.Symbol.{Symbol}
 use Rattle.s2_report.specs.ReportLines.{step_line}
+use Rattle.s2_report.specs.Styles.{plain}
 use Rattle.s2_report.specs.declared.report.Step.{Step}
 use Rattle.s2_mode.specs.Mode.{symbols_in}
 use Rattle.s2_receive.specs.Windows.{found_as}
@@ -105,6 +106,7 @@ rules_are t f by = λ i. record {
   resync = by.resync i;
   decide = (rules_for t).decide;
   limit = by.limit i;
+  style = plain;
 }
 
 -- what is left may follow

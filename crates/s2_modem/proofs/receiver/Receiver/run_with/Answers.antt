@@ -7,4 +7,4 @@ returns-clause-runs g c =
 
 pub returns-clause-headline : goal.returns-clause-headline
 returns-clause-headline g c = λ is.
-    run_with_headline g.K.Sink.takes g.K.Sink.fails _ _ _ c.receive_with.new.receiver.state _ _ _ _ c.receive_with.result c.self.view_is (styled_same c.args.style _ _ is c.self.invariant.0) c.self.invariant.1 c.receive_with.ensures.runs
+    run_with_headline g.K.Sink.takes g.K.Sink.fails _ _ _ c.receive_with.new.receiver.state _ _ _ _ c.receive_with.result c.self.view_is (styled_same c.args.style _ _ _ _ is c.self.invariant.0) c.self.invariant.1 c.receive_with.ensures.runs
