@@ -9,23 +9,23 @@ _s2() {
   case "$before" in
     --divisor) COMPREPLY=($(compgen -W "4096 8192 16384 32768 65536" -- "$now")); return ;;
     --exit-by) COMPREPLY=($(compgen -W "certainty delivery" -- "$now")); return ;;
-    --modcod|--number|--ro|--rounds|--passes|--factor|--correction|--lock|--every|--piece|--first|--dummy|--seed|--seeds|--level|--esn0|--rate|--group|--groups|--q|--weight) return ;;
+    --modcod|--number|--ro|--passes|--rounds|--factor|--correction|--lock|--every|--piece|--first|--dummy|--seed|--seeds|--esn0|--level|--rate|--group|--groups|--q|--weight) return ;;
   esac
   case "${COMP_WORDS[1]}" in
-    demod) words="--modcod --short --pilots --number --ro --rounds --passes --uncertified --divisor --factor --correction --lock --turns --resync --equalize --tuned --figures --every --exit-by --strict --quiet --progress --certificates --values --codewords --bbframes --about --piece --last --help" ;;
+    demod) words="--modcod --short --pilots --number --ro --tuned --uncertified --passes --rounds --factor --correction --divisor --turns --equalize --resync --lock --quiet --progress --figures --every --exit-by --strict --certificates --values --codewords --bbframes --about --piece --last --help" ;;
     scan) words="--first --quiet --progress --help" ;;
     mod) words="--modcod --short --pilots --number --ro --dummy --resync --quiet --progress --codewords --bbframes --labels --symbols-plain --help" ;;
-    run) words="--modcod --short --pilots --number --ro --dummy --resync --rounds --passes --uncertified --divisor --factor --correction --lock --turns --equalize --tuned --seed --seeds --level --esn0 --figures --every --exit-by --strict --quiet --progress --certificates --values --codewords --bbframes --about --help" ;;
-    noise) words="--seed --level --esn0 --quiet --progress --help" ;;
-    modes) words="--rate --modcod --short --quiet --help" ;;
+    run) words="--modcod --short --pilots --number --ro --dummy --seed --seeds --esn0 --level --tuned --uncertified --passes --rounds --factor --correction --divisor --turns --equalize --resync --lock --quiet --progress --figures --every --exit-by --strict --certificates --values --codewords --bbframes --about --help" ;;
+    noise) words="--seed --esn0 --level --quiet --progress --help" ;;
+    modes) words="--modcod --short --quiet --rate --help" ;;
     rows) words="--group --groups --q --weight --seed --quiet --help" ;;
     table) words="--modcod --short --quiet --help" ;;
-    judge) words="--group --groups --q --modcod --short --each --hard --cert --passes --uncertified --factor --correction --quiet --help" ;;
+    judge) words="--modcod --short --group --groups --q --each --hard --uncertified --passes --factor --correction --quiet --cert --help" ;;
     check) words="--each --quiet --help" ;;
-    audit) words="--modcod --short --pilots --number --ro --divisor --lock --turns --resync --equalize --tuned --figures --codewords --packets --about --help" ;;
-    compare) words="--group --groups --q --modcod --short --bbframes --bits --quiet --help" ;;
+    audit) words="--modcod --short --pilots --number --ro --tuned --divisor --turns --equalize --resync --lock --figures --about --packets --codewords --help" ;;
+    compare) words="--modcod --short --group --groups --q --bbframes --bits --quiet --help" ;;
     join) words="--modcod --short --help" ;;
-    stitch) words="--modcod --short --pilots --number --ro --rounds --passes --uncertified --divisor --factor --correction --lock --turns --resync --equalize --tuned --figures --every --exit-by --strict --quiet --progress --certificates --values --codewords --bbframes --about --again --help" ;;
+    stitch) words="--modcod --short --pilots --number --ro --tuned --uncertified --passes --rounds --factor --correction --divisor --turns --equalize --resync --lock --quiet --progress --figures --every --exit-by --strict --certificates --values --codewords --bbframes --about --again --help" ;;
     help) words="demod scan mod run noise modes rows table judge check audit compare join stitch" ;;
   esac
   if [[ $now == -* || ${COMP_WORDS[1]} == help ]]; then
