@@ -27,7 +27,7 @@ use Rattle.s2_settle.specs.Settled.{ended, if_strict, moved_view, moves_in, reac
 unfoldable use Rattle.s2_settle.specs.Settled.{is_strict}
 use Rattle.s2_split.specs.Making.{Shared, made_view, shared_views}
 use Rattle.s2_split.specs.Scattered.{repaired}
-use Rattle.s2_tuning.specs.Tuning.{Tuning}
+use Rattle.s2_tuning.specs.Tuning.{Tuning, rule_of}
 use Rattle.s2_records.specs.Records.{certificate_bytes}
 use Rattle.s2_records.specs.Recording.{IsReadBack, record_of, rounds_of, said_of}
 use Rattle.s2_stitch.specs.Frames.{IsSealed, IsTrueRecord, certificate_of, decision_by, file_in, frame_at}
@@ -78,7 +78,7 @@ module _ (r : Rows) (soft : List ℤ) where
     filed_with word (Some v) filed = filed
     filed_with word None filed = tt
 
-    filed_without : (b : Bool) → IsFiled r (if b then uncertified Parity (repaired (code_of r) soft) else uncertified Broken (decoded_bits r tuning.factor soft tuning.rounds)).certificate
+    filed_without : (b : Bool) → IsFiled r (if b then uncertified Parity (repaired (code_of r) soft) else uncertified Broken (decoded_bits r (rule_of tuning) soft tuning.rounds)).certificate
     filed_without true = tt
     filed_without false = tt
 
@@ -88,7 +88,7 @@ module _ (r : Rows) (soft : List ℤ) where
 
     filed_repair : (x : Option View) → IsFiled r x → IsFiled r (by_repair r tuning soft x).certificate
     filed_repair (Some v) filed = filed
-    filed_repair None filed = filed_min_sum (first_codeword r tuning.factor tuning.rounds soft)
+    filed_repair None filed = filed_min_sum (first_codeword r (rule_of tuning) tuning.rounds soft)
 
     filed_decided : IsFiled r (decided r tuning soft).certificate
     unfolding decided
