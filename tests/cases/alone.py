@@ -28,7 +28,16 @@ cmp sent.ts received.ts
 tools/live --jobs 2 --modcod qpsk3/4 --pilots --tuned rows < symbols > received.ts
 cmp sent.ts received.ts
 tools/strip sent.ts received.ts
-cmp sent.ts received.ts"""
+cmp sent.ts received.ts
+tools/vectors --made --modes qpsk3/4:normal:pilots --frames 1 modes
+tools/vectors --check modes
+python3 -c "import shutil; shutil.copytree('modes', 'device', ignore=shutil.ignore_patterns('rows', 'manifest.json', 'SHA256SUMS', 'packets.ts', 'noisy', 'values', 'certificates', 'report'))"
+tools/conform modes device
+tools/impair --modcod qpsk3/4 --pilots --with miss=5 rows symbols missing.sigmf-meta
+./s2 demod --modcod qpsk3/4 --pilots --bbframes frames rows symbols received.ts
+tools/pcap --modcod qpsk3/4 --pilots frames frames.pcap
+tools/pcap --back frames.pcap frames.again
+cmp frames frames.again"""
 # What needs GNU Radio.
 RADIO = """tools/rows --from-gnuradio standard
 examples/gnuradio/receive --rate 4 --rows tables oversampled.cf32 received.ts
