@@ -69,7 +69,7 @@ class Browser:
         return answer["result"]
 
     def open(self, address):
-        """Loads a page in a tab of its own."""
+        """Loads a page in a new tab."""
         target = self.command("Target.createTarget", url="about:blank")["targetId"]
         self.session = self.command("Target.attachToTarget", targetId=target, flatten=True)["sessionId"]
         for domain in ("Page", "Runtime", "DOM", "Network"):
