@@ -37,7 +37,9 @@ tools/impair --modcod qpsk3/4 --pilots --with miss=5 rows symbols missing.sigmf-
 ./s2 demod --modcod qpsk3/4 --pilots --bbframes frames rows symbols received.ts
 tools/pcap --modcod qpsk3/4 --pilots frames frames.pcap
 tools/pcap --back frames.pcap frames.again
-cmp frames frames.again"""
+cmp frames frames.again
+./s2 mod --modcod qpsk3/4 --pilots --codewords words rows sent.ts symbols
+tools/bracket --modcod qpsk3/4 --pilots rows words report certs"""
 # What needs GNU Radio.
 RADIO = """tools/rows --from-gnuradio standard
 examples/gnuradio/receive --rate 4 --rows tables oversampled.cf32 received.ts
