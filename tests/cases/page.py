@@ -22,7 +22,7 @@ CODES = {
 SPEEDS = [
     ("takes 0.26 ms in version 2", "the check of a certificate of moves 0.26 ms"),
     ("and 0.84 ms in version 1", "of listed shares 0.84 ms"),
-    ("noisy frames of QPSK 1/2 took 7.5 ms each at 3.1 dB", "Noisy frames of QPSK 1/2 took 7.5 ms each at 3.1 dB"),
+    ("noisy frames of QPSK 1/2 took 2.6 ms each at 3.1 dB", "Noisy frames of QPSK 1/2 took 2.6 ms each at 3.1 dB"),
 ]
 
 
