@@ -37,7 +37,13 @@ tools/impair --modcod qpsk3/4 --pilots --with miss=5 rows symbols missing.sigmf-
 ./s2 demod --modcod qpsk3/4 --pilots --bbframes frames rows symbols received.ts
 tools/pcap --modcod qpsk3/4 --pilots frames frames.pcap
 tools/pcap --back frames.pcap frames.again
-cmp frames frames.again"""
+cmp frames frames.again
+./s2 rows --group 4 --groups 20 --q 10 --weight 3 --seed 1 > small.rows
+tools/alist export --group 4 --groups 20 --q 10 small.rows small.alist
+python3 -c "print(*[9] * 240)" > small.values
+tools/alist judge small.alist small.values small.judged
+tools/alist check small.alist small.values small.judged
+tools/alist compare small.alist small.judged small.judged/words"""
 # What needs GNU Radio.
 RADIO = """tools/rows --from-gnuradio standard
 examples/gnuradio/receive --rate 4 --rows tables oversampled.cf32 received.ts
