@@ -60,6 +60,7 @@ BEGUN = {f"examples/gnuradio/{name}.py" for name in ("flow", "headers", "pulses"
 # Commands of pages, those that need other machines, a display or GNU Radio's tables, and the names that they have for our files.
 TYPED = re.compile(r"(?:\./s2 |tools/|examples/|export |python3 |printf |echo |cat |receiver \|)")
 NOT_HERE = re.compile(r"--hosts|--slurm|--from-gnuradio")
+CODES = "/usr/share/gnuradio/fec/ldpc"
 NAMES = [("--rate 2 ", "--rate 4 "), (" recording.cf32", " oversampled.cf32"), ("rows/", "tables/"), ("/path/to/", "standard/")]
 BLOCK = re.compile(r"^```(\w*)\n(.*?)^```$|^((?:    [^\n]*\n)+)", re.S | re.M)
 
@@ -114,6 +115,9 @@ class Place:
     def typed(self, line, lines):
         is_radio = "gnuradio" in line and not line.startswith("export")
         if NOT_HERE.search(line) or is_radio and not self.has_radio or over_library(line) and not self.has_library:
+            return
+        # only the packages of a distribution have GNU Radio's alist files there
+        if "gnuradio.alist" in line and not os.path.isdir(CODES):
             return
         for old, new in NAMES if is_radio else ():
             line = line.replace(old, new)
