@@ -39,7 +39,13 @@ tools/pcap --modcod qpsk3/4 --pilots frames frames.pcap
 tools/pcap --back frames.pcap frames.again
 cmp frames frames.again
 ./s2 mod --modcod qpsk3/4 --pilots --codewords words rows sent.ts symbols
-tools/bracket --modcod qpsk3/4 --pilots rows words report certs"""
+tools/bracket --modcod qpsk3/4 --pilots rows words report certs
+./s2 rows --group 4 --groups 20 --q 10 --weight 3 --seed 1 > small.rows
+tools/alist export --group 4 --groups 20 --q 10 small.rows small.alist
+python3 -c "print(*[9] * 240)" > small.values
+tools/alist judge small.alist small.values small.judged
+tools/alist check small.alist small.values small.judged
+tools/alist compare small.alist small.judged small.judged/words"""
 # What needs GNU Radio.
 RADIO = """tools/rows --from-gnuradio standard
 examples/gnuradio/receive --rate 4 --rows tables oversampled.cf32 received.ts
@@ -56,6 +62,7 @@ BEGUN = {f"examples/gnuradio/{name}.py" for name in ("flow", "headers", "pulses"
 # Commands of pages, those that need other machines, a display or GNU Radio's tables, and the names that they have for our files.
 TYPED = re.compile(r"(?:\./s2 |tools/|examples/|export |python3 |printf |echo |cat |receiver \|)")
 NOT_HERE = re.compile(r"--hosts|--slurm|--from-gnuradio")
+CODES = "/usr/share/gnuradio/fec/ldpc"
 NAMES = [("--rate 2 ", "--rate 4 "), (" recording.cf32", " oversampled.cf32"), ("rows/", "tables/"), ("/path/to/", "standard/")]
 BLOCK = re.compile(r"^```(\w*)\n(.*?)^```$|^((?:    [^\n]*\n)+)", re.S | re.M)
 
@@ -110,6 +117,9 @@ class Place:
     def typed(self, line, lines):
         is_radio = "gnuradio" in line and not line.startswith("export")
         if NOT_HERE.search(line) or is_radio and not self.has_radio or over_library(line) and not self.has_library:
+            return
+        # only the packages of a distribution have GNU Radio's alist files there
+        if "gnuradio.alist" in line and not os.path.isdir(CODES):
             return
         for old, new in NAMES if is_radio else ():
             line = line.replace(old, new)
