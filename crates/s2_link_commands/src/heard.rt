@@ -1,5 +1,5 @@
 //! A sink by which a meter knows of each frame. This is plain code.
-ghost use Rattle.std.specs.Prelude.{◌≡◌, ℕ, ⊥};
+ghost use Rattle.std.specs.Prelude.{◌≡◌, ℕ};
 
 use s2_io::Meter;
 use s2_mode::WriteFault;

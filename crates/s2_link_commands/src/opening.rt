@@ -3,6 +3,7 @@ ghost use Rattle.std.specs.Prelude.{◌≡◌, ◌^◌, ◌<◌, ◌≤◌, IfOk
 ghost use Rattle.std.specs.Option.{ForSome};
 ghost use Rattle.either.specs.Either.{either};
 ghost use Rattle.s2_io.specs.Files.{CanStart};
+ghost use Rattle.s2_resync.specs.Packets.{failed_of};
 
 use crate::beside::{Beside, open_beside};
 use crate::file_words::FileWords;
@@ -68,7 +69,7 @@ fn source_of<R: CountedRead + Drop>(
     resync: bool,
 ) -> Result<Source<R>, AllocError>
     requires { R.count reader ≡ 0 }
-    ensures { IfOk result (λ source. either R.count (λ p. p.failed) source.reader ≡ 0) }
+    ensures { IfOk result (λ source. either R.count failed_of source.reader ≡ 0) }
 {
     if !resync {
         return Ok(PacketSource::plain(reader));
