@@ -8,3 +8,5 @@ pub mod Scaling
 pub mod Products
 pub mod MessageLemmas
 pub mod ReaderLemmas
+pub mod FindingLemmas
+pub mod FramesLemmas

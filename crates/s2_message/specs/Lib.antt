@@ -4,3 +4,5 @@ pub mod Correlation
 pub mod Figures
 pub mod Decisions
 pub mod Reading
+pub mod Finding
+pub mod Frames

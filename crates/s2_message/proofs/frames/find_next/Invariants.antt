@@ -2,8 +2,8 @@ use Rattle.std.proofs.Common.{◌≡◌, ◌-◌, None, length}
 use Rattle.s2_message.specs.Reading.{IsSameReader}
 use Rattle.s2_receive.specs.Synchronization.{reached}
 use Rattle.s2_receive.specs.Halves.{IsSameFollower}
-use Rattle.s2_replay.specs.Running.{GoesOn}
-use Rattle.s2_replay.proofs.replayer.find_next.Given as goal
+use Rattle.s2_message.specs.Finding.{GoesOn}
+use Rattle.s2_message.proofs.frames.find_next.Given as goal
 
 -- symbols were taken, and nothing was found in them; no read failed
 abbrev pub invariant-reading : goal.invariant-reading

@@ -4,13 +4,13 @@ use Rattle.std.specs.Int.{cast_signed, cast_unsigned}
 use Rattle.s2_check.specs.CertificateFiles.{view_of}
 use Rattle.s2_replay.specs.Certificates.{Certifies, Shows}
 use Rattle.s2_replay.specs.Frames.{cost_of, terms_of}
-use Rattle.s2_replay.specs.Replay.{decision_on}
+use Rattle.s2_message.specs.Decisions.{decision_on}
 use Rattle.s2_replay.proofs.BorneOut.{audits_so, bits_is, borne_certified, certificate_is, known_is, rounds_is, shown_block, verdict_is}
-use Rattle.s2_replay.proofs.replayer.Replayer.audit_certified.Goals as goal
+use Rattle.s2_replay.proofs.frames.audit_certified.Goals as goal
 
 pub returns-in-Word-clause-audits : goal.returns-in-Word-clause-audits
 returns-in-Word-clause-audits c =
-    let was = c.args.self.now in
+    let was = c.args.frames.now in
     let t = terms_of c.args.matrix.now was in
     let verdict = c.in-Word.verdict in
     let bits = c.read_certificate.new.word in

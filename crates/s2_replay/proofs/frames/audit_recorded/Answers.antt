@@ -1,12 +1,12 @@
 use Rattle.std.proofs.Common.{None, ap, sym}
 use Rattle.s2_replay.specs.Frames.{cost_of, terms_of}
-use Rattle.s2_replay.specs.Replay.{decision_on}
+use Rattle.s2_message.specs.Decisions.{decision_on}
 use Rattle.s2_replay.proofs.BorneOut.{audits_so, bits_is, borne_recorded, certificate_is, known_is, rounds_is, verdict_is}
-use Rattle.s2_replay.proofs.replayer.Replayer.audit_recorded.Goals as goal
+use Rattle.s2_replay.proofs.frames.audit_recorded.Goals as goal
 
 pub returns-clause-audits : goal.returns-clause-audits
 returns-clause-audits c =
-    let was = c.args.self.now in
+    let was = c.args.frames.now in
     let t = terms_of c.args.matrix.now was in
     let verdict = c.parity_verdict-verdict.result in
     let bits = c.args.word.now in
