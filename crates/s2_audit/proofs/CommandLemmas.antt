@@ -14,7 +14,7 @@ use Rattle.s2_link.specs.Link.{Link, link_of}
 use Rattle.s2_link.specs.declared.setup.Setup.{Setup}
 use Rattle.s2_inputs.specs.Inputs.{rows_in}
 use Rattle.s2_receive.specs.Halves.{Follower}
-use Rattle.s2_replay.specs.Running.{IsStuck}
+use Rattle.s2_receive.specs.Finding.{IsStuck}
 use Rattle.s2_audit.specs.Audits.{ReachesLimit}
 use Rattle.s2_audit.specs.Commands.{AuditExits, AuditRuns, AuditsLink, Causes, Files, ReadFailed}
 use Rattle.s2_audit.specs.Turns.{Ends, FailedOnce, Failures, SameFailures, total}

@@ -7,7 +7,7 @@ use Rattle.s2_check.specs.Verdicts.{is_certified}
 use Rattle.s2_check.specs.declared.verdict.Verdict.{Verdict}
 use Rattle.s2_receive.specs.declared.window.Next.{Next}
 use Rattle.s2_replay.specs.Frames.{AuditsFrame, terms_of}
-use Rattle.s2_replay.specs.Replayers.{Replayer}
+use Rattle.s2_message.specs.Frames.{Frames}
 use Rattle.s2_replay.specs.declared.frames.Audited.{Audited}
 use Rattle.s2_audit.specs.Limits.{certificate_bytes}
 use Rattle.s2_replay.specs.declared.frames.Audited.TheVariants as audits
@@ -52,11 +52,11 @@ answers_certified old mid new found verdict line before after size recorded audi
   where
     h : AuditsFrame (terms_by old) old.replayer.follower new.replayer.follower found (Some block) old.replayer.soft new.word line audited
     h =
-        let one = subst (λ (r : Replayer). AuditsFrame (terms_of mid.rows r) r.follower new.replayer.follower found (Some block) r.soft new.word line audited) replayer audits' in
+        let one = subst (λ (r : Frames). AuditsFrame (terms_of mid.rows r) r.follower new.replayer.follower found (Some block) r.soft new.word line audited) replayer audits' in
         subst (λ (m : Rows). AuditsFrame (terms_of m old.replayer) old.replayer.follower new.replayer.follower found (Some block) old.replayer.soft new.word line audited) rows one
 
     sized : length block ≡ certificate_bytes old.replayer.follower.sought.mode
-    sized = long ∙ ap (λ (r : Replayer). certificate_bytes r.follower.sought.mode) replayer
+    sized = long ∙ ap (λ (r : Frames). certificate_bytes r.follower.sought.mode) replayer
 
     taken : (packed : Option (List ℕ)) → TakesCodeword (n_of old.replayer.follower.sought.mode) before.codewords after.codewords packed → Takes old.replayer.follower.sought.mode before after (Some block) packed
     taken packed takes' = record { certificate = read; sized = sized; codeword = takes' }

@@ -28,12 +28,12 @@ use Rattle.s2_replay.specs.Auditing.{AuditedFrames, AuditedSoFar, ReplaysIn}
 use Rattle.s2_replay.specs.Expected.{ExpectsNext, line_by, packets_by}
 use Rattle.s2_replay.specs.Frames.{HasRounds, IsLastOf, IsOwnLine, IsShownBy, SettlesBy}
 use Rattle.s2_replay.specs.Packets as files
-use Rattle.s2_replay.specs.Replay.{IsBorneOut, IsFrameLine, IsReplay, Terms, are_known, claimed_decision, is_known, rules_for}
-use Rattle.s2_replay.specs.Replayers.{IsFrame, IsFrameAt}
+use Rattle.s2_replay.specs.Replay.{IsBorneOut, IsFrameLine, IsReplay, Terms, are_known, is_known, rules_for}
+use Rattle.s2_message.specs.Frames.{IsFrame, IsFrameAt}
 use Rattle.s2_replay.specs.Certificates.{Shows}
 use Rattle.s2_replay.specs.declared.certificates.Refusal.{Refusal}
 use Rattle.s2_replay.specs.declared.certificates.Shown.TheVariants as shown
-use Rattle.s2_message.specs.Decisions.{soft_frame}
+use Rattle.s2_message.specs.Decisions.{claimed_decision, soft_frame}
 use Rattle.s2_replay.proofs.AuditLemmas.{audited_on, frames_on}
 use Rattle.s2_replay.proofs.ExpectedLemmas.{certified, expects, expects_last, refused, same_decision, same_word, settled}
 use Rattle.s2_audit.specs.Differences.{ClaimsOther, Differs, DiffersAt, DiffersIf, HasMoreIf, HasOtherLast, HasOtherLine, IsOtherLine, LacksEvidence, LeavesOver, Meets, rests_of}

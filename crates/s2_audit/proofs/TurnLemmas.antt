@@ -19,14 +19,15 @@ use Rattle.s2_receive.specs.declared.report.Phase.{Phase}
 use Rattle.s2_receive.specs.declared.report.Phase.TheVariants as phases
 use Rattle.s2_receive.specs.declared.window.Next.{Next}
 use Rattle.s2_receive.specs.declared.window.Next.TheVariants as next
-use Rattle.s2_message.specs.Decisions.{soft_frame}
+use Rattle.s2_message.specs.Decisions.{claimed_decision, soft_frame}
 use Rattle.s2_replay.specs.Auditing.{AuditedSoFar}
 use Rattle.s2_replay.specs.Certificates.{Shows}
-use Rattle.s2_replay.specs.Frames.{AuditsClaim, AuditsFrame, AuditsLast, HoldsSoft, IsLastOf, terms_of}
-use Rattle.s2_replay.specs.Replay.{Terms, claimed_decision, is_known, rules_for}
+use Rattle.s2_replay.specs.Frames.{AuditsClaim, AuditsFrame, AuditsLast, IsLastOf, terms_of}
+use Rattle.s2_replay.specs.Replay.{Terms, is_known, rules_for}
 use Rattle.s2_rows.specs.Rows.{Rows}
-use Rattle.s2_replay.specs.Replayers.{IfFrame, IsFrame, IsSameReplayer, Replayer}
-use Rattle.s2_replay.specs.Running.{EndsAfterCut, GoesOn, IsBy}
+use Rattle.s2_message.specs.Frames.{Frames, HoldsSoft, IfFrame, IsFrame, IsSameFrames}
+use Rattle.s2_receive.specs.Finding.{EndsAfterCut, GoesOn}
+use Rattle.s2_replay.specs.Running.{IsBy}
 use Rattle.s2_replay.specs.declared.certificates.Refusal.{Refusal}
 use Rattle.s2_replay.specs.declared.certificates.Refusal.TheVariants as refusals
 use Rattle.s2_replay.specs.declared.certificates.Shown.TheVariants as shown
@@ -65,7 +66,7 @@ and_unknown true = refl
 and_unknown false = refl
 
 goes_nowhere : (f : Follower) (left : Option (List ℕ)) → GoesOn f f left left
-goes_nowhere f left t whole decisions lines packets ran = ran
+goes_nowhere f left = ([], (refl, refl))
 
 word_is : (packed : Option (List ℕ)) (word bits : List Bool) → bits ≡ word → IsWordOf packed word → IsWordOf packed bits
 word_is None word bits is h = tt
@@ -459,10 +460,10 @@ judge_fails t old new f f' p fault h = h
 
 -- ---- soft values
 
-pub holds_after : (old new : Replayer) → IsSameReplayer old new → new.soft ≡ soft_frame old.follower.sought.mode old.number old.options new.follower.frame → HoldsSoft new
+pub holds_after : (old new : Frames) → IsSameFrames old new → new.soft ≡ soft_frame old.follower.sought.mode old.number old.options new.follower.frame → HoldsSoft new
 holds_after old new same is = is ∙ sym (λ i. soft_frame (same.follower.sought i).mode (same.number i) (same.options i) new.follower.frame)
 
-pub if_holds : (found : Option Next) (old new : Replayer) → IsSameReplayer old new → IfFrame found (new.soft ≡ soft_frame old.follower.sought.mode old.number old.options new.follower.frame) → IfFrame found (HoldsSoft new)
+pub if_holds : (found : Option Next) (old new : Frames) → IsSameFrames old new → IfFrame found (new.soft ≡ soft_frame old.follower.sought.mode old.number old.options new.follower.frame) → IfFrame found (HoldsSoft new)
 if_holds None old new same h = tt
 if_holds (Some (next.Frame at skipped)) old new same h = holds_after old new same h
 if_holds (Some (next.Cut at skipped count)) old new same h = tt

@@ -9,7 +9,7 @@ use Rattle.s2_io.specs.declared.fault.Fault.TheVariants as faults
 use Rattle.s2_report.specs.Entries.{text_of}
 use Rattle.s2_receive.specs.Halves.{Follower}
 use Rattle.s2_replay.specs.Replay.{Terms}
-use Rattle.s2_replay.specs.Running.{IsStuck}
+use Rattle.s2_receive.specs.Finding.{IsStuck}
 use Rattle.s2_audit.specs.Differences.{Differs, Fails, LeavesOver, rests_of}
 use Rattle.s2_audit.specs.Limits.{max_lines}
 use Rattle.s2_audit.specs.Lines.{difference_line, end_line}

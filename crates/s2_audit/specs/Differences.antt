@@ -17,13 +17,14 @@ use Rattle.s2_report.specs.declared.report.Step.{Step}
 use Rattle.s2_receive.specs.Halves.{Follower, Settles}
 use Rattle.s2_receive.specs.Receiving.{Decision}
 use Rattle.s2_receive.specs.declared.window.Next.{Next}
-use Rattle.s2_message.specs.Decisions.{soft_frame}
+use Rattle.s2_message.specs.Decisions.{claimed_decision, soft_frame}
 use Rattle.s2_replay.specs.Certificates.{Shows}
 use Rattle.s2_replay.specs.Frames.{AuditsClaim, IsLastOf, IsOwnLine, SettlesBy}
 use Rattle.s2_replay.specs.Packets as files
-use Rattle.s2_replay.specs.Replay.{Terms, claimed_decision}
-use Rattle.s2_replay.specs.Replayers.{IsFrame, IsFrameAt}
-use Rattle.s2_replay.specs.Running.{GoesOn, IsBy}
+use Rattle.s2_replay.specs.Replay.{Terms}
+use Rattle.s2_message.specs.Frames.{IsFrame, IsFrameAt}
+use Rattle.s2_receive.specs.Finding.{GoesOn}
+use Rattle.s2_replay.specs.Running.{IsBy}
 use Rattle.s2_replay.specs.declared.certificates.Shown.TheVariants as shown
 use Rattle.s2_replay.specs.declared.certificates.Refusal.{Refusal}
 use Rattle.s2_replay.specs.declared.frames.AuditedClaim.{AuditedClaim}

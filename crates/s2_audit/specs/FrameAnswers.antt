@@ -16,7 +16,7 @@ use Rattle.s2_receive.specs.Receiving.{Decision}
 use Rattle.s2_receive.specs.declared.window.Next.{Next}
 use Rattle.s2_replay.specs.Frames.{AuditsClaim, AuditsFrame, IsShownBy, terms_of}
 use Rattle.s2_replay.specs.Replay.{IsBorneOut, Terms}
-use Rattle.s2_replay.specs.Replayers.{Replayer}
+use Rattle.s2_message.specs.Frames.{Frames}
 use Rattle.s2_audit.specs.Evidences.{Evidence, EndsWithin, EndsWithinIf, IsMissing, IsUnknownIf, IsWordOf, Takes, TakesCodeword, cut_fault}
 use Rattle.s2_audit.specs.Limits.{certificate_bytes}
 use Rattle.s2_audit.specs.declared.how.How.{How}
@@ -40,19 +40,19 @@ terms_for link how = record {
   resync = how.resync;
 }
 
--- the rows of a code, a replayer, the bits that were decided last, and those of the last record of a codeword
+-- the rows of a code, the frames of a recording, the bits that were decided last, and those of the last record of a codeword
 pub record FrameAuditor : Type 0 where
   pub rows : Rows
-  pub replayer : Replayer
+  pub replayer : Frames
   pub word : List Bool
   pub recorded : List Bool
 
--- the terms of its replayer
+-- the terms of its frames
 abbrev pub terms_by : FrameAuditor → Terms
 terms_by a = terms_of a.rows a.replayer
 
 -- the rows are of the frames' code, and each buffer has its size
-pub record IsFrameAuditor (rows : Rows) (replayer : Replayer) (word recorded : List Bool) (block packed : List ℕ) : Type 0 where
+pub record IsFrameAuditor (rows : Rows) (replayer : Frames) (word recorded : List Bool) (block packed : List ℕ) : Type 0 where
   pub shape : code_bits rows.shape ≡ n_of replayer.follower.sought.mode
   pub code : (code_of rows).bits ≡ n_of replayer.follower.sought.mode
   pub word_long : length word ≡ n_of replayer.follower.sought.mode
@@ -63,7 +63,7 @@ pub record IsFrameAuditor (rows : Rows) (replayer : Replayer) (word recorded : L
   pub block_some : 0 < length block
 
 -- no certificate is left; or the frame was audited by these bytes, and its bits are these. Or the certificates end within one
-abbrev pub AuditsBlock : Rows → (old new : Replayer) → Next → (line block : List ℕ) → (word : List Bool) → (certificates certificates_new : Option (List ℕ)) → Result ByCertificate Fault → Type 0
+abbrev pub AuditsBlock : Rows → (old new : Frames) → Next → (line block : List ℕ) → (word : List Bool) → (certificates certificates_new : Option (List ℕ)) → Result ByCertificate Fault → Type 0
 AuditsBlock rows old new found line block word c c' (Ok Missing) = Consumes c c' [] × IsAtEnd c' × (new ≡ old)
 AuditsBlock rows old new found line block word c c' (Ok (Judged audited)) =
     Consumes c c' block × AuditsFrame (terms_of rows old) old.follower new.follower found (Some block) old.soft word line audited

@@ -2,8 +2,9 @@
 ghost use Rattle.std.specs.Prelude.{◌≡◌, ◌≢◌, ◌+◌, ◌^◌, ◌<◌, Err, None};
 ghost use Rattle.s2_mode.specs.Counts.{CanCount};
 ghost use Rattle.s2_receive.specs.Receiving.{begun};
-ghost use Rattle.s2_replay.specs.Replayers.{IsSameReplayer};
-ghost use Rattle.s2_replay.specs.Running.{IsBy, IsStuck};
+ghost use Rattle.s2_message.specs.Frames.{IsSameFrames as IsSameReplayer};
+ghost use Rattle.s2_receive.specs.Finding.{IsStuck};
+ghost use Rattle.s2_replay.specs.Running.{IsBy};
 ghost use Rattle.s2_audit.specs.Audits.{AuditsAll, ReachesLimit};
 ghost use Rattle.s2_receive.specs.Sinks.{wanted_count};
 ghost use Rattle.s2_audit.specs.FrameAnswers.{terms_by};

@@ -3,17 +3,17 @@ ghost use Rattle.std.specs.Prelude.{◌≡◌, ◌≢◌, ◌+◌, ◌≤◌, �
 ghost use Rattle.s2_mode.specs.Counts.{CanCount};
 ghost use Rattle.s2_mode.specs.Mode.{n_of};
 ghost use Rattle.s2_mode.specs.Shape.{code_bits};
-ghost use Rattle.s2_replay.specs.Frames.{HoldsSoft};
-ghost use Rattle.s2_replay.specs.Replayers.{IsFrame, IsSameReplayer};
+ghost use Rattle.s2_message.specs.Frames.{HoldsSoft, IsFrame, IsSameFrames as IsSameReplayer};
 ghost use Rattle.s2_audit.specs.Evidences.{ReadsRecord};
 ghost use Rattle.s2_audit.specs.FrameAnswers.{AuditsBlock};
 
 use s2_bits::Bits;
 use s2_io::Fault;
 use s2_matrix::Matrix;
+use s2_message::Frames as Replayer;
 use s2_mode::{CountedRead, FaultText, read_full};
 use s2_receive::Next;
-use s2_replay::{Audited, Replayer};
+use s2_replay::{Audited, audit_certified};
 use std::alloc::Global;
 
 /// Reads the next record of a file of this name into a buffer of its size. False if no record is left. The fault of a file that ends
@@ -76,7 +76,7 @@ pub(crate) fn audit_by_certificate<R: CountedRead>(
     if !read_record(certificates, block, "certificate: ")? {
         return Ok(ByCertificate::Missing);
     }
-    match replayer.audit_certified(alloc, matrix, found, block, word, line) {
+    match audit_certified(replayer, alloc, matrix, found, block, word, line) {
         Ok(audited) => Ok(ByCertificate::Judged(audited)),
         Err(_) => Err(Fault::NoMemory),
     }

@@ -3,9 +3,10 @@ ghost use Rattle.std.specs.Prelude.{◌≡◌, ◌≢◌, ◌↔◌, ◌⊎◌, 
 ghost use Rattle.s2_mode.specs.Counts.{CanCount};
 ghost use Rattle.s2_mode.specs.Mode.{n_of};
 ghost use Rattle.s2_receive.specs.Receiving.{begun};
-ghost use Rattle.s2_replay.specs.Frames.{AuditsFrame, AuditsLast, HoldsSoft};
-ghost use Rattle.s2_replay.specs.Running.{EndsAfterCut, GoesOn, IsBy, IsStuck};
-ghost use Rattle.s2_replay.specs.Replayers.{IfFrame, IsFrame, IsFrameAt, IsSameReplayer};
+ghost use Rattle.s2_replay.specs.Frames.{AuditsFrame, AuditsLast};
+ghost use Rattle.s2_receive.specs.Finding.{EndsAfterCut, GoesOn, IsStuck};
+ghost use Rattle.s2_replay.specs.Running.{IsBy};
+ghost use Rattle.s2_message.specs.Frames.{HoldsSoft, IfFrame, IsFrame, IsFrameAt, IsSameFrames as IsSameReplayer};
 ghost use Rattle.s2_audit.specs.Evidences.{TakesRecord, evidence_by};
 ghost use Rattle.s2_receive.specs.Sinks.{wanted_count};
 ghost use Rattle.s2_audit.specs.FrameAnswers.{Answers, AnswersWith, ByBlock, terms_by, terms_for};
@@ -18,9 +19,10 @@ use s2_check::Verdict;
 use s2_io::Fault;
 use s2_link::Link;
 use s2_matrix::Matrix;
+use s2_message::Frames as Replayer;
 use s2_mode::{CountedRead, Mode};
 use s2_receive::Next;
-use s2_replay::{Audited, AuditedClaim, AuditedLast, Replayer};
+use s2_replay::{Audited, AuditedClaim, AuditedLast, audit_claimed, audit_last, audit_recorded};
 use s2_report::Totals;
 use std::alloc::{AllocError, Global};
 use std::marker::Model;
@@ -254,8 +256,7 @@ impl<'a> FrameAuditor<'a> {
         ensures rows { self.new.rows ≡ self.old.rows }
         ensures same { IsSameReplayer self.old.replayer self.new.replayer }
     {
-        self.replayer
-            .audit_recorded(self.matrix, found, &self.recorded, line)
+        audit_recorded(&mut self.replayer, self.matrix, found, &self.recorded, line)
     }
 
     /// Audits the frame that was found, whose line says this verdict.
@@ -292,7 +293,13 @@ impl<'a> FrameAuditor<'a> {
         }
         match recorded {
             Recorded::Taken => Ok(FrameAnswer::Judged(self.by_record(found, line))),
-            _ => Ok(FrameAnswer::Claimed(self.replayer.audit_claimed(found, at, verdict, line))),
+            _ => Ok(FrameAnswer::Claimed(audit_claimed(
+                &mut self.replayer,
+                found,
+                at,
+                verdict,
+                line,
+            ))),
         }
     }
 
@@ -303,7 +310,7 @@ impl<'a> FrameAuditor<'a> {
         ensures rows { self.new.rows ≡ self.old.rows }
         ensures same { IsSameReplayer self.old.replayer self.new.replayer }
     {
-        self.replayer.audit_last(found, known, line)
+        audit_last(&mut self.replayer, found, known, line)
     }
 
     /// The packets that end in the frame of the last step.

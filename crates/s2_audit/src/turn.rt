@@ -2,9 +2,9 @@
 ghost use Rattle.std.specs.Prelude.{◌≡◌, ◌≢◌, ◌+◌, ◌*◌, ◌^◌, ◌<◌, [], Err, None, Some, option_map};
 ghost use Rattle.s2_bbframe.specs.Limits.{packet_bytes};
 ghost use Rattle.s2_mode.specs.Counts.{CanCount};
-ghost use Rattle.s2_replay.specs.Frames.{HoldsSoft};
-ghost use Rattle.s2_replay.specs.Replayers.{IfFrame, IsFrameAt, IsSameReplayer};
-ghost use Rattle.s2_replay.specs.Running.{IsBy, IsStuck};
+ghost use Rattle.s2_message.specs.Frames.{HoldsSoft, IfFrame, IsFrameAt, IsSameFrames as IsSameReplayer};
+ghost use Rattle.s2_receive.specs.Finding.{IsStuck};
+ghost use Rattle.s2_replay.specs.Running.{IsBy};
 ghost use Rattle.s2_audit.specs.Differences.{ReadsLine, packet_number};
 ghost use Rattle.s2_audit.specs.Evidences.{evidence_by};
 ghost use Rattle.s2_receive.specs.Sinks.{wanted_count};

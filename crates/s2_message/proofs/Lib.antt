@@ -8,3 +8,4 @@ pub mod Scaling
 pub mod Products
 pub mod MessageLemmas
 pub mod ReaderLemmas
+pub mod FramesLemmas

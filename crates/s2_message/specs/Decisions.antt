@@ -1,5 +1,5 @@
 -- The decision on a frame's symbols by given bits, and the message delivered (EN 302 307-1, 5.1 to 5.5).
-use Rattle.std.specs.Prelude.{ℕ, ◌/◌, Bool, if◌then◌else◌, List, take, Option, Some, None, Result, Ok, Err, ℤ}
+use Rattle.std.specs.Prelude.{ℕ, ◌/◌, Bool, true, false, if◌then◌else◌, List, [], take, Option, Some, None, Result, Ok, Err, ℤ}
 use Rattle.s2_mode.specs.Limits.{header_symbols}
 use Rattle.s2_mode.specs.Mode.{Mode, kbch_of, k_of}
 use Rattle.s2_mode.specs.declared.symbols.Symbol.{Symbol}
@@ -8,6 +8,7 @@ use Rattle.s2_check.specs.Views.{View}
 use Rattle.s2_check.specs.declared.verdict.Verdict.{Verdict}
 use Rattle.s2_bbframe.specs.declared.header.Header.{Header}
 use Rattle.s2_bbframe.specs.declared.header.HeaderFault.{HeaderFault}
+use Rattle.s2_bbframe.specs.Limits.{no_syncd}
 use Rattle.s2_bbframe.specs.Headers.{header_of_bytes}
 use Rattle.s2_scramble.specs.Baseband.{scrambled}
 use Rattle.s2_plframe.specs.Payload.{received_payload}
@@ -123,3 +124,29 @@ measured d figures energy turn = record d { figures = figures; energy = energy; 
 abbrev pub decision_with : Mode → ℕ → FrameOptions → List Symbol → List ℤ → Verdict → List Bool → Option View → (rounds : ℕ) → Decision
 decision_with m number options symbols soft verdict bits certificate rounds =
     measured (bits_decision m soft verdict bits certificate) (figures_with m number options symbols soft bits rounds) (energy_of (take header_symbols symbols)) (quarters m options symbols)
+
+-- the same, with the soft values of these symbols
+abbrev pub decision_on : Mode → ℕ → FrameOptions → List Symbol → Verdict → List Bool → Option View → (rounds : ℕ) → Decision
+decision_on m number options symbols verdict bits certificate rounds = decision_with m number options symbols (soft_frame m number options symbols) verdict bits certificate rounds
+
+-- ---- unknown bits
+
+-- The delivery of a frame with unknown bits: nothing if it is lost, else a data field without a byte
+abbrev pub claimed_field : (lost : Bool) → Option (Header × List ℕ)
+claimed_field true = None
+claimed_field false = Some (record { roll_off = 0; second = 0; dfl = 0; syncd = no_syncd }, [])
+
+-- the decision on a frame on a report's word. No bit of it is known
+abbrev pub claimed_decision : Verdict → (lost : Bool) → Decision
+claimed_decision verdict lost = record {
+  soft = [];
+  bits = [];
+  verdict = verdict;
+  certificate = None;
+  message = [];
+  outcome = if lost then NoWord else Delivered 0;
+  delivered = claimed_field lost;
+  figures = None;
+  energy = 0;
+  turn = 0;
+}

@@ -4,3 +4,4 @@ pub mod Correlation
 pub mod Figures
 pub mod Decisions
 pub mod Reading
+pub mod Frames

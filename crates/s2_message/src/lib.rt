@@ -7,10 +7,16 @@
 //! data field. Both do exactly what the definitions say ([`FrameOptions`] selects the rotation, the equalizer and the
 //! figures). No decoder of the LDPC code is below this crate.
 //!
+//! [`Frames`] are the receiver's loop over a stream, by decisions that are given. [`Frames::find`] reads up to the next thing, and
+//! finds the soft values of a frame. [`Frames::settle`] handles the frame by decided bits and their verdict. Then the step, its line
+//! and its packets are those of the receiver that came to this decision. [`Frames::claim`] takes a frame on a report's word.
+//! [`Frames::room`] and [`Frames::seek`] are the first half without input.
+//!
 //! ```text
-//! let mut reader = FrameReader::new(alloc, mode, number, options)?;
-//! reader.find_soft(&symbols, &mut soft);
-//! let decided = reader.read(&symbols, &soft, &word, verdict, rounds);
+//! let mut frames = Frames::new(alloc, mode, number, options, max_header_errors, resync)?;
+//! let next = frames.find(&mut symbols)?;
+//! let verdict = judge(frames.soft());
+//! let step = frames.settle(next, verdict, rounds, &word);
 //! ```
 #![tactic(auto)]
 
@@ -23,6 +29,7 @@ mod derotator;
 mod distances;
 mod errors;
 mod figures;
+mod frames;
 mod header;
 mod message;
 mod meter;
@@ -30,5 +37,6 @@ mod options;
 mod pilots;
 mod reader;
 
+pub use frames::Frames;
 pub use options::FrameOptions;
 pub use reader::FrameReader;

@@ -9,6 +9,7 @@ pub mod StepLemmas
 pub mod HalfLemmas
 pub mod OwnRuns
 pub mod RunsSoFar
+pub mod FindingLemmas
 pub mod ReadLemmas
 pub mod NextLemmas
 pub mod RunLemmas

@@ -30,7 +30,7 @@ pub use Rattle.s2_bbframe.proofs.RoundTrips.{round_trip}
 pub use Rattle.s2_bbframe.proofs.Runs.{length_closed}
 pub use Rattle.s2_bbframe.specs.DataStream.{IsPacket, closed_body, stream_of, cuts, fields_of, header_at}
 pub use Rattle.s2_bbframe.specs.Joining.{Placed, closed_in, gap, Joined, step, still, begun_body, incomplete_in, incomplete, and_then, joining, field, events_from}
-pub use Rattle.s2_receive.specs.Answers.{RunAnswers, BreaksIn, OnFrame, IsSame, KeepsLast, KeepsDecision, Reads, Seen, Finds, FindsNone, NextAnswers, bytes_by, seen_by}
+pub use Rattle.s2_receive.specs.Answers.{RunAnswers, BreaksIn, OnFrame, IsSame, KeepsLast, KeepsDecision, Seen, Finds, FindsNone, NextAnswers, bytes_by, seen_by}
 pub use Rattle.s2_receive.specs.Faults.{fault_of}
 pub use Rattle.s2_receive.specs.Synchronization.{Window, Synchronizer, window_at, window_of, window_after, passed_by, inside_of, reached, room_for, wanted, met_within, met_then, Follows, MayFollow, Takes, HoldsAfter, HoldsFor, HoldsFrame, HoldsLast, IsInFront, RestOfLost, Scans, NextCoded, Candidate, IsBehind, met_of, found_last, NoHeader}
 pub use Rattle.s2_receive.specs.Laws.{joined, met_events, events_of, IsJoined, Piece, coded, dummy, stream_symbols, AreReceived, frames_at, SkippedNone, Gives, FrontLaw, SpellSymbols, GoOn, HasGiven, SameRunLaw, SameStepLaw, NoneBegins, SearchLaw, IsResumed, ResumeLaw, behind_at}

@@ -1,7 +1,5 @@
 -- What is read up to a step.
-use Rattle.s2_receive.proofs.Names.{◌≡◌, ◌≢◌, ℕ, ◌+◌, ◌-◌, ◌*◌, ◌/◌, ◌<◌, arith, inl, inr, ◌⊎◌, min, min-le_right, le-min, ◌≤◌, nat_eq, eqb-true, eq-eqb, ne_eqb, cases_eq, true, List, [], ◌∷◌, ◌++◌, length, length-append, Option, Some, None, Ok, Err, refl, sym, ap, ◌∙◌, subst, Consumes, Consumes-trans, IsAtEnd, Symbol, symbols_of, Met, ended, no_gap, Bool, false, Window, Follows, Rules, searched_again, room_in, room_for, State, Decision, Phase, YieldsMet, EndsAt, Steps, Waits, Handles, IsDecided, left_by, left_known, met_left, left_in, met_within, phase_after, taken, asked, asked_by, after, packets_of, step_of, Meets, Reaches, EndsBehind, StopsShort, Step, Receiver, Reads, Finds, FindsNone, Seen, KeepsLast, IsLive, is_at_frame, rules_of, seen_by, wanted}
-use Rattle.s2_mode.specs.Mode.{symbols_in}
-use Rattle.s2_mode.specs.declared.counts.ReadFault.{ReadFault}
+use Rattle.s2_receive.proofs.Names.{◌≡◌, ◌≢◌, ℕ, ◌+◌, ◌-◌, ◌*◌, ◌/◌, ◌<◌, arith, inl, inr, ◌⊎◌, min, min-le_right, le-min, ◌≤◌, nat_eq, eqb-true, eq-eqb, ne_eqb, cases_eq, true, List, [], ◌∷◌, ◌++◌, length, length-append, Option, Some, None, refl, sym, ap, ◌∙◌, subst, Consumes, Consumes-trans, IsAtEnd, symbols_of, Met, ended, no_gap, Bool, false, Window, Follows, Rules, searched_again, room_in, State, Decision, Phase, YieldsMet, EndsAt, Steps, Waits, Handles, IsDecided, left_by, left_known, met_left, left_in, met_within, phase_after, taken, asked, asked_by, after, packets_of, step_of, Meets, Reaches, EndsBehind, StopsShort, Step, IsLive, wanted}
 use Rattle.s2_receive.proofs.Names.phases
 use Rattle.s2_receive.proofs.SymbolLists.{count_symbols, yields, yields_nil, reaches_trans}
 use Rattle.s2_receive.proofs.MetLemmas.{meets_nil, meets-trans}
@@ -176,72 +174,9 @@ module _ (rules : Rules) (old cur : State) (a b : Option (List ℕ)) (so : Waite
         cause = λ other. absurd (other failed);
       }
 
--- ---- so from one receiver to the other
-
-pub at_frame : (phase : Phase) → is_at_frame phase ≡ true → phase ≡ phases.Searching
-at_frame phases.Searching is = refl
-at_frame phases.Closing is = cc
-at_frame phases.Ended is = cc
-at_frame phases.Failed is = cc
-
-module _ {D : Type 0} (decide : D → List Symbol → Decision) (last : D → Decision) (first cur new : Receiver D) (a b c : Option (List ℕ)) (same : rules_of decide cur ≡ rules_of decide first)
-    (so : Waited (rules_of decide first) first.state cur.state a b) (kept : last cur.decider ≡ last first.decider) (live : IsLive cur.state.phase) where
-  abbrev rules : Rules
-  rules = rules_of decide first
-
-  pub waits_more : Reads (seen_by decide last cur) (seen_by decide last new) b c (Ok None)
-      → Waited rules first.state new.state a c × (last new.decider ≡ last first.decider) × IsLive new.state.phase × (0 < asked rules cur.state → taken cur.state < taken new.state) × (taken new.state ≤ cur.limit)
-  waits_more (bytes, read, end, advances) =
-      let waits = subst (λ (x : Rules). Waits x cur.state new.state (symbols_of bytes) (nat_eq (length bytes) (asked x cur.state))) same (advances.live live).0 in
-      let all = eqb-true (length bytes) (asked rules cur.state) waits.all in
-      let (n, four) = asked_four rules cur.state.phase cur.state.window in (
-        waited_on rules first.state cur.state new.state a b c so bytes waits read,
-        advances.kept ∙ kept,
-        subst IsLive (sym waits.phase) live,
-        λ some. omega (arith, waits.taken_are, count_symbols bytes, all, four, some),
-        advances.bounded,
-      )
-
-  pub steps_now : (step : Step) (n n' : ℕ) → Reads (seen_by decide last cur) (seen_by decide last new) b c (Ok (Some step)) → n' ≡ n → Finds (seen_by decide last first) (seen_by decide last new) a c n n' (Ok step)
-  steps_now step n n' (bytes, read, end, advances) count =
-      let steps = subst (λ (x : Rules). Steps x cur.state new.state (symbols_of bytes) (nat_eq (length bytes) (asked x cur.state)) (last new.decider) new.packets step) same (advances.live live) in
-      let ended = subst (λ (x : Rules). length bytes ≢ asked x cur.state → IsAtEnd c) same end in
-      let (met, handles, decided, meets, reaches, ends) = stepped rules first.state cur.state new.state a b c so bytes (last new.decider) new.packets step steps read ended live in
-      (met, handles, decided, subst (λ l. KeepsLast (Some step) l (last new.decider)) kept advances.kept, meets, reaches, ends, count, subst (λ (x : Rules). taken new.state ≤ x.limit) same advances.bounded)
-
-  module _ (few : length cur.state.window.symbols < room_for cur.resync (symbols_in cur.sought.mode)) (within : taken cur.state ≤ cur.limit) (n n' : ℕ) where
-    small : length cur.state.window.symbols < room_in rules
-    small = subst (λ (x : Rules). length cur.state.window.symbols < room_in x) same few
-
-    pub fails_now : (fault : ReadFault) → Reads (seen_by decide last cur) (seen_by decide last new) b c (Err fault) → n' ≡ n + 1 → FindsNone (seen_by decide last first) (seen_by decide last new) a c n n'
-    fails_now fault (is, (bytes, read, less)) failed =
-        let searching = asks_searching (rules_of decide cur) cur.state.phase cur.state.window (length bytes) less in
-        let short = subst (λ (x : Rules). length bytes < asked x cur.state) same less in (
-          sym so.phase ∙ searching,
-          ap (λ (s : Seen). s.state.standing) is ∙ so.standing,
-          ap (λ (s : Seen). s.last) is ∙ kept,
-          stops_failed rules first.state cur.state a b so small searching c bytes n n' read short failed,
-          subst (λ (s : Seen). taken s.state ≤ rules.limit) (sym is) (subst (λ (x : Rules). taken cur.state ≤ x.limit) same within),
-        )
-
-  -- no symbols may be taken any more
-  pub full_now : (n n' : ℕ) → length cur.state.window.symbols < room_for cur.resync (symbols_in cur.sought.mode) → taken cur.state ≤ cur.limit → cur.state.phase ≡ phases.Searching → asked (rules_of decide cur) cur.state ≡ 0 → n' ≡ n
-      → FindsNone (seen_by decide last first) (seen_by decide last cur) a b n n'
-  full_now n n' few within searching none count =
-      let size = room_for cur.resync (symbols_in cur.sought.mode) in
-      let zero : 4 * wanted cur.limit size cur.state.window ≡ 0 = sym (ap (λ p. asked_by (rules_of decide cur) p cur.state.window) searching) ∙ none in
-      let full : taken cur.state ≡ cur.limit = full_by (cur.limit - taken cur.state) (size - length cur.state.window.symbols) (taken cur.state) cur.limit zero refl within (omega (arith, few)) in
-      let short = subst (λ (x : Rules). length cur.state.window.symbols < room_in x) same few in
-      let all = full ∙ ap (λ (x : Rules). x.limit) same in (
-        sym so.phase ∙ searching,
-        so.standing,
-        kept,
-        subst (λ m. StopsShort rules first.state a b n m) (sym count) (stops_full rules first.state cur.state a b so short searching n all),
-        subst (λ (x : Rules). taken cur.state ≤ x.limit) same within,
-      )
-    where
-      full_by : (left room at limit : ℕ) → 4 * min left room ≡ 0 → left ≡ limit - at → at ≤ limit → 0 < room → at ≡ limit
-      full_by left room at limit none is within some = elim (cases_eq left 0) [
-        | inl empty ↦ omega (arith, empty, is)
-        | inr other ↦ (let one : 1 ≤ min left room = le-min {a = left} {b = room} (omega (arith, other)) some in absurd (omega (arith, none, one)))
-      ]
+-- where none are wanted of a search that has room, the limit is reached
+pub full_by : (left room at limit : ℕ) → 4 * min left room ≡ 0 → left ≡ limit - at → at ≤ limit → 0 < room → at ≡ limit
+full_by left room at limit none is within some = elim (cases_eq left 0) [
+  | inl empty ↦ omega (arith, empty, is)
+  | inr other ↦ (let one : 1 ≤ min left room = le-min {a = left} {b = room} (omega (arith, other)) some in absurd (omega (arith, none, one)))
+]

@@ -10,7 +10,7 @@ use Rattle.s2_receive.proofs.MetLemmas.{passed-inside}
 use Rattle.s2_receive.proofs.StepLemmas.{symbols_least}
 
 -- the rules stay
-rules_kept : (decide : List Symbol → Decision) (old new : Follower) → IsSameFollower old new → rules_with decide new ≡ rules_with decide old
+pub rules_kept : (decide : List Symbol → Decision) (old new : Follower) → IsSameFollower old new → rules_with decide new ≡ rules_with decide old
 rules_kept decide old new s = λ i. record { finds = found_as (s.sought i) (s.max_header_errors i); size = symbols_in (s.sought i).mode; resync = s.resync i; decide = decide; limit = s.limit i }
 
 size_kept : (old new : Follower) → IsSameFollower old new → symbols_in new.sought.mode ≡ symbols_in old.sought.mode

@@ -75,13 +75,6 @@ pub record Advances (old new : Seen) (bytes : List ℕ) (answer : Option Step) :
 
 -- ---- steps from a reader to two writers
 
--- all wanted bytes or the last ones of the stream were read, and given to a receiver; or a read failed before, and
--- nothing else changed
-abbrev pub Reads : (old new : Seen) → (reader_old reader_new : Option (List ℕ)) → Result (Option Step) ReadFault → Type 0
-Reads old new r r' (Ok answer) =
-    (bytes : List ℕ) × Consumes r r' bytes × (length bytes ≢ asked old.rules old.state → IsAtEnd r') × Advances old new bytes answer
-Reads old new r r' (Err fault) = (new ≡ old) × ((bytes : List ℕ) × Consumes r r' bytes × (length bytes < asked old.rules old.state))
-
 -- the receiver was searching, and nothing was decided
 abbrev pub FindsNone : (old new : Seen) → (reader_old reader_new : Option (List ℕ)) → (reads_old reads_new : ℕ) → Type 0
 FindsNone old new r r' n n' =

@@ -10,6 +10,7 @@ pub mod Decider
 pub mod ReceiverCore
 pub mod Output
 pub mod Halves
+pub mod Finding
 pub mod Laws
 pub mod Calls
 pub mod Windows

@@ -215,7 +215,7 @@ impl Follower {
     }
 
     /// Its phase.
-    pub(crate) fn phase(&self) -> Phase
+    pub fn phase(&self) -> Phase
         ensures is { result ≡ self.now.state.phase }
         ensures within { reached self.now.state.window ≤ self.now.limit }
         ensures counted { self.now.state.standing.totals.frames ≤ max_symbols }
@@ -224,14 +224,14 @@ impl Follower {
     }
 
     /// The number of symbols taken so far.
-    pub(crate) fn taken(&self) -> u64
+    pub fn taken(&self) -> u64
         ensures { result ≡ reached self.now.state.window }
     {
         self.synchronizer.reached()
     }
 
     /// The position of the stream before which no further frame begins.
-    pub(crate) fn position(&self) -> u64
+    pub fn position(&self) -> u64
         ensures is { result ≡ self.now.state.window.at }
         ensures within { reached self.now.state.window ≤ self.now.limit }
     {
@@ -239,7 +239,7 @@ impl Follower {
     }
 
     /// Sets the limit of symbols in all.
-    pub(crate) fn limit(&mut self, symbols: u64)
+    pub fn limit(&mut self, symbols: u64)
         requires none { self.old.found ≡ None }
         requires limit { (reached self.old.state.window ≤ symbols) × (symbols ≤ max_symbols) }
         ensures { self.new ≡ record self.old { limit = symbols } }
@@ -248,7 +248,7 @@ impl Follower {
     }
 
     /// Marks the receiver as failed.
-    pub(crate) fn fail(&mut self)
+    pub fn fail(&mut self)
         ensures { self.new ≡ record self.old { state = record self.old.state { phase = phases.Failed } } }
     {
         self.status.phase = Phase::Failed;

@@ -43,6 +43,7 @@
 #![tactic(auto)]
 
 mod decider;
+mod finding;
 mod follower;
 mod frame;
 mod gap;
@@ -65,9 +66,11 @@ pub use decider::{Decide, Decided};
 pub use follower::Follower;
 pub use frame::Frame;
 pub use limits::MAX_SYMBOLS;
+pub use output::write_step;
 pub use receiver::Receiver;
-pub use report::{Fault, Received};
+pub use report::{Fault, Phase, Received};
 pub use run::{is_certified_step, receive_all, receive_bytes, receive_with};
-pub use sinks::{FrameStart, Sink};
+pub use sinks::{FrameStart, Sink, give_frame};
 pub use supplied::Supplied;
+pub use synchronizer::room_for;
 pub use window::Next;

@@ -21,7 +21,7 @@ use s2_mode::{CountedWrite, WriteFault, write_full};
 use s2_report::{Step, Totals, line_of};
 
 /// Writes the packets of a step, and then its line, each with one write if the writer takes it whole.
-pub(crate) fn write_step<P: CountedWrite, W: CountedWrite>(
+pub fn write_step<P: CountedWrite, W: CountedWrite>(
     given: &[u8],
     step: Step,
     totals: Totals,

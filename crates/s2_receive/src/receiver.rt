@@ -1,11 +1,11 @@
 //! The receiver of a stream of symbols.
 ghost use Rattle.std.specs.Prelude.{◌≡◌, ◌*◌, ◌<◌, ◌≤◌, IfOk, IsErrOf, length};
-ghost use Rattle.s2_mode.specs.Counts.{CanCount, CountsFault};
+ghost use Rattle.s2_mode.specs.Counts.{CanCount};
 ghost use Rattle.s2_receive.specs.Limits.{max_symbols};
 ghost use Rattle.s2_mode.specs.Mode.{symbols_in};
 ghost use Rattle.s2_receive.specs.declared.report.Phase.TheVariants as phases;
 ghost use Rattle.s2_receive.specs.Receiving.{IsLive, asked, begun, is_at_frame, rules_of, taken};
-ghost use Rattle.s2_receive.specs.Answers.{Advances, Finds, IsSame, Reads, StepsBy, seen_by};
+ghost use Rattle.s2_receive.specs.Answers.{Advances, Finds, IsSame, StepsBy, seen_by};
 ghost use Rattle.s2_receive.specs.Sinks.{StepsWith};
 ghost use Rattle.s2_receive.specs.Synchronization.{room_for};
 ghost use Rattle.s2_plframe.specs.Turns.{sought_of};
@@ -17,7 +17,7 @@ use crate::report::{Fault, Phase};
 use crate::sinks::{Sink, give_frame};
 use crate::supplied::Supplied;
 use crate::synchronizer::room_for;
-use s2_mode::{CountedRead, CountedWrite, Mode, ReadFault, read_full};
+use s2_mode::{CountedRead, CountedWrite, Mode, ReadFault};
 use s2_plframe::HeaderTolerance;
 use s2_report::{Step, Totals};
 use std::alloc::{AllocError, Global};
@@ -49,42 +49,6 @@ impl<D: Decide> Model for Receiver<D> {
     ghost view = { λ r. r.inner };
 
     ghost invariant = { λ r. length r.bytes.items ≡ 4 * room_for r.inner.resync (symbols_in r.inner.sought.mode) };
-}
-
-/// Reads the wanted bytes, and passes them on.
-fn read_on<D: Decide, R: CountedRead>(
-    inner: &mut ReceiverCore<D>,
-    reader: &mut R,
-    room: &mut [u8],
-) -> Result<Option<Step>, ReadFault>
-    requires reader { CanCount (R.count reader.old) }
-    requires room { length room.old ≡ asked (rules_of D.decide inner.old) inner.old.state }
-    ensures same { IsSame D.decide inner.old inner.new }
-    ensures unaided { D.unaided inner.new.decider ≡ D.unaided inner.old.decider }
-    ensures reads { Reads (seen_by D.decide D.last inner.old) (seen_by D.decide D.last inner.new) (R.remaining reader.old) (R.remaining reader.new) result }
-    ensures cause { CountsFault (R.count reader.old) (R.count reader.new) result }
-    ensures long { length room.new ≡ length room.old }
-{
-    let count = read_full(reader, room)?;
-    Ok(inner.advance(&room[..count]))
-}
-
-/// The same, to the front of a buffer that has room for a frame.
-fn read_step<D: Decide, R: CountedRead>(
-    inner: &mut ReceiverCore<D>,
-    reader: &mut R,
-    buffer: &mut [u8],
-) -> Result<Option<Step>, ReadFault>
-    requires reader { CanCount (R.count reader.old) }
-    requires room { length buffer.old ≡ 4 * room_for inner.old.resync (symbols_in inner.old.sought.mode) }
-    ensures same { IsSame D.decide inner.old inner.new }
-    ensures unaided { D.unaided inner.new.decider ≡ D.unaided inner.old.decider }
-    ensures reads { Reads (seen_by D.decide D.last inner.old) (seen_by D.decide D.last inner.new) (R.remaining reader.old) (R.remaining reader.new) result }
-    ensures cause { CountsFault (R.count reader.old) (R.count reader.new) result }
-    ensures long { length buffer.new ≡ length buffer.old }
-{
-    let room = inner.room();
-    read_on(inner, reader, &mut buffer[..room])
 }
 
 impl<D: Decide> Receiver<D> {
@@ -222,15 +186,7 @@ impl<D: Decide> Receiver<D> {
         ensures finds { Finds (seen_by D.decide D.last self.old) (seen_by D.decide D.last self.new)
             (R.remaining reader.old) (R.remaining reader.new) (R.count reader.old) (R.count reader.new) result }
     {
-        'reading: loop {
-            let room = self.inner.room();
-            if room == 0 && self.is_at_frame() {
-                return Err(ReadFault);
-            }
-            if let Some(step) = read_step(&mut self.inner, reader, &mut self.bytes)? {
-                return Ok(step);
-            }
-        }
+        self.inner.find(reader, &mut self.bytes)
     }
 
     /// Reads up to the next step, makes it, and writes its packets, and then its line of the report.

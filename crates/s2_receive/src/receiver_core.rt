@@ -1,12 +1,13 @@
 //! The receiver without input and output: bytes come, and steps are made.
 ghost use Rattle.std.specs.Prelude.{◌≡◌, ◌≢◌, ◌*◌, ◌<◌, ◌≤◌, IfOk, None, Some, length};
 ghost use Rattle.s2_receive.specs.Limits.{max_symbols};
+ghost use Rattle.s2_mode.specs.Counts.{CanCount};
 ghost use Rattle.s2_mode.specs.Mode.{symbols_in};
 ghost use Rattle.s2_receive.specs.declared.report.Phase.TheVariants as phases;
 ghost use Rattle.s2_report.specs.declared.report.Step.TheVariants as steps;
 ghost use Rattle.s2_receive.specs.Synchronization.{met_of, room_for};
-ghost use Rattle.s2_receive.specs.Receiving.{IsDecidedBy, asked, begun, rules_of, taken};
-ghost use Rattle.s2_receive.specs.Answers.{Advances, IsSame, seen_by};
+ghost use Rattle.s2_receive.specs.Receiving.{IsDecidedBy, IsLive, asked, begun, rules_of, taken};
+ghost use Rattle.s2_receive.specs.Answers.{Advances, Finds, IsSame, seen_by};
 ghost use Rattle.s2_receive.specs.Halves.{IsSameFollower, asked_of, seen_with};
 ghost use Rattle.s2_receive.specs.Output.{KeepsWithout};
 ghost use Rattle.s2_plframe.specs.Turns.{sought_of};
@@ -16,7 +17,7 @@ use crate::follower::Follower;
 use crate::report::Phase;
 use crate::supplied::Supplied;
 use crate::window::Next;
-use s2_mode::{Mode, Symbol};
+use s2_mode::{CountedRead, Mode, ReadFault, Symbol};
 use s2_plframe::HeaderTolerance;
 use s2_report::{Step, Totals};
 use std::alloc::{AllocError, Global};
@@ -101,6 +102,31 @@ fn advance_by<D: Decide>(follower: &mut Follower, decider: &mut D, bytes: &[u8])
         }
         None => at_rest(follower.phase()),
     }
+}
+
+/// Reads up to the next thing, whose frame is decided by this decider.
+fn find_by<D: Decide, R: CountedRead>(
+    follower: &mut Follower,
+    decider: &mut D,
+    reader: &mut R,
+    buffer: &mut [u8],
+) -> Result<Step, ReadFault>
+    requires reader { CanCount (R.count reader.old) }
+    requires none { follower.old.found ≡ None }
+    requires live { IsLive follower.old.state.phase }
+    requires frames { symbols_in follower.old.sought.mode ≡ D.size decider.old }
+    requires buffer { length buffer.old ≡ 4 * room_for follower.old.resync (symbols_in follower.old.sought.mode) }
+    ensures none { follower.new.found ≡ None }
+    ensures follows { IsSameFollower follower.old follower.new }
+    ensures decider { (D.decide decider.new ≡ D.decide decider.old) × (D.size decider.new ≡ D.size decider.old) }
+    ensures unaided { D.unaided decider.new ≡ D.unaided decider.old }
+    ensures finds { Finds (seen_with (D.decide decider.old) (D.last decider.old) follower.old) (seen_with (D.decide decider.new) (D.last decider.new) follower.new)
+        (R.remaining reader.old) (R.remaining reader.new) (R.count reader.old) (R.count reader.new) result }
+    ensures buffer { length buffer.new ≡ length buffer.old }
+{
+    let next = follower.find(reader, buffer)?;
+    decide_found(decider, next, follower.frame());
+    Ok(follower.settle(next, decider.decided(), decider.field()))
 }
 
 impl<D: Decide> ReceiverCore<D> {
@@ -194,6 +220,24 @@ impl<D: Decide> ReceiverCore<D> {
         ensures advances { Advances (seen_by D.decide D.last self.old) (seen_by D.decide D.last self.new) bytes.now result }
     {
         advance_by(&mut self.follower, &mut self.decider, bytes)
+    }
+
+    /// Reads up to the next step, into a buffer that has room for the wanted bytes, and makes it.
+    pub(crate) fn find<R: CountedRead>(
+        &mut self,
+        reader: &mut R,
+        buffer: &mut [u8],
+    ) -> Result<Step, ReadFault>
+        requires reader { CanCount (R.count reader.old) }
+        requires live { IsLive self.old.state.phase }
+        requires buffer { length buffer.old ≡ 4 * room_for self.old.resync (symbols_in self.old.sought.mode) }
+        ensures same { IsSame D.decide self.old self.new }
+        ensures unaided { D.unaided self.new.decider ≡ D.unaided self.old.decider }
+        ensures finds { Finds (seen_by D.decide D.last self.old) (seen_by D.decide D.last self.new)
+            (R.remaining reader.old) (R.remaining reader.new) (R.count reader.old) (R.count reader.new) result }
+        ensures buffer { length buffer.new ≡ length buffer.old }
+    {
+        find_by(&mut self.follower, &mut self.decider, reader, buffer)
     }
 
     /// Marks the receiver as failed.

@@ -80,7 +80,7 @@ impl<A: Sink> Sink for Option<A> {
 }
 
 /// Gives the frame of a step to a sink. If the step is no frame, it does nothing.
-pub(crate) fn give_frame<K: Sink>(
+pub fn give_frame<K: Sink>(
     step: Step,
     after_gap: bool,
     frame: &Frame<'_>,

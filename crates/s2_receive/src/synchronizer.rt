@@ -17,7 +17,7 @@ use std::marker::Model;
 
 /// The number of symbols that a search for a mode's frames holds before it reports a frame: those of the frame, and
 /// those of the next header if lost frames are searched again.
-pub(crate) fn room_for(mode: Mode, resync: bool) -> usize
+pub fn room_for(mode: Mode, resync: bool) -> usize
     ensures is { result ≡ room_for resync (symbols_in mode) }
     ensures small { result ≤ 2 ^ 31 }
 {

@@ -11,9 +11,10 @@ use Rattle.s2_receive.specs.declared.window.Next.{Next}
 use Rattle.s2_receive.specs.declared.window.Next.TheVariants as next
 use Rattle.s2_replay.specs.Auditing.{AuditedFrames, AuditedSoFar, ReplaysIn}
 use Rattle.s2_replay.specs.Replay.{AreLines, IsBorneOut, IsEndLine, IsFrameLine, Terms, is_known, rules_for}
-use Rattle.s2_replay.specs.Replayers.{IsFrame}
-use Rattle.s2_replay.specs.Running.{GoesOn, IsBy, RanIn, RanOut}
-use Rattle.s2_replay.proofs.RunLemmas.{ran_nothing, ran_out, ran_step}
+use Rattle.s2_receive.specs.Finding.{GoesOn}
+use Rattle.s2_message.specs.Frames.{IsFrame}
+use Rattle.s2_replay.specs.Running.{IsBy, RanIn, RanOut}
+use Rattle.s2_replay.proofs.RunLemmas.{ran_all, ran_nothing, ran_out, ran_step}
 
 -- nothing of a recording was audited
 pub audited_none : (t : Terms) (whole : Option (List ℕ)) (f : Follower) → f.state ≡ begun → f.found ≡ None → AuditedSoFar t whole whole f true [] [] []
@@ -27,7 +28,7 @@ audited_none t whole f state none = record { own = []; ran = ran_whole whole; to
 pub audited_on : (t : Terms) (whole left left_new : Option (List ℕ)) (old new : Follower) (known : Bool) (decisions : List Decision) (lines : List (List ℕ)) (packets : List ℕ)
     → AuditedSoFar t whole left old known decisions lines packets → GoesOn old new left left_new → AuditedSoFar t whole left_new new known decisions lines packets
 audited_on t whole left left_new old new known decisions lines packets before goes =
-    record { own = before.own; ran = goes t whole decisions before.own packets before.ran; told = before.told }
+    record { own = before.own; ran = ran_all t whole decisions before.own packets old new left left_new goes before.ran; told = before.told }
 
 -- lines of decisions, with each list given otherwise
 lines_as : (ds ds' : List Decision) (own own' lines lines' : List (List ℕ)) → ds ≡ ds' → own ≡ own' → lines ≡ lines' → AreLines true ds own lines → AreLines true ds' own' lines'
@@ -68,7 +69,7 @@ frames_over t whole left f known decisions lines packets before = record {
 module _ (t : Terms) (whole left : Option (List ℕ)) (old new : Follower) (known : Bool) (decisions : List Decision) (lines : List (List ℕ)) (packets : List ℕ) (before : AuditedFrames t whole left old known decisions lines packets) where
   -- the end was found
   pub frames_on : (left_new : Option (List ℕ)) → GoesOn old new left left_new → AuditedFrames t whole left_new new known decisions lines packets
-  frames_on left_new goes = record { own = before.own; ran = goes t whole decisions before.own packets before.ran; told = before.told }
+  frames_on left_new goes = record { own = before.own; ran = ran_all t whole decisions before.own packets old new left left_new goes before.ran; told = before.told }
 
   module _ (found : Next) (d : Decision) (step : Step) (line : List ℕ) (is : old.found ≡ Some found) (settles : Settles old new found d step) where
     abbrev own_line : List ℕ

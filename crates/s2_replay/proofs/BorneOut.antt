@@ -16,11 +16,11 @@ use Rattle.s2_report.specs.declared.report.Step.{Step}
 use Rattle.s2_receive.specs.Halves.{Follower}
 use Rattle.s2_receive.specs.Receiving.{Decision}
 use Rattle.s2_receive.specs.declared.window.Next.{Next}
-use Rattle.s2_message.specs.Decisions.{levelled_frame, received_word, removed_frame, soft_frame, word_decision}
+use Rattle.s2_message.specs.Decisions.{decision_on, levelled_frame, received_word, removed_frame, soft_frame, word_decision}
 use Rattle.s2_message.specs.Figures.{figures_of}
 use Rattle.s2_replay.specs.Certificates.{Certifies, IsParityVerdict, Shows, ShowsParsed}
 use Rattle.s2_replay.specs.Frames.{AuditsFrame, ComparesLine, HasRounds, SettlesBy, cost_of}
-use Rattle.s2_replay.specs.Replay.{IsBorneOut, IsBorneOutBy, Terms, are_known, decision_on, is_known}
+use Rattle.s2_replay.specs.Replay.{IsBorneOut, IsBorneOutBy, Terms, are_known, is_known}
 use Rattle.s2_replay.specs.declared.certificates.Shown.TheVariants.{Word}
 use Rattle.s2_replay.specs.declared.frames.Audited.{Audited}
 use Rattle.s2_replay.specs.declared.frames.Audited.TheVariants.{Told, Differs, Refused}

@@ -8,7 +8,7 @@ use Rattle.s2_receive.specs.Receiving.{Decision, Rules, report_for}
 use Rattle.s2_receive.specs.Windows.{found_as}
 use Rattle.s2_receive.specs.declared.window.Next.{Next}
 use Rattle.s2_receive.specs.declared.window.Next.TheVariants as next
-use Rattle.s2_replay.specs.Replayers.{IsFrameAt}
+use Rattle.s2_message.specs.Frames.{IsFrameAt}
 
 -- rules that decide each frame so
 abbrev rules_so : Follower → Decision → Rules

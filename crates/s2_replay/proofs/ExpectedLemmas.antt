@@ -17,13 +17,13 @@ use Rattle.s2_receive.specs.Halves.{Follower, GoesOnFrom, IsRunBy, RunsBy, ahead
 use Rattle.s2_receive.specs.Receiving.{Decision, Standing}
 use Rattle.s2_receive.specs.declared.window.Next.{Next}
 use Rattle.s2_receive.specs.declared.window.Next.TheVariants as next
-use Rattle.s2_message.specs.Decisions.{bits_decision, figures_with, levelled_frame, measured, quarters, removed_frame, soft_frame}
+use Rattle.s2_message.specs.Decisions.{bits_decision, decision_on, figures_with, levelled_frame, measured, quarters, removed_frame, soft_frame}
 use Rattle.s2_message.specs.Figures.{figures_of}
 use Rattle.s2_message.specs.Header.{energy_of}
 use Rattle.s2_replay.specs.Certificates.{Certifies, IsCertifiedVerdict, IsParityVerdict, ShowsParsed, ShowsFile}
 use Rattle.s2_replay.specs.Expected.{CertifiedLaw, ExpectsLastLaw, ExpectsLaw, ExpectsNext, RefusedLaw, SameDecisionLaw, SameWordLaw, SettledLaw}
 use Rattle.s2_replay.specs.Frames.{HasRounds}
-use Rattle.s2_replay.specs.Replay.{AreLines, IsBorneOut, IsBorneOutBy, IsClaimed, IsDecisionOn, IsEndLine, IsFrameLine, Terms, decision_on, is_known, rules_for}
+use Rattle.s2_replay.specs.Replay.{AreLines, IsBorneOut, IsBorneOutBy, IsClaimed, IsDecisionOn, IsEndLine, IsFrameLine, Terms, is_known, rules_for}
 use Rattle.s2_replay.specs.Running.{IsBy, RanTo}
 use Rattle.s2_replay.specs.declared.certificates.Refusal.{Refusal}
 use Rattle.s2_replay.specs.declared.certificates.Refusal.TheVariants as refusals

@@ -6,7 +6,7 @@ use Rattle.s2_report.specs.ReportLines.{delivered_words, end_line, figures_words
 use Rattle.s2_report.specs.declared.totals.Totals.{Totals}
 use Rattle.s2_receive.specs.Receiving.{report_for}
 use Rattle.s2_replay.specs.Lines.{BeginsWith, claimed_words, counted_words}
-use Rattle.s2_replay.specs.Replay.{claimed_decision}
+use Rattle.s2_message.specs.Decisions.{claimed_decision}
 
 -- of a frame on the report's word
 pub own_claim : (t : Totals) (at : ℕ) (verdict : Verdict) (lost : Bool) → BeginsWith (claimed_words (t.frames + 1) at verdict lost) (frame_line (report_for (claimed_decision verdict lost) t at))

@@ -16,10 +16,12 @@ use Rattle.s2_receive.specs.declared.report.Phase.TheVariants as phases
 use Rattle.s2_receive.specs.declared.gap.Gap.{Gap}
 use Rattle.s2_receive.specs.declared.window.Next.{Next}
 use Rattle.s2_receive.specs.declared.window.Next.TheVariants as next
-use Rattle.s2_receive.proofs.SymbolLists.{count_symbols, yields}
+use Rattle.s2_receive.proofs.FindingLemmas.{wants_fours}
+use Rattle.s2_receive.proofs.SymbolLists.{yields}
 use Rattle.s2_receive.specs.Halves.{Follower, IsRunBy, IsShown, RunsBy, Seeks, SeeksBy, Settles, ahead, asked_of, decision_if, rules_with}
 use Rattle.s2_replay.specs.Replay.{IsBorneOut, Terms, rules_for}
-use Rattle.s2_replay.specs.Running.{EndsAfterCut, GoesOn, IsBy, IsNearer, RanIn, RanOut, RanTo}
+use Rattle.s2_receive.specs.Finding.{GoesOn, GoesThrough, Pause}
+use Rattle.s2_replay.specs.Running.{IsBy, RanIn, RanOut, RanTo}
 use Rattle.s2_receive.proofs.RunsSoFar.{run_begins, run_seeks, run_settles}
 
 front_nil : (xs ys : List ℕ) → xs ++ ys ≡ [] → (xs ≡ []) × (ys ≡ [])
@@ -30,19 +32,6 @@ front_nil (x ∷ xs) ys none = absurd (cc)
 pub ran_nothing : (t : Terms) (recording : List ℕ) (f : Follower) → f.state ≡ begun → f.found ≡ None → RanTo t recording recording f [] [] []
 ran_nothing t recording f state none =
     record { taken = []; on = true; all = refl; ended = λ e. cc; run = run_begins (IsBorneOut t) (rules_for t).decide f state none }
-
--- whole symbols are wanted
-pub wants_fours : (f : Follower) → (n : ℕ) × (asked_of f ≡ 4 * n)
-wants_fours f = by_phase f.state.phase refl
-  where
-    room : ℕ
-    room = room_for f.resync (symbols_in f.sought.mode)
-
-    by_phase : (phase : Phase) → f.state.phase ≡ phase → (n : ℕ) × (asked_of f ≡ 4 * n)
-    by_phase phases.Searching is = (wanted f.limit room f.state.window, ap (λ p. wanted_by p f.limit room f.state.window) is)
-    by_phase phases.Closing is = (0, ap (λ p. wanted_by p f.limit room f.state.window) is)
-    by_phase phases.Ended is = (0, ap (λ p. wanted_by p f.limit room f.state.window) is)
-    by_phase phases.Failed is = (0, ap (λ p. wanted_by p f.limit room f.state.window) is)
 
 -- more bytes were read and searched, all that were wanted or the last ones
 module _ (old new : Follower) (bytes : List ℕ) (found : Option Next) (none : old.found ≡ None) (few : length bytes ≤ asked_of old) (seeks : Seeks old new bytes (nat_eq (length bytes) (asked_of old)) found) where
@@ -75,11 +64,22 @@ module _ (old new : Follower) (bytes : List ℕ) (found : Option Next) (none : o
         run = run_seeks (IsBorneOut t) (rules_for t).decide before.taken before.on old new decisions lines packets bytes whole found before.run none few (come before.on left left_new before.ended read) seeks;
       }
 
-  pub ran_on : (left left_new : Option (List ℕ)) → Consumes left left_new bytes → (length bytes ≢ asked_of old → IsAtEnd left_new) → GoesOn old new left left_new
-  ran_on left left_new read end t None decisions lines packets before = tt
-  ran_on None left_new read end t (Some recording) decisions lines packets before = absurd before
-  ran_on (Some left) None read end t (Some recording) decisions lines packets before = absurd read
-  ran_on (Some left) (Some left_new) read end t (Some recording) decisions lines packets before = known t recording left left_new decisions lines packets read end before
+  ran_on : (t : Terms) (whole left left_new : Option (List ℕ)) (decisions : List Decision) (lines : List (List ℕ)) (packets : List ℕ) → Consumes left left_new bytes → (length bytes ≢ asked_of old → IsAtEnd left_new)
+      → RanIn t whole left old decisions lines packets → RanIn t whole left_new new decisions lines packets
+  ran_on t None left left_new decisions lines packets read end before = tt
+  ran_on t (Some recording) None left_new decisions lines packets read end before = absurd before
+  ran_on t (Some recording) (Some left) None decisions lines packets read end before = absurd read
+  ran_on t (Some recording) (Some left) (Some left_new) decisions lines packets read end before = known t recording left left_new decisions lines packets read end before
+
+-- so are those of one read after another
+pub ran_all : (t : Terms) (whole : Option (List ℕ)) (decisions : List Decision) (lines : List (List ℕ)) (packets : List ℕ) (old new : Follower) (left left_new : Option (List ℕ)) → GoesOn old new left left_new
+    → RanIn t whole left old decisions lines packets → RanIn t whole left_new new decisions lines packets
+ran_all t whole decisions lines packets old new left left_new (pauses, goes) before = through pauses new left_new goes
+  where
+    through : (pauses : List Pause) (f : Follower) (rest : Option (List ℕ)) → GoesThrough old f left rest pauses → RanIn t whole rest f decisions lines packets
+    through [] f rest (same, all) = subst (λ r. RanIn t whole r f decisions lines packets) (sym all) (subst (λ g. RanIn t whole left g decisions lines packets) (sym same) before)
+    through (pause ∷ earlier) f rest (goes, reads) =
+        ran_on pause.follower f reads.bytes f.found reads.none reads.few reads.seeks t whole pause.left rest decisions lines packets reads.read reads.last (through earlier pause.follower pause.left goes)
 
 -- what was found is handled: a decision, if it is a frame, a line and packets more
 module _ (t : Terms) (old new : Follower) (found : Next) (d : Decision) (step : Step) (is : old.found ≡ Some found) (shown : IsShown (IsBorneOut t) found old.frame d) (settles : Settles old new found d step) where
@@ -130,49 +130,3 @@ module _ (t : Terms) (f : Follower) (by : IsBy t f) (none : f.found ≡ None) (o
       let c = subst (λ x. IsRunBy (IsBorneOut t) (rules_for t) (symbols_of recording) x (lines ++ []) (packets ++ [])) (append-nil decisions) b in
       let d = subst (λ x. IsRunBy (IsBorneOut t) (rules_for t) (symbols_of recording) decisions x (packets ++ [])) (append-nil lines) c in
       subst (λ x. IsRunBy (IsBorneOut t) (rules_for t) (symbols_of recording) decisions lines x) (append-nil packets) d
-
--- ---- towards the limit
-
--- if bytes are wanted and nothing was found in them, the limit is nearer
-module _ (old new : Follower) (bytes : List ℕ) (some : 0 < asked_of old) where
-  limit_nearer : (n : ℕ) → asked_of old ≡ 4 * n → n ≤ old.limit - reached old.state.window → new.limit ≡ old.limit → length bytes ≡ asked_of old → reached new.state.window ≡ reached old.state.window + length (symbols_of bytes) → IsNearer old new None
-  limit_nearer n four most limit all place =
-      let count : length (symbols_of bytes) ≡ length bytes / 4 = count_symbols bytes in
-      omega (arith, four, most, place, count, limit, all, some)
-
-  pub comes_nearer : (found : Option Next) → Seeks old new bytes (nat_eq (length bytes) (asked_of old)) found → IsNearer old new found
-  comes_nearer (Some found) seeks = tt
-  comes_nearer None seeks = by_phase old.state.phase refl seeks.seeks
-    where
-      room : ℕ
-      room = room_for old.resync (symbols_in old.sought.mode)
-
-      asked_so : (phase : Phase) → old.state.phase ≡ phase → asked_of old ≡ wanted_by phase old.limit room old.state.window
-      asked_so phase is = ap (λ p. wanted_by p old.limit room old.state.window) is
-
-      by_phase : (phase : Phase) → old.state.phase ≡ phase → SeeksBy phase old new bytes (nat_eq (length bytes) (asked_of old)) None → IsNearer old new None
-      by_phase phases.Searching is (takes, last) =
-          let t = takes (λ symbols. false) in
-          limit_nearer (wanted old.limit room old.state.window) (asked_so phases.Searching is) (min-le_left (old.limit - reached old.state.window) (room - length old.state.window.symbols)) seeks.same.limit
-          (eqb-true (length bytes) (asked_of old) t.0) t.2
-      by_phase phases.Closing is seeks = let none : asked_of old ≡ 0 = asked_so phases.Closing is in absurd (omega (arith, none, some))
-      by_phase phases.Ended is seeks = let none : asked_of old ≡ 0 = asked_so phases.Ended is in absurd (omega (arith, none, some))
-      by_phase phases.Failed is seeks = let none : asked_of old ≡ 0 = asked_so phases.Failed is in absurd (omega (arith, none, some))
-
--- a search without any bytes, if none are wanted
-pub empty_seek : (old new : Follower) (bytes : List ℕ) → length bytes ≤ asked_of old → asked_of old ≡ 0 → (found : Option Next) → Seeks old new bytes (nat_eq (length bytes) (asked_of old)) found → Seeks old new [] true found
-empty_seek old new [] few none found seeks = subst (λ n. Seeks old new [] (nat_eq 0 n) found) none seeks
-empty_seek old new (b ∷ bytes) few none found seeks = absurd (omega (arith, few, none))
-
--- after a cut frame the end is found
-pub ends_after_cut : (old new : Follower) (bytes : List ℕ) (whole : Bool) (found : Option Next) → Seeks old new bytes whole found → EndsAfterCut old.state.phase found
-ends_after_cut old new bytes whole found seeks = by_phase old.state.phase seeks.seeks
-  where
-    is_end : (found' : Option Next) (at : ℕ) (skipped : Gap) → found' ≡ Some (next.End at skipped) → EndsAfterCut phases.Closing found'
-    is_end found' at skipped is = subst (EndsAfterCut phases.Closing) (sym is) tt
-
-    by_phase : (phase : Phase) → SeeksBy phase old new bytes whole found → EndsAfterCut phase found
-    by_phase phases.Searching s = tt
-    by_phase phases.Closing s = is_end found _ _ s.0
-    by_phase phases.Ended s = tt
-    by_phase phases.Failed s = tt

@@ -17,8 +17,9 @@ use Rattle.s2_replay.specs.Auditing.{AuditedSoFar}
 use Rattle.s2_replay.specs.Frames.{ClaimsStep, IsLastOf}
 use Rattle.s2_replay.specs.Laws.{TellsClaimLaw, TellsCutLaw, TellsEndLaw, TellsFrameLaw}
 use Rattle.s2_replay.specs.Lines.{BeginsWith, claimed_words, counted_words}
-use Rattle.s2_replay.specs.Replay.{IsBorneOut, IsEndLine, IsFrameLine, Terms, claimed_decision, is_known, rules_for}
-use Rattle.s2_replay.specs.Replayers.{IsFrame, IsFrameAt}
+use Rattle.s2_replay.specs.Replay.{IsBorneOut, IsEndLine, IsFrameLine, Terms, is_known, rules_for}
+use Rattle.s2_message.specs.Decisions.{claimed_decision}
+use Rattle.s2_message.specs.Frames.{IsFrame, IsFrameAt}
 use Rattle.s2_replay.proofs.AuditLemmas.{audited_frame, audited_on, frames_cut, frames_ended, frames_on}
 use Rattle.s2_replay.proofs.ClaimLemmas.{frame_step}
 use Rattle.s2_replay.proofs.OwnWords.{own_claim, own_count}

@@ -11,11 +11,11 @@ use Rattle.s2_receive.specs.Receiving.{Decision, line_of, packets_of}
 use Rattle.s2_receive.specs.Synchronization.{met_of}
 use Rattle.s2_receive.specs.declared.window.Next.{Next}
 use Rattle.s2_receive.specs.declared.window.Next.TheVariants as next
-use Rattle.s2_message.specs.Decisions.{soft_frame}
+use Rattle.s2_message.specs.Decisions.{claimed_decision, soft_frame}
 use Rattle.s2_replay.specs.Auditing.{AuditedFrames, AuditedSoFar}
 use Rattle.s2_replay.specs.Certificates.{Shows}
 use Rattle.s2_replay.specs.Frames.{HasRounds, IsShownBy}
-use Rattle.s2_replay.specs.Replay.{IsBorneOut, IsEndLine, IsFrameLine, IsReplay, Terms, claimed_decision, is_known, rules_for}
+use Rattle.s2_replay.specs.Replay.{IsBorneOut, IsEndLine, IsFrameLine, IsReplay, Terms, is_known, rules_for}
 use Rattle.s2_replay.specs.Running.{IsBy}
 use Rattle.s2_replay.specs.declared.certificates.Refusal.{Refusal}
 use Rattle.s2_replay.specs.declared.certificates.Shown.TheVariants as shown

@@ -17,19 +17,19 @@ use Rattle.s2_receive.specs.Receiving.{Decision}
 use Rattle.s2_receive.specs.Halves.{Follower, Settles}
 use Rattle.s2_receive.specs.declared.window.Next.{Next}
 use Rattle.s2_receive.specs.declared.window.Next.TheVariants as next
-use Rattle.s2_message.specs.Decisions.{soft_frame}
+use Rattle.s2_message.specs.Decisions.{claimed_decision}
+use Rattle.s2_message.specs.Frames.{Frames}
 use Rattle.s2_replay.specs.Certificates.{Shows}
 use Rattle.s2_replay.specs.Lines.{BeginsWith, claimed_words, counted_words}
-use Rattle.s2_replay.specs.Replay.{IsBorneOut, Terms, claimed_decision, is_known}
-use Rattle.s2_replay.specs.Replayers.{Replayer}
+use Rattle.s2_replay.specs.Replay.{IsBorneOut, Terms, is_known}
 use Rattle.s2_replay.specs.declared.certificates.Shown.TheVariants as shown
 use Rattle.s2_replay.specs.declared.frames.Audited.{Audited}
 use Rattle.s2_replay.specs.declared.frames.Audited.TheVariants.{Told, Differs, Refused}
 use Rattle.s2_replay.specs.declared.frames.AuditedClaim.{AuditedClaim}
 use Rattle.s2_replay.specs.declared.frames.AuditedLast.{AuditedLast}
 
--- the terms of a replayer, with the rows of a code
-abbrev pub terms_of : Rows → Replayer → Terms
+-- the terms of the frames of a stream, with the rows of a code
+abbrev pub terms_of : Rows → Frames → Terms
 terms_of rows r = record {
   rows = rows;
   mode = r.follower.sought.mode;
@@ -38,10 +38,6 @@ terms_of rows r = record {
   max_header_errors = r.follower.max_header_errors;
   resync = r.follower.resync;
 }
-
--- the soft values that it holds are those of the frame that was found
-abbrev pub HoldsSoft : Replayer → Type 0
-HoldsSoft r = r.soft ≡ soft_frame r.follower.sought.mode r.number r.options r.follower.frame
 
 -- what shows a decision: the certificate in these bytes, which has the shape of the rows; or no certificate
 abbrev pub IsShownBy : Rows → Decision → (block : Option (List ℕ)) → Type 0

@@ -11,9 +11,11 @@ use Rattle.s2_receive.specs.declared.window.Next.{Next}
 use Rattle.s2_receive.specs.declared.window.Next.TheVariants as next
 use Rattle.s2_replay.specs.Auditing.{AuditedFrames, AuditedSoFar, ReplaysIn}
 use Rattle.s2_replay.specs.Frames.{AuditsClaim, AuditsLast, IsOwnLine, SettlesBy}
-use Rattle.s2_replay.specs.Replay.{AreLines, IsBorneOut, IsReplay, Terms, claimed_decision, rules_for}
-use Rattle.s2_replay.specs.Replayers.{IsFrame, IsFrameAt}
-use Rattle.s2_replay.specs.Running.{GoesOn, IsBy}
+use Rattle.s2_receive.specs.Finding.{GoesOn}
+use Rattle.s2_message.specs.Decisions.{claimed_decision}
+use Rattle.s2_message.specs.Frames.{IsFrame, IsFrameAt}
+use Rattle.s2_replay.specs.Replay.{AreLines, IsBorneOut, IsReplay, Terms, rules_for}
+use Rattle.s2_replay.specs.Running.{IsBy}
 use Rattle.s2_replay.specs.declared.frames.AuditedClaim.{AuditedClaim}
 use Rattle.s2_replay.specs.declared.frames.AuditedLast.{AuditedLast}
 

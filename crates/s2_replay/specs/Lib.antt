@@ -3,7 +3,6 @@ pub mod Packets
 pub mod Certificates
 pub mod Replay
 pub mod Running
-pub mod Replayers
 pub mod Auditing
 pub mod Frames
 pub mod Laws

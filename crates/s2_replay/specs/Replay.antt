@@ -4,18 +4,15 @@ use Rattle.std.specs.Prelude.{◌≡◌, ◌⊎◌, ℕ, Bool, true, false, ◌&
 use Rattle.s2_mode.specs.Mode.{Mode, symbols_in}
 use Rattle.s2_mode.specs.declared.symbols.Symbol.{Symbol}
 use Rattle.s2_rows.specs.Rows.{Rows}
-use Rattle.s2_bbframe.specs.Limits.{no_syncd}
-use Rattle.s2_bbframe.specs.declared.header.Header.{Header}
 use Rattle.s2_check.specs.Verdicts.{is_certified}
 use Rattle.s2_check.specs.Views.{View}
 use Rattle.s2_check.specs.declared.verdict.Verdict.{Verdict}
 use Rattle.s2_check.specs.declared.verdict.Verdict.TheVariants.{Broken}
 use Rattle.s2_plframe.specs.Turns.{sought_of}
-use Rattle.s2_report.specs.declared.report.Outcome.TheVariants.{Delivered, NoWord}
 use Rattle.s2_receive.specs.Limits.{max_symbols}
 use Rattle.s2_receive.specs.Receiving.{Decision, Rules, is_lost}
 use Rattle.s2_receive.specs.Windows.{found_as}
-use Rattle.s2_message.specs.Decisions.{decision_with, soft_frame}
+use Rattle.s2_message.specs.Decisions.{claimed_decision, decision_on, soft_frame}
 use Rattle.s2_message.specs.declared.options.FrameOptions.{FrameOptions}
 use Rattle.s2_replay.specs.Certificates.{Certifies, IsParityVerdict}
 use Rattle.s2_receive.specs.Halves.{IsRunBy}
@@ -30,32 +27,6 @@ pub record Terms : Type 0 where
   pub options : FrameOptions
   pub max_header_errors : ℕ
   pub resync : Bool
-
--- ---- the decision on a frame
-
--- the receiver's decision on a frame's symbols by these bits
-abbrev pub decision_on : Mode → ℕ → FrameOptions → List Symbol → Verdict → List Bool → Option View → (rounds : ℕ) → Decision
-decision_on m number options symbols verdict bits certificate rounds = decision_with m number options symbols (soft_frame m number options symbols) verdict bits certificate rounds
-
--- The delivery of a frame with unknown bits: nothing if it is lost, else a data field without a byte
-abbrev pub claimed_field : (lost : Bool) → Option (Header × List ℕ)
-claimed_field true = None
-claimed_field false = Some (record { roll_off = 0; second = 0; dfl = 0; syncd = no_syncd }, [])
-
--- the decision on a frame on the report's word. No bit of it is known
-abbrev pub claimed_decision : Verdict → (lost : Bool) → Decision
-claimed_decision verdict lost = record {
-  soft = [];
-  bits = [];
-  verdict = verdict;
-  certificate = None;
-  message = [];
-  outcome = if lost then NoWord else Delivered 0;
-  delivered = claimed_field lost;
-  figures = None;
-  energy = 0;
-  turn = 0;
-}
 
 -- ---- what shows it
 

@@ -8,10 +8,9 @@ pub fn own_report()
     ensures { OwnReportLaw }
 {}
 
-/// An audit in steps. A step finds the next thing ([`crate::Replayer::find`]) and audits it. Nothing was audited with a new
-/// replayer. A frame is one more if the report has its line ([`crate::Replayer::audit_certified`],
-/// [`crate::Replayer::audit_recorded`], [`crate::Replayer::audit_claimed`]). After the last frame come a cut frame and the end
-/// ([`crate::Replayer::audit_last`]). With the end, report and packets are those of the receiver by its decisions.
+/// An audit in steps. A step finds the next thing ([`s2_message::Frames::find`]) and audits it. Nothing was audited with new
+/// frames. A frame is one more if the report has its line ([`crate::audit_certified`], [`crate::audit_recorded`],
+/// [`crate::audit_claimed`]). After the last frame come a cut frame and the end ([`crate::audit_last`]). With the end, report and packets are those of the receiver by its decisions.
 pub fn audits()
     ensures begins { AuditBeginsLaw }
     ensures frame { TellsFrameLaw }

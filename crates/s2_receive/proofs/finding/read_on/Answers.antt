@@ -1,9 +1,9 @@
 use Rattle.std.proofs.Common.{◌<◌, rules, subst, sym, ◌∙◌}
-use Rattle.s2_replay.proofs.RunLemmas.{comes_nearer, empty_seek, ends_after_cut, ran_on}
-use Rattle.s2_replay.proofs.replayer.read_on.Goals as goal
+use Rattle.s2_receive.proofs.FindingLemmas.{comes_nearer, empty_seek, ends_after_cut, reads_once}
+use Rattle.s2_receive.proofs.finding.read_on.Goals as goal
 
-pub returns-clause-goes_on : goal.returns-clause-goes_on
-returns-clause-goes_on g c = ran_on _ _ _ _ c.requires.none (search rules) c.seek.ensures.seeks _ _ c.in_ok-count.ensures.bytes (search rules)
+pub returns-clause-reads : goal.returns-clause-reads
+returns-clause-reads g c = reads_once _ _ _ _ _ _ c.requires.none (search rules) c.in_ok-count.ensures.bytes (search rules) c.seek.ensures.seeks
 
 pub returns-clause-nearer : goal.returns-clause-nearer
 returns-clause-nearer g c = λ some. comes_nearer _ _ _ (subst (λ n. 0 < n) c.requires.room some) _ c.seek.ensures.seeks

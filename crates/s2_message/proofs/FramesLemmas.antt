@@ -1,4 +1,4 @@
--- A replayer's two halves.
+-- The two halves of a step of frames.
 use Rattle.std.proofs.Common.{◌≡◌, ℕ, ◌*◌, ℤ, Bool, List, Option, Some, None, refl, sym, ap, subst, ◌∙◌}
 use Rattle.s2_mode.specs.Mode.{n_of, symbols_in}
 use Rattle.s2_mode.specs.declared.symbols.Symbol.{Symbol}
@@ -11,11 +11,10 @@ use Rattle.s2_receive.specs.Synchronization.{room_for}
 use Rattle.s2_receive.specs.declared.decider.Decided.{Decided}
 use Rattle.s2_receive.specs.declared.window.Next.{Next}
 use Rattle.s2_receive.specs.declared.window.Next.TheVariants as next
-use Rattle.s2_message.specs.Decisions.{decision_with}
+use Rattle.s2_message.specs.Decisions.{decision_on, decision_with}
 use Rattle.s2_message.specs.Reading.{DecidesBy, FrameReader, IsSameReader}
 use Rattle.s2_receive.specs.Halves.{Follower, IsSameFollower, Says, Settles}
-use Rattle.s2_replay.specs.Replay.{decision_on}
-use Rattle.s2_replay.specs.Replayers.{HasSoft, IfFrame, IsFrame, IsReplayer, IsSameReplayer}
+use Rattle.s2_message.specs.Frames.{HasSoft, IfFrame, IsFrame, IsFrames, IsSameFrames}
 
 -- what holds of a frame that was found
 if_frame : (P : Type 0) (n : Option Next) (found : Next) → n ≡ Some found → IsFrame found → IfFrame n P → P
@@ -30,7 +29,7 @@ says_so reader reader' symbols soft verdict bits rounds d field certificate deci
     subst (λ f. Says d f (decision_with reader.mode reader.number reader.options symbols soft verdict bits certificate rounds)) (sym is)
     (subst (Says d reader'.field) (decides certificate) (record { verdict = refl; outcome = refl; delivered = refl; figures = refl; energy = refl; turn = refl }))
 
-module _ (old new : Follower) (reader reader' : FrameReader) (soft : List ℤ) (bytes : List ℕ) (inv : IsReplayer old reader soft bytes) where
+module _ (old new : Follower) (reader reader' : FrameReader) (soft : List ℤ) (bytes : List ℕ) (inv : IsFrames old reader soft bytes) where
   -- a frame was found, and it is settled by these bits
   pub settles_by : (found : Next) (symbols : List Symbol) (values : List ℤ) (field : List ℕ) (verdict : Verdict) (bits : List Bool) (rounds : ℕ) (d : Decided) (step : Step)
       → old.found ≡ Some found → IsFrame found → symbols ≡ old.frame → values ≡ soft → field ≡ reader'.field
@@ -45,12 +44,11 @@ module _ (old new : Follower) (reader reader' : FrameReader) (soft : List ℤ) (
       subst (λ m. Settles old new found (decision_on m reader.number reader.options old.frame verdict bits certificate rounds) step) (sym mode_is) three
 
   -- what holds after the second half
-  pub settled : IsSameReader reader reader' → IsSameFollower old new → new.found ≡ None → IsReplayer new reader' soft bytes
+  pub settled : IsSameReader reader reader' → IsSameFollower old new → new.found ≡ None → IsFrames new reader' soft bytes
   settled kept same none =
       let mode_is : old.sought.mode ≡ reader.mode = ap (λ (s : Sought). s.mode) inv.sought_is in
       record {
         sought_is = same.sought ∙ inv.sought_is ∙ sym (λ i. sought_of (kept.mode i) (kept.options i).turns);
-        limit_is = same.limit ∙ inv.limit_is;
         soft_long = inv.soft_long ∙ sym (ap n_of kept.mode);
         bytes_long = inv.bytes_long ∙ sym (λ i. 4 * room_for (same.resync i) (symbols_in (same.sought i).mode));
         soft_are = subst (λ n. IfFrame n (HasSoft reader' new.frame soft)) (sym none) tt;
@@ -58,7 +56,7 @@ module _ (old new : Follower) (reader reader' : FrameReader) (soft : List ℤ) (
 
   -- it is the same
   pub kept_same : IsSameReader reader reader' → IsSameFollower old new
-      → IsSameReplayer (record { number = reader.number; options = reader.options; follower = old; soft = soft }) (record { number = reader'.number; options = reader'.options; follower = new; soft = soft })
+      → IsSameFrames (record { number = reader.number; options = reader.options; follower = old; soft = soft }) (record { number = reader'.number; options = reader'.options; follower = new; soft = soft })
   kept_same kept same = record { number = kept.number; options = kept.options; follower = same }
 
 pub same_reader : (reader : FrameReader) → IsSameReader reader reader

@@ -4,13 +4,13 @@ use Rattle.std.specs.Int.{cast_signed, cast_unsigned}
 use Rattle.s2_check.specs.CertificateFiles.{view_of}
 use Rattle.s2_replay.specs.Certificates.{Certifies, Shows}
 use Rattle.s2_replay.specs.Frames.{cost_of, terms_of}
-use Rattle.s2_replay.specs.Replay.{decision_on}
+use Rattle.s2_message.specs.Decisions.{decision_on}
 use Rattle.s2_replay.proofs.BorneOut.{audits_so, bits_is, borne_certified, certificate_is, known_is, rounds_is, shown_block, verdict_is}
-use Rattle.s2_replay.proofs.replayer.Replayer.audit_certified.Goals as goal
+use Rattle.s2_replay.proofs.frames.audit_certified.Goals as goal
 
 pub returns-in-Word-clause-audits : goal.returns-in-Word-clause-audits
 returns-in-Word-clause-audits c =
-    let was = c.args.self.now in
+    let was = c.args.frames.now in
     let t = terms_of c.args.matrix.now was in
     let verdict = c.in-Word.verdict in
     let bits = c.read_certificate.new.word in
@@ -20,7 +20,7 @@ returns-in-Word-clause-audits c =
     let view = view_of c.args.matrix.now file in
     let wide : cast_signed w64 (cast_unsigned w64 c.in-Word.cost) ≡ c.in-Word.cost = search rules in
     let on_frame = subst (λ s. Certifies c.args.matrix.now s verdict bits view) (c.soft.ensures.is ∙ c.requires.soft) certifies in
-    audits_so t was.follower c.settle-step.new.self.follower c.args.found (Some c.args.block.now) was.soft bits c.args.line.now (decision_on t.mode t.number t.options was.follower.frame verdict bits (Some view) rounds) c.settle-step.result verdict _ c.compared.result
+    audits_so t was.follower c.settle-step.new.frames.follower c.args.found (Some c.args.block.now) was.soft bits c.args.line.now (decision_on t.mode t.number t.options was.follower.frame verdict bits (Some view) rounds) c.settle-step.result verdict _ c.compared.result
     (record {
       rounds = rounds_is t was.follower.frame verdict bits rounds (Some view) c.args.line.now c.read_rounds-rounds.ensures;
       known = known_is t was.follower.frame verdict bits rounds (Some view) (c.read_certificate.ensures.long ∙ c.requires.word);

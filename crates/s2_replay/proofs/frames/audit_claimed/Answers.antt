@@ -2,16 +2,16 @@ use Rattle.std.proofs.Common.{◌≡◌, ◌+◌, ◌^◌, ◌<◌, ◌↔◌, I
 use Rattle.s2_report.specs.declared.report.Report.{Report}
 use Rattle.s2_receive.specs.Receiving.{report_for}
 use Rattle.s2_replay.specs.Lines.{BeginsWith, claimed_words}
-use Rattle.s2_replay.specs.Replay.{claimed_decision}
+use Rattle.s2_message.specs.Decisions.{claimed_decision}
 use Rattle.s2_replay.proofs.ClaimLemmas.{frame_step}
-use Rattle.s2_replay.proofs.replayer.Replayer.audit_claimed.Goals as goal
+use Rattle.s2_replay.proofs.frames.audit_claimed.Goals as goal
 
 pub returns-in-Frame-clause-audits : goal.returns-in-Frame-clause-audits
 returns-in-Frame-clause-audits c =
-    let was = c.args.self.now.follower in
+    let was = c.args.frames.now.follower in
     let lost = c.is_claimed_line-lost.result in
     let d = claimed_decision c.args.verdict lost in
-    let step_is = frame_step was c.claim-step.new.self.follower c.args.found c.args.at d c.claim-step.result c.requires.frame c.claim-step.ensures.settles in
+    let step_is = frame_step was c.claim-step.new.frames.follower c.args.found c.args.at d c.claim-step.result c.requires.frame c.claim-step.ensures.settles in
     let report_is : c.in-Frame.report ≡ report_for d was.state.standing.totals c.args.at = search (rules, step_is) in
     let number_is : c.in-Frame.report.number ≡ was.state.standing.totals.frames + 1 = ap (λ (r : Report). r.number) report_is in
     let at_is : c.in-Frame.report.at ≡ c.args.at = ap (λ (r : Report). r.at) report_is in
@@ -30,6 +30,6 @@ returns-in-Frame-clause-audits c =
 
 pub returns-in-Cut : goal.returns-in-Cut
 returns-in-Cut c =
-    let was = c.args.self.now.follower in
-    let step_is = frame_step was c.claim-step.new.self.follower c.args.found c.args.at (claimed_decision c.args.verdict c.is_claimed_line-lost.result) c.claim-step.result c.requires.frame c.claim-step.ensures.settles in
+    let was = c.args.frames.now.follower in
+    let step_is = frame_step was c.claim-step.new.frames.follower c.args.found c.args.at (claimed_decision c.args.verdict c.is_claimed_line-lost.result) c.claim-step.result c.requires.frame c.claim-step.ensures.settles in
     absurd (search (rules, step_is))

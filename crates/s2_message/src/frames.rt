@@ -1,47 +1,48 @@
-//! The receiver's loop, with decisions that are given.
-ghost use Rattle.std.specs.Prelude.{◌≡◌, ◌*◌, ◌^◌, ◌<◌, ◌≤◌, [], IfOk, IfSome, None, Option, Some, length, nat_eq, true};
-ghost use Rattle.s2_mode.specs.Counts.{CanCount, CountsFault};
+//! The frames of a stream, with decisions that are given.
+ghost use Rattle.std.specs.Prelude.{◌≡◌, ◌*◌, ◌≤◌, [], IfOk, IfSome, None, Option, Some, length, nat_eq};
+ghost use Rattle.s2_mode.specs.Counts.{CanCount};
 ghost use Rattle.s2_check.specs.Views.{View};
 ghost use Rattle.s2_mode.specs.Mode.{n_of, symbols_in};
 ghost use Rattle.s2_receive.specs.Synchronization.{room_for};
 ghost use Rattle.s2_plframe.specs.Turns.{sought_of};
 ghost use Rattle.s2_receive.specs.Decider.{HasPlace};
+ghost use Rattle.s2_receive.specs.Finding.{EndsAfterCut, GoesOn, ReadsOrStops, found_of};
 ghost use Rattle.s2_receive.specs.Limits.{max_symbols};
 ghost use Rattle.s2_receive.specs.Receiving.{begun};
-ghost use Rattle.s2_message.specs.Decisions.{soft_frame};
-ghost use Rattle.s2_message.specs.Reading.{IsSameReader};
 ghost use Rattle.s2_receive.specs.Halves.{IsSameFollower, Says, Seeks, Settles, asked_of};
-ghost use Rattle.s2_replay.specs.Replay.{claimed_decision};
-ghost use Rattle.s2_replay.specs.Replayers.{HasSoft, IfFrame, IsFrame, IsSameReplayer, decision_for};
-ghost use Rattle.s2_replay.specs.Running.{EndsAfterCut, GoesOn, IsNearer, ReadsOrStops, found_in, found_of};
+ghost use Rattle.s2_message.specs.Decisions.{claimed_decision, soft_frame};
+ghost use Rattle.s2_message.specs.Reading.{IsSameReader};
+ghost use Rattle.s2_message.specs.Frames.{HasSoft, IfFrame, IsFrame, IsSameFrames, decision_for};
 
+use crate::options::FrameOptions;
+use crate::reader::FrameReader;
 use s2_bbframe::{Header, NO_SYNCD};
 use s2_bits::Bits;
 use s2_check::Verdict;
-use s2_message::{FrameOptions, FrameReader};
-use s2_mode::{CountedRead, HEADER_SYMBOLS, Mode, ReadFault, read_full};
+use s2_mode::{CountedRead, Mode, ReadFault};
 use s2_plframe::HeaderTolerance;
-use s2_receive::{Decided, Follower, MAX_SYMBOLS, Next};
+use s2_receive::{Decided, Follower, MAX_SYMBOLS, Next, room_for};
 use s2_report::{Outcome, Step, Totals};
 use s2_scramble::ScramblingNumber;
 use std::alloc::{AllocError, Global};
 use std::marker::Model;
 
-/// A receiver of a recording that decides nothing by itself. A step has two halves: [`Replayer::seek`] finds the next thing, and
-/// the soft values of a frame; [`Replayer::settle`] handles it by decided bits that are given.
+/// The frames of a stream: a receiver that decides nothing by itself. A step has two halves. [`Frames::find`] reads up to the
+/// next thing, and finds the soft values of a frame; [`Frames::seek`] does the same with bytes that the caller passes.
+/// [`Frames::settle`] handles it by decided bits that are given.
 ///
 /// In contracts, it is the scrambling number of its frames, how they are read, its follower, and the soft values of the frame that
 /// was found last.
-pub struct Replayer {
+pub struct Frames {
     follower: Follower,
     reader: FrameReader,
     soft: Vec<i16>,
     bytes: Vec<u8>,
 }
 
-impl Drop for Replayer {
+impl Drop for Frames {
     fn drop(self) {
-        let Replayer {
+        let Frames {
             follower: _,
             reader: _,
             soft: _,
@@ -50,27 +51,14 @@ impl Drop for Replayer {
     }
 }
 
-impl Model for Replayer {
-    ghost use Rattle.s2_replay.specs.Replayers.{Replayer as ReplayerValue, IsReplayer};
+impl Model for Frames {
+    ghost use Rattle.s2_message.specs.Frames.{Frames as FramesValue, IsFrames};
 
-    ghost Value = { ReplayerValue };
+    ghost Value = { FramesValue };
 
     ghost view = { λ r. record { number = r.reader.number; options = r.reader.options; follower = r.follower; soft = r.soft.items } };
 
-    ghost invariant = { λ r. IsReplayer r.follower r.reader r.soft.items r.bytes.items };
-}
-
-/// The number of symbols that the search for frames of a mode holds.
-fn room_for(mode: Mode, resync: bool) -> usize
-    ensures is { result ≡ room_for resync (symbols_in mode) }
-    ensures few { result < 2 ^ 32 }
-{
-    let symbols = mode.symbols();
-    if resync {
-        symbols + HEADER_SYMBOLS
-    } else {
-        symbols
-    }
+    ghost invariant = { λ r. IsFrames r.follower r.reader r.soft.items r.bytes.items };
 }
 
 /// Finds the soft values of the next thing, if it is a frame.
@@ -112,38 +100,7 @@ fn seek(
     }
 }
 
-/// Reads the requested bytes into a buffer of their size, and takes them.
-fn read_on<R: CountedRead>(
-    follower: &mut Follower,
-    reader: &mut FrameReader,
-    soft: &mut [i16],
-    symbols: &mut R,
-    room: &mut [u8],
-) -> Result<Option<Next>, ReadFault>
-    requires symbols { CanCount (R.count symbols.old) }
-    requires none { follower.old.found ≡ None }
-    requires room { length room.old ≡ asked_of follower.old }
-    requires reader { follower.old.sought.mode ≡ reader.old.mode }
-    requires soft { length soft.old ≡ n_of reader.old.mode }
-    ensures goes_on { IfOk result (λ found. GoesOn follower.old follower.new (R.remaining symbols.old) (R.remaining symbols.new)) }
-    ensures found { follower.new.found ≡ found_in result }
-    ensures soft { IfFrame (found_in result) (HasSoft reader.new follower.new.frame soft.new) }
-    ensures stuck { IfOk result (λ found. length room.old ≡ 0 → Seeks follower.old follower.new [] true found) }
-    ensures nearer { IfOk result (λ found. 0 < length room.old → IsNearer follower.old follower.new found) }
-    ensures closing { IfOk result (EndsAfterCut follower.old.state.phase) }
-    ensures phase { follower.new.state.phase ≡ follower.old.state.phase }
-    ensures same { IsSameFollower follower.old follower.new }
-    ensures kept { follower.new.state.standing ≡ follower.old.state.standing }
-    ensures reader { IsSameReader reader.old reader.new }
-    ensures long { length soft.new ≡ length soft.old }
-    ensures room { length room.new ≡ length room.old }
-    ensures cause { CountsFault (R.count symbols.old) (R.count symbols.new) result }
-{
-    let count = read_full(symbols, room)?;
-    Ok(seek(follower, reader, soft, &room[..count]))
-}
-
-/// Reads up to the next thing, into a buffer that has room for the requested bytes.
+/// Reads up to the next thing, into a buffer that has room for the requested bytes. The soft values of a frame are found.
 fn find_next<R: CountedRead>(
     follower: &mut Follower,
     reader: &mut FrameReader,
@@ -167,16 +124,9 @@ fn find_next<R: CountedRead>(
     ensures long { length soft.new ≡ length soft.old }
     ensures bytes { length bytes.new ≡ length bytes.old }
 {
-    'reading: loop {
-        let room = follower.room();
-        let found = read_on(follower, reader, soft, symbols, &mut bytes[..room])?;
-        if let Some(found) = found {
-            return Ok(found);
-        }
-        if room == 0 {
-            return Err(ReadFault);
-        }
-    }
+    let found = follower.find(symbols, bytes)?;
+    find_soft(follower, reader, soft, found);
+    Ok(found)
 }
 
 /// The decision on a frame with unknown bits.
@@ -207,8 +157,8 @@ fn claimed(verdict: Verdict, lost: bool) -> Decided
     }
 }
 
-impl Replayer {
-    /// A receiver of the frames of a mode and a scrambling number, with all the memory that it needs. Right after a frame,
+impl Frames {
+    /// The frames of a mode and a scrambling number, with all the memory that they need. Right after a frame,
     /// `max_header_errors` is the number of wrong bits that a header may have. With `resync` the search continues in a frame that is
     /// lost. `AllocError` only if memory does not suffice.
     pub fn new(
@@ -218,7 +168,7 @@ impl Replayer {
         options: FrameOptions,
         max_header_errors: HeaderTolerance,
         resync: bool,
-    ) -> Result<Replayer, AllocError>
+    ) -> Result<Frames, AllocError>
         ensures number { IfOk result (λ r. r.number ≡ number) }
         ensures options { IfOk result (λ r. r.options ≡ options) }
         ensures parts { IfOk result (λ r. (r.follower.sought ≡ sought_of mode options.turns) × (r.follower.max_header_errors ≡ max_header_errors) × (r.follower.resync ≡ resync) × (r.follower.limit ≡ max_symbols)) }
@@ -229,7 +179,7 @@ impl Replayer {
         let follower = Follower::new(alloc, mode, turns, max_header_errors, resync, MAX_SYMBOLS)?;
         let bytes = vec![in alloc; 0u8; 4 * room_for(mode, resync)]?;
         let reader = FrameReader::new(alloc, mode, number, options)?;
-        Ok(Replayer {
+        Ok(Frames {
             follower,
             reader,
             soft: vec![in alloc; 0i16; mode.n()]?,
@@ -248,7 +198,7 @@ impl Replayer {
         ensures reads { ReadsOrStops self.new.follower (R.count symbols.old) (R.count symbols.new) (found_of result) }
         ensures closing { IfOk result (λ found. EndsAfterCut self.old.follower.state.phase (Some found)) }
         ensures kept { self.new.follower.state.standing ≡ self.old.follower.state.standing }
-        ensures same { IsSameReplayer self.old self.new }
+        ensures same { IsSameFrames self.old self.new }
     {
         find_next(
             &mut self.follower,
@@ -257,6 +207,27 @@ impl Replayer {
             &mut self.bytes,
             symbols,
         )
+    }
+
+    /// The number of bytes that [`Frames::seek`] requests.
+    pub fn room(&self) -> usize
+        requires none { self.now.follower.found ≡ None }
+        ensures is { result ≡ asked_of self.now.follower }
+        ensures few { result ≤ 4 * room_for self.now.follower.resync (symbols_in self.now.follower.sought.mode) }
+    {
+        self.follower.room()
+    }
+
+    /// Takes bytes, no more than are requested, up to the next thing. The soft values of a frame are found. `None` means that more
+    /// symbols are needed.
+    pub fn seek(&mut self, bytes: &[u8]) -> Option<Next>
+        requires none { self.old.follower.found ≡ None }
+        requires room { length bytes.now ≤ asked_of self.old.follower }
+        ensures seeks { Seeks self.old.follower self.new.follower bytes.now (nat_eq (length bytes.now) (asked_of self.old.follower)) result }
+        ensures soft { IfFrame result (self.new.soft ≡ soft_frame self.old.follower.sought.mode self.old.number self.old.options self.new.follower.frame) }
+        ensures same { IsSameFrames self.old self.new }
+    {
+        seek(&mut self.follower, &mut self.reader, &mut self.soft, bytes)
     }
 
     /// The soft values of the frame that was found last.
@@ -274,7 +245,7 @@ impl Replayer {
         requires frame { IsFrame found }
         requires word { length word.now ≡ n_of self.old.follower.sought.mode }
         ensures settles { (certificate : Option View) → Settles self.old.follower self.new.follower found (decision_for self.old verdict word.now certificate rounds) result }
-        ensures same { IsSameReplayer self.old self.new }
+        ensures same { IsSameFrames self.old self.new }
     {
         let decided = self
             .reader
@@ -287,7 +258,7 @@ impl Replayer {
     pub fn claim(&mut self, found: Next, verdict: Verdict, lost: bool) -> Step
         requires found { self.old.follower.found ≡ Some found }
         ensures settles { Settles self.old.follower self.new.follower found (claimed_decision verdict lost) result }
-        ensures same { IsSameReplayer self.old self.new }
+        ensures same { IsSameFrames self.old self.new }
     {
         self.follower.settle(found, claimed(verdict, lost), &[])
     }
